@@ -1,0 +1,205 @@
+-- Laws of `sum`, `count`, `greatest`, `some`, `any` and `list`.
+use Prim.Native.Nat.{ℕ, zero, suc, _+_, _*_, _≤_, _<_, max}
+use mathlib.Core.Bool.{Bool, true, false}
+use mathlib.Core.Logic.{_⊎_, inl, inr, ⊎-elim}
+use mathlib.Core.Path.{_≡_, refl, sym, ap, ap₂, _∙_}
+use mathlib.Core.List.{List, [], _∷_}
+use native.Mathlib.Nat.{add-zero, eq-or-lt-of-le, le-of-suc-le-suc, not-suc-le-zero}
+use native.Mathlib.Numerals.{add-one}
+use native.Mathlib.Omega.{arith}
+use lib.ListN.{getD, length}
+use Rattle.auction.specs.Counting.{_=?_, _or_, only, sum, greatest, count, some, any, list}
+use Rattle.auction.proofs.Tests.{decide, only-le, le-only, only-yes, only-no, is-eq, not-eq, or-left, or-right, or-no, neither}
+
+-- what holds below n + 1 holds below n, and at n
+pub up : {n k : ℕ} → k < n → k < suc n
+up h = omega arith
+
+pub here : {n : ℕ} → n < suc n
+here = omega arith
+
+-- ---- sums
+
+pub sum-mono : (n : ℕ) (f g : ℕ → ℕ) → ((k : ℕ) → k < n → f k ≤ g k) → sum n f ≤ sum n g
+unfolding sum
+sum-mono zero f g h = omega arith
+sum-mono (suc n) f g h = omega (arith, sum-mono n f g (λ k l. h k (up l)), h n here)
+
+pub sum-cong : (n : ℕ) (f g : ℕ → ℕ) → ((k : ℕ) → k < n → f k ≡ g k) → sum n f ≡ sum n g
+unfolding sum
+sum-cong zero f g h = refl
+sum-cong (suc n) f g h = omega (arith, sum-cong n f g (λ k l. h k (up l)), h n here)
+
+pub sum-add : (n : ℕ) (f g : ℕ → ℕ) → sum n (λ k. f k + g k) ≡ sum n f + sum n g
+unfolding sum
+sum-add zero f g = refl
+sum-add (suc n) f g = omega (arith, sum-add n f g)
+
+pub sum-zero : (n : ℕ) (f : ℕ → ℕ) → ((k : ℕ) → k < n → f k ≡ 0) → sum n f ≡ 0
+unfolding sum
+sum-zero zero f h = refl
+sum-zero (suc n) f h = omega (arith, sum-zero n f (λ k l. h k (up l)), h n here)
+
+pub sum-strict : (n : ℕ) (f g : ℕ → ℕ) → ((k : ℕ) → k < n → f k ≤ g k) → (i : ℕ) → i < n → f i < g i → sum n f < sum n g
+unfolding sum
+sum-strict zero f g h i l s = absurd (not-suc-le-zero l)
+sum-strict (suc n) f g h i l s = ⊎-elim
+    (λ (e : i ≡ n). omega (arith, sum-mono n f g (λ k l. h k (up l)), rw e at s))
+    (λ (m : i < n). omega (arith, sum-strict n f g (λ k l. h k (up l)) i m s, h n here))
+    (eq-or-lt-of-le (le-of-suc-le-suc l))
+
+pub sum-scale : (n c : ℕ) (f : ℕ → ℕ) → sum n (λ k. c * f k) ≡ c * sum n f
+unfolding sum
+sum-scale zero c f = omega arith
+sum-scale (suc n) c f = omega (arith, sum-scale n c f)
+
+-- a sum of sums, the other way round
+pub sum-swap : (n m : ℕ) (f : ℕ → ℕ → ℕ) → sum n (λ i. sum m (f i)) ≡ sum m (λ j. sum n (λ i. f i j))
+unfolding sum
+sum-swap zero m f = sym (sum-zero m (λ j. 0) (λ k l. refl))
+sum-swap (suc n) m f = ap (λ x. x + sum m (f n)) (sum-swap n m f) ∙ sym (sum-add m (λ j. sum n (λ i. f i j)) (f n))
+
+-- ---- counts
+
+pub count-mono : (n : ℕ) (f g : ℕ → Bool) → ((k : ℕ) → k < n → f k ≡ true → g k ≡ true) → count n f ≤ count n g
+unfolding count
+count-mono n f g h = sum-mono n (λ k. only (f k) 1) (λ k. only (g k) 1) (λ k l. only-le (f k) 1 _ (λ e. le-only (g k) 1 (h k l e)))
+
+pub count-strict : (n : ℕ) (f g : ℕ → Bool) → ((k : ℕ) → k < n → f k ≡ true → g k ≡ true)
+    → (i : ℕ) → i < n → f i ≡ false → g i ≡ true → count n f < count n g
+unfolding count only
+count-strict n f g h i l p q =
+    sum-strict n (λ k. only (f k) 1) (λ k. only (g k) 1) (λ k l. only-le (f k) 1 _ (λ e. le-only (g k) 1 (h k l e))) i l (rw (p, q) (omega arith))
+
+-- f is within g or h
+pub count-or : (n : ℕ) (f g h : ℕ → Bool) → ((k : ℕ) → k < n → f k ≡ true → (g k ≡ true) ⊎ (h k ≡ true)) → count n f ≤ count n g + count n h
+unfolding count
+count-or n f g h c =
+    let s : sum n (λ k. only (f k) 1) ≤ sum n (λ k. only (g k) 1 + only (h k) 1) =
+    sum-mono n _ _ (λ k l. only-le (f k) 1 _ (λ e. ⊎-elim (λ p. omega (arith, le-only (g k) 1 p)) (λ p. omega (arith, le-only (h k) 1 p)) (c k l e))) in
+    omega (arith, sum-add n (λ k. only (g k) 1) (λ k. only (h k) 1))
+
+pub count-cong : (n : ℕ) (f g : ℕ → Bool) → ((k : ℕ) → k < n → f k ≡ g k) → count n f ≡ count n g
+unfolding count
+count-cong n f g h = sum-cong n _ _ (λ k l. ap (λ b. only b 1) (h k l))
+
+-- none
+pub count-none : (n : ℕ) (f : ℕ → Bool) → ((k : ℕ) → k < n → f k ≡ true → ⊥) → count n f ≡ 0
+unfolding count
+count-none n f h = sum-zero n (λ k. only (f k) 1) (λ k l. omega (arith, only-le (f k) 1 0 (λ e. absurd (h k l e))))
+
+-- at most one
+pub count-one : (n : ℕ) (f : ℕ → Bool) → ((k l : ℕ) → k < n → l < n → f k ≡ true → f l ≡ true → k ≡ l) → count n f ≤ 1
+unfolding count sum only
+count-one zero f h = omega arith
+count-one (suc n) f h = ⊎-elim
+    (λ (e : f n ≡ true). rw e (omega (arith, count-none n f (λ k l p. omega (arith, h k n (up l) here p e)))))
+    (λ (e : f n ≡ false). rw e (omega (arith, count-one n f (λ k l p q. h k l (up p) (up q)))))
+    (decide (f n))
+
+-- ---- the greatest
+
+pub le-greatest : (n : ℕ) (f : ℕ → ℕ) (k : ℕ) → k < n → f k ≤ greatest n f
+unfolding greatest
+le-greatest zero f k l = absurd (not-suc-le-zero l)
+le-greatest (suc n) f k l = ⊎-elim
+    (λ (e : k ≡ n). rw e (omega arith))
+    (λ (m : k < n). omega (arith, le-greatest n f k m))
+    (eq-or-lt-of-le (le-of-suc-le-suc l))
+
+pub greatest-le : (n : ℕ) (f : ℕ → ℕ) (y : ℕ) → ((k : ℕ) → k < n → f k ≤ y) → greatest n f ≤ y
+unfolding greatest
+greatest-le zero f y h = omega arith
+greatest-le (suc n) f y h = omega (arith, greatest-le n f y (λ k l. h k (up l)), h n here)
+
+pub greatest-cong : (n : ℕ) (f g : ℕ → ℕ) → ((k : ℕ) → k < n → f k ≡ g k) → greatest n f ≡ greatest n g
+unfolding greatest
+greatest-cong zero f g h = refl
+greatest-cong (suc n) f g h = ap₂ max (greatest-cong n f g (λ k l. h k (up l))) (h n here)
+
+-- a value that stands at one place only: none before the place is passed, and once after
+pub sum-miss : (m r x : ℕ) → ((j : ℕ) → j < m → r ≡ suc j → ⊥) → sum m (λ j. only (r =? suc j) x) ≡ 0
+sum-miss m r x h = sum-zero m _ (λ j lj. only-no _ _ (not-eq r (suc j) (h j lj)))
+
+pub sum-once : (m k x : ℕ) → k < m → sum m (λ j. only (suc k =? suc j) x) ≡ x
+unfolding sum
+sum-once zero k x l = absurd (not-suc-le-zero l)
+sum-once (suc m) k x l = ⊎-elim
+    (λ (e : k ≡ m). omega (arith, sum-miss m (suc k) x (λ j lj q. omega arith), only-yes _ x (is-eq (suc k) (suc m) (omega arith))))
+    (λ (q : k < m). omega (arith, sum-once m k x q, only-no _ x (not-eq (suc k) (suc m) (λ e. omega arith))))
+    (eq-or-lt-of-le (le-of-suc-le-suc l))
+
+-- the first k below n that passes, or none does
+pub search-below : (n : ℕ) (f : ℕ → Bool) → ((k : ℕ) × (k < n) × (f k ≡ true)) ⊎ ((k : ℕ) → k < n → f k ≡ false)
+search-below zero f = inr (λ k l. absurd (not-suc-le-zero l))
+search-below (suc n) f = ⊎-elim
+    (λ e. inl (e .0, up (e .1), e .2))
+    (λ h. ⊎-elim
+    (λ (e : f n ≡ true). inl (n, here, e))
+    (λ (e : f n ≡ false). inr (λ k l. ⊎-elim (λ (q : k ≡ n). rw q e) (λ q. h k q) (eq-or-lt-of-le (le-of-suc-le-suc l))))
+    (decide (f n)))
+    (search-below n f)
+
+-- a step of a loop that counts, in the code's i + 1
+pub count-step : (i : ℕ) (f : ℕ → Bool) → count (i + 1) f ≡ count i f + only (f i) 1
+unfolding count sum
+count-step i f = rw add-one refl
+
+pub count-yes : (i : ℕ) (f : ℕ → Bool) → f i ≡ true → count (i + 1) f ≡ count i f + 1
+count-yes i f e = count-step i f ∙ ap (λ x. count i f + x) (only-yes _ 1 e)
+
+pub count-not : (i : ℕ) (f : ℕ → Bool) → f i ≡ false → count (i + 1) f ≡ count i f
+count-not i f e = count-step i f ∙ ap (λ x. count i f + x) (only-no _ 1 e) ∙ add-zero (count i f)
+
+pub count-start : (f : ℕ → Bool) → count 0 f ≡ 0
+unfolding count sum
+count-start f = refl
+
+-- ---- some, any
+
+pub some-yes : (n : ℕ) (f : ℕ → Bool) (k : ℕ) → k < n → f k ≡ true → some n f ≡ true
+unfolding some
+some-yes zero f k l p = absurd (not-suc-le-zero l)
+some-yes (suc n) f k l p = ⊎-elim
+    (λ (e : k ≡ n). or-right _ _ (rw e at p))
+    (λ (m : k < n). or-left _ _ (some-yes n f k m p))
+    (eq-or-lt-of-le (le-of-suc-le-suc l))
+
+pub some-no : (n : ℕ) (f : ℕ → Bool) → some n f ≡ false → (k : ℕ) → k < n → f k ≡ false
+unfolding some
+some-no zero f e k l = absurd (not-suc-le-zero l)
+some-no (suc n) f e k l = ⊎-elim
+    (λ (q : k ≡ n). rw q (or-no _ _ e .1))
+    (λ (m : k < n). some-no n f (or-no _ _ e .0) k m)
+    (eq-or-lt-of-le (le-of-suc-le-suc l))
+
+pub none-some : (n : ℕ) (f : ℕ → Bool) → ((k : ℕ) → k < n → f k ≡ false) → some n f ≡ false
+unfolding some
+none-some zero f h = refl
+none-some (suc n) f h = neither (none-some n f (λ k l. h k (up l))) (h n here)
+
+pub any-no : (xs : List ℕ) (f : ℕ → Bool) → any xs f ≡ false → (k : ℕ) → k < length xs → f (getD xs k 0) ≡ false
+unfolding any
+any-no xs f e = some-no (length xs) _ e
+
+pub none-any : (xs : List ℕ) (f : ℕ → Bool) → ((k : ℕ) → k < length xs → f (getD xs k 0) ≡ false) → any xs f ≡ false
+unfolding any
+none-any xs f h = none-some (length xs) _ h
+
+-- ---- list
+
+pub length-list : (n : ℕ) (f : ℕ → ℕ) → length (list n f) ≡ n
+unfolding list
+length-list zero f = refl
+length-list (suc n) f = ap suc (length-list n (λ k. f (suc k)))
+
+pub getD-list : (n : ℕ) (f : ℕ → ℕ) (k : ℕ) → k < n → getD (list n f) k 0 ≡ f k
+unfolding list
+getD-list zero f k l = absurd (not-suc-le-zero l)
+getD-list (suc n) f zero l = refl
+getD-list (suc n) f (suc k) l = getD-list n (λ k. f (suc k)) k (le-of-suc-le-suc l)
+
+pub list-cong : (n : ℕ) (f g : ℕ → ℕ) → ((k : ℕ) → k < n → f k ≡ g k) → list n f ≡ list n g
+unfolding list
+list-cong zero f g h = refl
+list-cong (suc n) f g h = ap₂ _∷_ (h 0 (omega arith)) (list-cong n (λ k. f (suc k)) (λ k. g (suc k)) (λ k l. h (suc k) (omega arith)))
