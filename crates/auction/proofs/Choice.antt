@@ -48,6 +48,33 @@ best-best (suc m) h g j l p = ⊎-elim
     (λ (q : j < m). let i = best-best m h g j q p in let s = step (h m) g m (i .0) in rw (i .1) (s .0, s .1, omega arith))
     (eq-or-lt-of-le (le-of-suc-le-suc l))
 
+-- of those as good, the lowest is chosen
+pub best-lowest : (m : ℕ) (h : ℕ → Bool) (g : ℕ → ℕ) (j k : ℕ) → best m h g ≡ suc j → k < j → h k ≡ true → g k < g j
+unfolding best better
+best-lowest zero h g j k e l p = absurd (let z : _≡_ {A = ℕ} 0 (suc j) = e in omega arith)
+best-lowest (suc m) h g j k e l p = go (h m) refl (best m h g) refl e (λ q. best-lowest m h g j k q l p)
+  where
+    go : (b : Bool) → h m ≡ b → (r : ℕ) → best m h g ≡ r → better b g m r ≡ suc j → (r ≡ suc j → g k < g j) → g k < g j
+    go false q r s e ih = ih e
+    go true q zero s e ih =
+        let c = best-best m h g k (let lk : k < m = omega arith in lk) p in
+        absurd (let z : _≡_ {A = ℕ} 0 (suc (c .0)) = sym s ∙ c .1 in omega arith)
+    go true q (suc r) s e ih = ⊎-elim
+        (λ (t : (g r <? g m) ≡ true).
+        let j-is : m ≡ j = omega (arith, (rw t at e)) in
+        let c = best-best m h g k (let lk : k < m = omega arith in lk) p in
+        let r-is : c .0 ≡ r = let z : suc (c .0) ≡ suc r = sym (c .1) ∙ s in omega arith in
+        rw (← j-is) (omega (arith, rw r-is at (c .2), lt-yes (g r) (g m) t)))
+        (λ (t : (g r <? g m) ≡ false). ih (rw t at e))
+        (decide (g r <? g m))
+
+-- nothing is chosen where nothing is on offer
+pub best-none : (m : ℕ) (h : ℕ → Bool) (g : ℕ → ℕ) → best m h g ≡ 0 → (j : ℕ) → j < m → h j ≡ false
+best-none m h g e j l = ⊎-elim
+    (λ (p : h j ≡ true). absurd (let c = best-best m h g j l p in let z : _≡_ {A = ℕ} 0 (suc (c .0)) = sym e ∙ c .1 in omega arith))
+    (λ p. p)
+    (decide (h j))
+
 -- it depends on what holds below m, and on the values of those
 pub best-cong : (m : ℕ) (h h′ : ℕ → Bool) (g g′ : ℕ → ℕ) → ((k : ℕ) → k < m → h k ≡ h′ k) → ((k : ℕ) → k < m → h′ k ≡ true → g k ≡ g′ k) → best m h g ≡ best m h′ g′
 unfolding best better

@@ -8,8 +8,8 @@ use native.Mathlib.Nat.{add-zero, eq-or-lt-of-le, le-of-suc-le-suc, not-suc-le-z
 use native.Mathlib.Numerals.{add-one}
 use native.Mathlib.Omega.{arith}
 use lib.ListN.{getD, length}
-use Rattle.auction.specs.Counting.{_=?_, _or_, only, sum, greatest, count, some, any, list}
-use Rattle.auction.proofs.Tests.{decide, only-le, le-only, only-yes, only-no, is-eq, not-eq, or-left, or-right, or-no, neither}
+use Rattle.auction.specs.Counting.{_<?_, _or_, only, sum, greatest, count, some, any, list}
+use Rattle.auction.proofs.Tests.{decide, clash, only-le, le-only, only-yes, only-no, is-lt, not-lt, lt-or-le, or-left, or-right, or-no, neither}
 
 -- what holds below n + 1 holds below n, and at n
 pub up : {n k : ℕ} → k < n → k < suc n
@@ -47,6 +47,21 @@ sum-strict (suc n) f g h i l s = ⊎-elim
     (λ (e : i ≡ n). omega (arith, sum-mono n f g (λ k l. h k (up l)), rw e at s))
     (λ (m : i < n). omega (arith, sum-strict n f g (λ k l. h k (up l)) i m s, h n here))
     (eq-or-lt-of-le (le-of-suc-le-suc l))
+
+-- one term, where the others are 0
+pub sum-single : (n : ℕ) (f : ℕ → ℕ) (k : ℕ) → k < n → ((j : ℕ) → j < n → (j ≡ k → ⊥) → f j ≡ 0) → sum n f ≡ f k
+unfolding sum
+sum-single zero f k l h = absurd (not-suc-le-zero l)
+sum-single (suc n) f k l h = ⊎-elim
+    (λ (e : k ≡ n). rw e (omega (arith, sum-zero n f (λ j lj. h j (up lj) (λ q. omega arith)))))
+    (λ (m : k < n). omega (arith, sum-single n f k m (λ j lj. h j (up lj)), h n here (λ q. omega arith)))
+    (eq-or-lt-of-le (le-of-suc-le-suc l))
+
+-- from the front
+pub sum-front : (n : ℕ) (f : ℕ → ℕ) → sum (suc n) f ≡ f 0 + sum n (λ k. f (suc k))
+unfolding sum
+sum-front zero f = omega arith
+sum-front (suc n) f = omega (arith, sum-front n f)
 
 pub sum-scale : (n c : ℕ) (f : ℕ → ℕ) → sum n (λ k. c * f k) ≡ c * sum n f
 unfolding sum
@@ -97,6 +112,25 @@ count-one (suc n) f h = ⊎-elim
     (λ (e : f n ≡ false). rw e (omega (arith, count-one n f (λ k l p q. h k l (up p) (up q)))))
     (decide (f n))
 
+initial-all : (n p : ℕ) → n ≤ p → count n (λ k. k <? p) ≡ n
+unfolding count sum
+initial-all zero p h = refl
+initial-all (suc n) p h = omega (arith, initial-all n p (let q : n ≤ p = omega arith in q), only-yes _ 1 (is-lt n p h))
+
+-- at least one
+pub count-some : (n : ℕ) (f : ℕ → Bool) (k : ℕ) → k < n → f k ≡ true → 0 < count n f
+count-some n f k l p = let none : count n (λ _. false) ≡ 0 = count-none n _ (λ _ _ q. clash q refl) in
+    omega (arith, count-strict n (λ _. false) f (λ _ _ q. absurd (clash q refl)) k l refl p)
+
+-- those below p
+pub count-initial : (n p : ℕ) → p ≤ n → count n (λ k. k <? p) ≡ p
+unfolding count sum
+count-initial zero p h = omega arith
+count-initial (suc n) p h = ⊎-elim
+    (λ (l : n < p). omega (arith, initial-all n p (let q : n ≤ p = omega arith in q), only-yes _ 1 (is-lt n p l)))
+    (λ (l : p ≤ n). omega (arith, count-initial n p l, only-no _ 1 (not-lt n p l)))
+    (lt-or-le n p)
+
 -- ---- the greatest
 
 pub le-greatest : (n : ℕ) (f : ℕ → ℕ) (k : ℕ) → k < n → f k ≤ greatest n f
@@ -116,18 +150,6 @@ pub greatest-cong : (n : ℕ) (f g : ℕ → ℕ) → ((k : ℕ) → k < n → f
 unfolding greatest
 greatest-cong zero f g h = refl
 greatest-cong (suc n) f g h = ap₂ max (greatest-cong n f g (λ k l. h k (up l))) (h n here)
-
--- a value that stands at one place only: none before the place is passed, and once after
-pub sum-miss : (m r x : ℕ) → ((j : ℕ) → j < m → r ≡ suc j → ⊥) → sum m (λ j. only (r =? suc j) x) ≡ 0
-sum-miss m r x h = sum-zero m _ (λ j lj. only-no _ _ (not-eq r (suc j) (h j lj)))
-
-pub sum-once : (m k x : ℕ) → k < m → sum m (λ j. only (suc k =? suc j) x) ≡ x
-unfolding sum
-sum-once zero k x l = absurd (not-suc-le-zero l)
-sum-once (suc m) k x l = ⊎-elim
-    (λ (e : k ≡ m). omega (arith, sum-miss m (suc k) x (λ j lj q. omega arith), only-yes _ x (is-eq (suc k) (suc m) (omega arith))))
-    (λ (q : k < m). omega (arith, sum-once m k x q, only-no _ x (not-eq (suc k) (suc m) (λ e. omega arith))))
-    (eq-or-lt-of-le (le-of-suc-le-suc l))
 
 -- the first k below n that passes, or none does
 pub search-below : (n : ℕ) (f : ℕ → Bool) → ((k : ℕ) × (k < n) × (f k ≡ true)) ⊎ ((k : ℕ) → k < n → f k ≡ false)

@@ -1,3 +1,12 @@
 pub mod Tests
 pub mod Counting
 pub mod Choice
+pub mod Queues
+pub mod Pivots
+pub mod Cut
+pub mod Acceptance
+pub mod Decisions
+pub mod Truthful
+pub mod Menus
+pub mod Stations
+pub mod Truth

@@ -6,3 +6,5 @@ pub mod Mechanism
 pub mod Outcome
 pub mod Faults
 pub mod Gains
+pub mod Readings
+pub mod Truth

@@ -14,6 +14,10 @@ pub record Tables : Type 0 where
   pub bids : List ℕ
   pub width : ℕ
 
+-- guest i's bid at station j: bids stand row after row
+unfoldable pub bidAt : Tables → ℕ → ℕ → ℕ
+bidAt t i j = getD (t .bids) (i * length (t .asks) + j) 0
+
 -- a market as numbers. `position` is that of the cut, from 1; of equal totals the lower `key` stands first
 pub record Market : Type 0 where
   pub guests : ℕ
@@ -34,7 +38,7 @@ marketBy rule key t = record {
   ask = λ j. getD (t .asks) j 0;
   capacity = λ j. getD (t .bays) j 0;
   amount = λ i. getD (t .amounts) i 0;
-  bid = λ i j. getD (t .bids) (i * length (t .asks) + j) 0;
+  bid = bidAt t;
   key = key;
 }
 
