@@ -2,13 +2,13 @@
 use Prim.Native.Nat.{ℕ, _*_, _≤_, _<_}
 use mathlib.Core.Bool.{Bool, true, false, not}
 use mathlib.Core.List.{List, [], _∷_}
-use mathlib.Core.Path.{_≡_, refl, sym, ap}
+use mathlib.Core.Path.{_≡_, refl, ap}
 use native.Mathlib.Omega.{arith}
 use borrow.Author.Tests.{not-false}
 use lib.ListN.{getD, length}
 use Rattle.auction.specs.declared.Refusal.{Refusal}
-use Rattle.auction.specs.Counting.{_<?_, _=?_, _or_, any}
-use Rattle.auction.specs.Refusals.{Row, _gives_, Verdict, accepted, refused, firstFault}
+use Rattle.auction.specs.Counting.{_=?_, _or_, any}
+use Rattle.auction.specs.Refusals.{Row, _gives_, accepted, firstFault}
 use Rattle.auction.specs.Limits.{maxPrice}
 use Rattle.auction.specs.Market.{Tables}
 use Rattle.auction.specs.Faults.{outside, counts, lengths, values, marketFaults, verdict, Accepted}

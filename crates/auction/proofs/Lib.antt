@@ -10,3 +10,5 @@ pub mod Truthful
 pub mod Menus
 pub mod Stations
 pub mod Truth
+pub mod Cases
+pub mod Instances

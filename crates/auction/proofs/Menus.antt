@@ -1,13 +1,13 @@
 -- A guest's menu: prices and bars that its own bids cannot move. From any menu the true totals choose best.
 use Prim.Native.Nat.{ℕ, zero, suc, _+_, _*_, _-_, _≤_, _<_, max}
-use mathlib.Core.Bool.{Bool, true, false}
+use mathlib.Core.Bool.{true}
 use mathlib.Core.Logic.{⊎-elim}
-use mathlib.Core.Path.{_≡_, refl, sym, ap, ap₂, _∙_}
+use mathlib.Core.Path.{_≡_, refl, sym, ap, _∙_}
 use native.Mathlib.Nat.{mul-le-mul-right}
 use native.Mathlib.Omega.{arith}
 use Rattle.auction.specs.Counting.{_≤?_, _and_}
 use Rattle.auction.specs.Market.{Market, cut, opens, Screened, screen, queue, provisional}
-use Rattle.auction.specs.Mechanism.{at, charge, charged, obtained, surplus, best, truthful}
+use Rattle.auction.specs.Mechanism.{at, charge, charged, surplus, best, truthful}
 use Rattle.auction.specs.Truth.{Menu, choice}
 use Rattle.auction.proofs.Tests.{both, first, second, same-test, le-yes, is-le, lt-or-le}
 use Rattle.auction.proofs.Choice.{best-holds, best-best, best-cong}

@@ -9,7 +9,7 @@ use native.Mathlib.Omega.{arith}
 use borrow.Author.Tests.{not-true}
 use Rattle.auction.specs.Counting.{_<?_, _≤?_, _=?_, _and_, only, greatest, count}
 use Rattle.auction.specs.Market.{Queue, before, rank, provisional, critical}
-use Rattle.auction.proofs.Tests.{decide, clash, both, first, second, and-no, same-test, not-not, only-le, le-only, only-no, lt-yes, lt-no, le-yes, eq-yes, eq-no, is-lt, not-lt, is-le, is-eq, not-eq, lt-or-le, eq-or-ne}
+use Rattle.auction.proofs.Tests.{decide, clash, both, first, second, and-no, same-test, not-not, only-le, le-only, only-no, lt-no, le-yes, eq-yes, eq-no, is-lt, not-lt, is-le, is-eq, not-eq, lt-or-le, eq-or-ne}
 use Rattle.auction.proofs.Counting.{count-mono, count-strict, count-or, count-one, count-cong, le-greatest, greatest-le, greatest-cong}
 use Rattle.auction.proofs.Queues.{Distinct, ahead, is-before, before-trans, before-self, before-total, provisional-candidate, provisional-rank, is-provisional, rank-lt, few}
 
@@ -73,12 +73,6 @@ unfolding rank without before
 rank-without-lt Q i k li ci e = count-strict (Q .guests) _ _
     (λ l ll p. both (second _ _ (first _ _ p)) (second _ _ p))
     i li (and-no _ _ (and-no _ _ (ap not (is-eq i i refl)))) (both ci e)
-
--- whoever does not stand after i as a candidate has the same rank without i
-pub rank-without-eq : (Q : Queue) (i k : ℕ) → (Q .candidate i and before Q i k) ≡ false → rank Q k ≤ rank (without Q i) k
-unfolding rank without before
-rank-without-eq Q i k e = count-mono (Q .guests) _ _ (λ l ll p.
-    both (both (not-not (not-eq l i (λ q. clash p (rw q e)))) (first _ _ p)) (second _ _ p))
 
 pub left-out-other : (Q : Queue) (i k : ℕ) → left-out Q i k ≡ true → k ≡ i → ⊥
 unfolding left-out

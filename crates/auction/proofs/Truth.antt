@@ -1,23 +1,21 @@
 -- Demand 3, first two sentences, proved: two tables that are alike are one market with other bids or another ask.
-use Prim.Native.Nat.{ℕ, zero, suc, _+_, _*_, _-_, _≤_, _<_}
+use Prim.Native.Nat.{ℕ, suc, _+_, _*_, _-_, _≤_, _<_}
 use mathlib.Core.Bool.{Bool, true, false, cond}
 use mathlib.Core.Logic.{⊎-elim}
-use mathlib.Core.Path.{_≡_, refl, sym, ap, ap₂, subst, _∙_}
+use mathlib.Core.Path.{_≡_, refl, sym, ap, subst, _∙_}
 use native.Mathlib.Omega.{arith}
 use lib.Dec.{T, ltb, leb, leb→le, le→leb}
-use lib.IntN.{ℤ, pos, negsuc, subℕ}
-use lib.ListN.{getD, length}
-use lib.Signed.{leZ, _≤ℤ_}
+use lib.IntN.{pos, negsuc, subℕ}
+use lib.ListN.{getD, length, List·getD-eq-default}
+use lib.Signed.{leZ}
 use borrow.Author.Tests.{ltb-true, ltb-false}
-use Rattle.auction.specs.Counting.{_=?_, only, sum}
-use Rattle.auction.specs.Market.{Tables, bidAt, Market, marketBy, median, byNumber, market, cut, opens, Screened, screen}
-use Rattle.auction.specs.Mechanism.{at, charged, obtained, served, sold, paid, truthful}
+use Rattle.auction.specs.Market.{Tables, bidAt, Market, marketBy, median, byNumber, market, opens, screen}
+use Rattle.auction.specs.Mechanism.{at, charged, obtained, sold, paid, truthful}
 use Rattle.auction.specs.Outcome.{seen, decided}
 use Rattle.auction.specs.Faults.{Accepted}
 use Rattle.auction.specs.Gains.{guestGain, stationGain}
-use Rattle.auction.specs.Readings.{WithinLimits}
-use Rattle.auction.specs.Truth.{AlikeButForGuest, AlikeButForStation, GuestTruthfulBy, StationTruthfulBy, GuestTruthful, StationTruthful, SignedReads, Menu, choice, MenuOf, GuestMenu, ClearsWithin, ClearingLimits}
-use Rattle.auction.proofs.Tests.{decide}
+use Rattle.auction.specs.Truth.{AlikeButForGuest, AlikeButForStation, GuestTruthful, StationTruthful, SignedReads, Menu, choice, MenuOf, GuestMenu, ClearingLimits}
+use Rattle.auction.proofs.Tests.{lt-or-le}
 use Rattle.auction.proofs.Acceptance.{accepted-reads}
 use Rattle.auction.proofs.Decisions.{charged-within-bid, payment-covers-ask, balance}
 use Rattle.auction.proofs.Truthful.{numbers-differ, truthful-candidates, truthful-fair}
@@ -111,18 +109,18 @@ pub guest-truthful : GuestTruthful
 unfolding guestGain
 guest-truthful rule t t′ i a a′ li A = signed-reads _ _ _ _ .1 (gains-no-more rule t i a li t′ A)
 
-pub guest-menu : GuestMenu
+pub menu-of : (t : Tables) (i : ℕ) → Accepted t → i < length (t .amounts) → MenuOf t i (menu (market t) i)
 unfolding seen decided market menu
-guest-menu t i a li = (
-  menu (market t) i,
-  record {
-    opens-offer = λ j lj. refl;
-    priced-below = menu-below (market t) i;
-    priced-near = menu-near (market t) i;
-    assigns = λ t′ a′ A. by-menu median t i a li t′ A .0;
-    charges = λ t′ a′ A. by-menu median t i a li t′ A .1;
-  },
-)
+menu-of t i a li = record {
+  opens-offer = λ j lj. refl;
+  priced-below = menu-below (market t) i;
+  priced-near = menu-near (market t) i;
+  assigns = λ t′ a′ A. by-menu median t i a li t′ A .0;
+  charges = λ t′ a′ A. by-menu median t i a li t′ A .1;
+}
+
+pub guest-menu : GuestMenu
+guest-menu t i a li = (menu (market t) i, menu-of t i a li)
 
 -- ---- stations
 
@@ -140,6 +138,13 @@ module _ (t t′ : Tables) (j : ℕ) (A : AlikeButForStation t t′ j) where
     key = key;
   }
 
+  -- beyond the tables' ends too
+  asks-same : (k : ℕ) → (k ≡ j → ⊥) → getD (t′ .asks) k 0 ≡ getD (t .asks) k 0
+  asks-same k n = ⊎-elim
+      (λ (l : k < length (t .asks)). A .same-asks k l n)
+      (λ (l : length (t .asks) ≤ k). List·getD-eq-default (t′ .asks) 0 (let l′ : length (t′ .asks) ≤ k = omega (arith, A .same-count) in l′) ∙ sym (List·getD-eq-default (t .asks) 0 l))
+      (lt-or-le k (length (t .asks)))
+
 module _ (rule : ℕ → ℕ) (t : Tables) (j : ℕ) where
   -- in N station j gains no more, with its ask in t as its cost
   abbrev NoMore : Market → Type 0
@@ -153,7 +158,7 @@ module _ (rule : ℕ → ℕ) (t : Tables) (j : ℕ) where
 pub station-truthful : StationTruthful
 unfolding stationGain
 station-truthful rule t t′ j a a′ lj A = signed-reads _ _ _ _ .1
-    (subst (NoMore rule t j) (reask-market t t′ j A rule byNumber) (reask-no-more rule t j (λ k. getD (t′ .asks) k 0) (A .same-asks)))
+    (subst (NoMore rule t j) (reask-market t t′ j A rule byNumber) (reask-no-more rule t j (λ k. getD (t′ .asks) k 0) (asks-same t t′ j A)))
 
 -- ---- the limits of every clearing
 
@@ -168,4 +173,5 @@ clearing-limits t a =
       sold-as-assigned = λ j. refl;
       within-bays = F .fits;
       balanced = balance (seen t) (decided t) (F .candidates);
+      covered = let e = balance (seen t) (decided t) (F .candidates) in omega arith;
     }

@@ -1,18 +1,19 @@
 -- Document 01's mechanism: whom it assigns, and that its decisions are fair.
-use Prim.Native.Nat.{ℕ, suc, _+_, _*_, _-_, _≤_, _<_, max}
-use mathlib.Core.Bool.{true, false}
+use Prim.Native.Nat.{ℕ, suc, _*_, _-_, _≤_, _<_}
+use mathlib.Core.Bool.{true}
 use mathlib.Core.Logic.{⊎-elim}
-use mathlib.Core.Path.{_≡_, refl, sym, ap, _∙_}
+use mathlib.Core.Path.{_≡_, sym, _∙_}
 use native.Mathlib.Nat.{le-trans, mul-le-mul-right}
 use native.Mathlib.Omega.{arith}
 use lib.ListN.{getD, length}
-use Rattle.auction.specs.Counting.{_=?_, _and_}
+use Rattle.auction.specs.Counting.{_and_}
 use Rattle.auction.specs.Market.{Tables, bidAt, Market, marketBy, byNumber, market, cut, opens, Screened, screen, queue, provisional, critical}
-use Rattle.auction.specs.Mechanism.{charge, served, surplus, best, truthful}
+use Rattle.auction.specs.Mechanism.{at, charge, charged, obtained, served, paid, surplus, best, truthful}
 use Rattle.auction.specs.Outcome.{seen, decided}
 use Rattle.auction.specs.Faults.{Accepted}
-use Rattle.auction.specs.Readings.{WithinLimits, RanksRead, CriticalReads, AssignedToBest, AssignmentReads, NoLoss}
-use Rattle.auction.proofs.Tests.{eq-yes, lt-yes}
+use Rattle.auction.specs.Gains.{guestGain, stationGain}
+use Rattle.auction.specs.Readings.{NoBidRead, GainlessRead, RanksRead, CriticalReads, AssignedToBest, AssignmentReads, NoLoss}
+use Rattle.auction.proofs.Tests.{decide, eq-yes, lt-yes}
 use Rattle.auction.proofs.Counting.{count-mono}
 use Rattle.auction.proofs.Choice.{best-holds, best-best, best-lowest, best-none}
 use Rattle.auction.proofs.Queues.{provisional-candidate, winners-fit, ranks-in-order, critical-is-first-out}
@@ -67,6 +68,22 @@ unfolding charge screen
 charge-held M K i j li h = omega (arith, mul-le-mul-right (M .amount i) (candidate-bid M i j (candidate-held (screen M) i j h)), critical-under (screen M) K i j li h)
 
 -- ---- how the definitions read
+
+pub no-bid-read : NoBidRead
+unfolding seen market marketBy opens
+no-bid-read t i j e = ⊎-elim
+    (λ (c : (seen t) .candidate i j ≡ true).
+    let open-ask : getD (t .asks) j 0 < cut (market t) = lt-yes _ _ (candidate-open (market t) i j c) in
+    absurd (omega (arith, candidate-bid (market t) i j c)))
+    (λ c. c)
+    (decide ((seen t) .candidate i j))
+
+pub gainless-read : GainlessRead
+unfolding guestGain stationGain obtained charged at paid
+gainless-read S D = record {
+  guest-gainless = λ w i e. rw e;
+  station-gainless = λ cost j e. let z : S .cut * 0 ≡ 0 = omega arith in let c : cost * 0 ≡ 0 = omega arith in rw (e, z, c);
+}
 
 pub ranks-read : RanksRead
 unfolding seen screen market marketBy queue

@@ -8,3 +8,5 @@ pub mod Faults
 pub mod Gains
 pub mod Readings
 pub mod Truth
+pub mod Cases
+pub mod Instances

@@ -4,13 +4,15 @@ use mathlib.Core.Bool.{true, false}
 use mathlib.Core.List.{List}
 use mathlib.Core.Logic.{_↔_}
 use mathlib.Core.Path.{_≡_}
+use lib.IntN.{pos}
 use lib.ListN.{getD, length}
 use Rattle.auction.specs.Counting.{_=?_, count}
 use Rattle.auction.specs.Limits.{maxGuests, maxStations, maxPrice, maxAmount, maxCapacity}
-use Rattle.auction.specs.Market.{Tables, marketBy, median, cut, Screened, Queue, queue, before, rank, provisional, critical}
-use Rattle.auction.specs.Mechanism.{Decision, charge, surplus}
+use Rattle.auction.specs.Market.{Tables, bidAt, marketBy, median, cut, Screened, Queue, queue, before, rank, provisional, critical}
+use Rattle.auction.specs.Mechanism.{Decision, charge, sold, surplus}
 use Rattle.auction.specs.Outcome.{seen, decided}
 use Rattle.auction.specs.Faults.{Accepted}
+use Rattle.auction.specs.Gains.{guestGain, stationGain}
 
 -- 'A market'
 pub record WithinLimits (t : Tables) : Type 0 where
@@ -58,6 +60,10 @@ pub record Median (m : ℕ) : Type 0 where
 abbrev pub MedianReads : Type 0
 MedianReads = (m : ℕ) → 1 ≤ m → Median m
 
+-- 3. a bid of 0 is no bid: an open station's ask lies below the cut, so the cut is above 0
+abbrev pub NoBidRead : Type 0
+NoBidRead = (t : Tables) (i j : ℕ) → bidAt t i j ≡ 0 → (seen t) .candidate i j ≡ false
+
 -- 4. the ranks of a queue's candidates are 0, 1, 2 .. without gaps or repeats, in the order of `before`
 pub record RanksInOrder (Q : Queue) : Type 0 where
   pub ordered : (k i : ℕ) → k < Q .guests → Q .candidate k ≡ true → before Q k i ≡ true → rank Q k < rank Q i
@@ -91,3 +97,11 @@ AssignmentReads = (t : Tables) (i : ℕ) → AssignedToBest (seen t) (decided t)
 abbrev pub NoLoss : Type 0
 NoLoss = (t : Tables) (i j : ℕ) → i < length (t .amounts) → provisional (queue (seen t) j) i ≡ true
     → surplus (seen t) i j + charge (seen t) (decided t) i j ≡ (seen t) .total i j
+
+-- 'Gain': 0 for whoever isn't assigned or sells nothing
+pub record Gainless (S : Screened) (D : Decision) : Type 0 where
+  pub guest-gainless : (w : ℕ → ℕ) (i : ℕ) → D .assigned i ≡ 0 → guestGain S D w i ≡ pos 0
+  pub station-gainless : (cost j : ℕ) → sold S D j ≡ 0 → stationGain S D cost j ≡ pos 0
+
+abbrev pub GainlessRead : Type 0
+GainlessRead = (S : Screened) (D : Decision) → Gainless S D

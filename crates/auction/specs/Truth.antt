@@ -1,5 +1,5 @@
 -- Demand 3, first two sentences. Each statement is a type; its proof is a term of proofs/.
-use Prim.Native.Nat.{ℕ, zero, suc, _+_, _*_, _-_, _≤_, _<_}
+use Prim.Native.Nat.{ℕ, suc, _+_, _*_, _-_, _≤_, _<_}
 use mathlib.Core.Bool.{Bool}
 use mathlib.Core.Logic.{_↔_}
 use mathlib.Core.Path.{_≡_}
@@ -7,7 +7,7 @@ use lib.IntN.{ℤ, subℕ}
 use lib.ListN.{getD, length}
 use lib.Signed.{_≤ℤ_}
 use Rattle.auction.specs.Counting.{_≤?_, _=?_, _and_, only, sum}
-use Rattle.auction.specs.Market.{Tables, bidAt, marketBy, median, byNumber, market, opens, Screened, screen}
+use Rattle.auction.specs.Market.{Tables, bidAt, marketBy, byNumber, market, opens, Screened, screen}
 use Rattle.auction.specs.Mechanism.{at, charged, served, sold, paid, margin, best, truthful}
 use Rattle.auction.specs.Outcome.{seen, decided}
 use Rattle.auction.specs.Faults.{Accepted}
@@ -23,7 +23,7 @@ pub record AlikeButForGuest (t t′ : Tables) (i : ℕ) : Type 0 where
 -- t and t′ are alike but for station j's ask
 pub record AlikeButForStation (t t′ : Tables) (j : ℕ) : Type 0 where
   pub same-count : length (t′ .asks) ≡ length (t .asks)
-  pub same-asks : (k : ℕ) → (k ≡ j → ⊥) → getD (t′ .asks) k 0 ≡ getD (t .asks) k 0
+  pub same-asks : (k : ℕ) → k < length (t .asks) → (k ≡ j → ⊥) → getD (t′ .asks) k 0 ≡ getD (t .asks) k 0
   pub same-bays : t′ .bays ≡ t .bays
   pub same-amounts : t′ .amounts ≡ t .amounts
   pub same-bids : t′ .bids ≡ t .bids
@@ -85,6 +85,7 @@ pub record ClearsWithin (t : Tables) : Type 0 where
   pub sold-as-assigned : (j : ℕ) → sold (seen t) (decided t) j ≡ sum (length (t .amounts)) (λ i. only ((decided t) .assigned i =? suc j) (getD (t .amounts) i 0))
   pub within-bays : (j : ℕ) → served (seen t) (decided t) j ≤ getD (t .bays) j 0
   pub balanced : sum (length (t .amounts)) (charged (seen t) (decided t)) ≡ sum (length (t .asks)) (paid (seen t) (decided t)) + margin (seen t) (decided t)
+  pub covered : sum (length (t .asks)) (paid (seen t) (decided t)) ≤ sum (length (t .amounts)) (charged (seen t) (decided t))
 
 abbrev pub ClearingLimits : Type 0
 ClearingLimits = (t : Tables) → Accepted t → ClearsWithin t

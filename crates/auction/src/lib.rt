@@ -1,6 +1,6 @@
 // The numbers, limits and refusals of the bay market. The market and its mechanism are in specs/.
 ghost use mathlib.Core.Path.{_≡_};
-ghost use Prim.Native.Nat.{_+_, _*_, _-_, _<_, _^_, max};
+ghost use Prim.Native.Nat.{_*_, _-_};
 ghost use Rattle.auction.specs.Limits.{limits as limitsOf};
 ghost use Rattle.auction.specs.Refusals.{number as numberOf};
 
