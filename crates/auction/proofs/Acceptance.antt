@@ -1,7 +1,7 @@
 -- A market is accepted exactly within the limits of document 01's 'A market'.
 use Prim.Native.Nat.{ℕ, _*_, _≤_, _<_}
 use mathlib.Core.Bool.{Bool, true, false, not}
-use mathlib.Core.List.{List, [], _∷_}
+use mathlib.Core.List.{List, [], _∷_, _++_}
 use mathlib.Core.Path.{_≡_, refl, ap}
 use native.Mathlib.Omega.{arith}
 use borrow.Author.Tests.{not-false}
@@ -25,6 +25,13 @@ clear-of false r rows e = (refl, e)
 pub clear : {b : Bool} (r : Refusal) (rows : List Row) → b ≡ false → firstFault rows ≡ accepted → firstFault ((b gives r) ∷ rows) ≡ accepted
 unfolding firstFault
 clear r rows p e = rw p e
+
+-- no row of two tables in turn holds
+pub clear-of-both : (xs ys : List Row) → firstFault (xs ++ ys) ≡ accepted → (firstFault xs ≡ accepted) × (firstFault ys ≡ accepted)
+unfolding firstFault
+clear-of-both [] ys e = (refl, e)
+clear-of-both ((true gives r) ∷ xs) ys e = absurd (let z : _≡_ {A = ℕ} 0 1 = cc in omega arith)
+clear-of-both ((false gives r) ∷ xs) ys e = clear-of-both xs ys e
 
 pub no-rows : firstFault [] ≡ accepted
 unfolding firstFault

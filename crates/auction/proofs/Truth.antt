@@ -9,8 +9,9 @@ use lib.IntN.{pos, negsuc, subℕ}
 use lib.ListN.{getD, length, List·getD-eq-default}
 use lib.Signed.{leZ}
 use borrow.Author.Tests.{ltb-true, ltb-false}
+use Rattle.auction.specs.Counting.{sum}
 use Rattle.auction.specs.Market.{Tables, bidAt, Market, marketBy, median, byNumber, market, opens, screen}
-use Rattle.auction.specs.Mechanism.{at, charged, obtained, sold, paid, truthful}
+use Rattle.auction.specs.Mechanism.{at, charged, obtained, sold, paid, margin, truthful}
 use Rattle.auction.specs.Outcome.{seen, decided}
 use Rattle.auction.specs.Faults.{Accepted}
 use Rattle.auction.specs.Gains.{guestGain, stationGain}
@@ -162,6 +163,11 @@ station-truthful rule t t′ j a a′ lj A = signed-reads _ _ _ _ .1
 
 -- ---- the limits of every clearing
 
+-- accepted or not, the charges are the payments and the margin
+pub balanced : (t : Tables) → sum (length (t .amounts)) (charged (seen t) (decided t)) ≡ sum (length (t .asks)) (paid (seen t) (decided t)) + margin (seen t) (decided t)
+unfolding seen decided market marketBy screen
+balanced t = balance (seen t) (decided t) (truthful-candidates (seen t))
+
 pub clearing-limits : ClearingLimits
 unfolding seen decided market marketBy screen charged sold at
 clearing-limits t a =
@@ -172,6 +178,6 @@ clearing-limits t a =
       payment-covers-ask = payment-covers-ask (market t) (decided t) (F .candidates);
       sold-as-assigned = λ j. refl;
       within-bays = F .fits;
-      balanced = balance (seen t) (decided t) (F .candidates);
-      covered = let e = balance (seen t) (decided t) (F .candidates) in omega arith;
+      balanced = balanced t;
+      covered = omega (arith, balanced t);
     }

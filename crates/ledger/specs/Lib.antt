@@ -1,0 +1,2 @@
+pub mod PlainBook
+pub mod Ledger
