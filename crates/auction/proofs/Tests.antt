@@ -5,7 +5,7 @@ use mathlib.Core.Logic.{_⊎_, inl, inr, ⊎-elim}
 use mathlib.Core.Path.{_≡_, refl, sym, ap, ap₂}
 use native.Mathlib.Nat.{le-refl}
 use native.Mathlib.Omega.{arith}
-use borrow.Author.Tests.{ltb-true, ltb-false, lt-ltb, le-ltb, leb-true, leb-false, le-leb, eqb-true, eqb-false, eq-eqb, ne-eqb}
+use borrow.Author.Tests.{ltb-true, ltb-false, lt-ltb, le-ltb, leb-true, leb-false, le-leb, lt-leb, eqb-true, eqb-false, eq-eqb, ne-eqb}
 use Rattle.auction.specs.Counting.{_<?_, _≤?_, _=?_, _and_, _or_, only}
 
 -- a test and what it comes to
@@ -60,6 +60,10 @@ pub or-no : (a b : Bool) → (a or b) ≡ false → (a ≡ false) × (b ≡ fals
 unfolding _or_
 or-no true b e = absurd (clash refl e)
 or-no false b e = (refl, e)
+
+pub or-skip : {a : Bool} (b : Bool) → a ≡ false → (a or b) ≡ b
+unfolding _or_
+or-skip b e = rw e
 
 pub neither : {a b : Bool} → a ≡ false → b ≡ false → (a or b) ≡ false
 unfolding _or_
@@ -131,6 +135,10 @@ not-lt = le-ltb
 pub is-le : (a b : ℕ) → a ≤ b → a ≤? b ≡ true
 unfolding _≤?_
 is-le = le-leb
+
+pub not-le : (a b : ℕ) → b < a → a ≤? b ≡ false
+unfolding _≤?_
+not-le = lt-leb
 
 pub is-eq : (a b : ℕ) → a ≡ b → a =? b ≡ true
 unfolding _=?_

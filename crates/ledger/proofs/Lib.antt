@@ -1,2 +1,4 @@
 pub mod Accounts
 pub mod Ledger
+pub mod Loops
+pub mod Settling

@@ -1,2 +1,3 @@
 pub mod PlainBook
 pub mod Ledger
+pub mod Round

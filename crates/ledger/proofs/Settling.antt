@@ -1,0 +1,52 @@
+-- What settling a round leaves, by the round's reply and the room in the accounts.
+use Prim.Native.Nat.{ℕ, _+_, _≤_, _<_, _^_}
+use mathlib.Core.Bool.{Bool, true, false, _||_}
+use mathlib.Core.List.{List}
+use mathlib.Core.Path.{_≡_, refl, sym, _∙_}
+use native.Mathlib.Omega.{arith}
+use lib.ListN.{getD, length}
+use Rattle.auction.specs.Counting.{_<?_, _or_, some}
+use Rattle.auction.specs.Limits.{maxAccount}
+use Rattle.auction.specs.Refusals.{Verdict, accepted, refused}
+use Rattle.auction.specs.declared.Refusal.{Refusal}
+use Rattle.auction.specs.declared.Refusal.the-variants.{AccountOverLimit}
+use Rattle.auction.proofs.Tests.{lt-no, or-no}
+use Rattle.auction.proofs.Counting.{some-no}
+use Rattle.ledger.specs.declared.Reply.the-variants as reply
+use Rattle.ledger.specs.declared.Round.{Round}
+use Rattle.ledger.specs.Round.{verdictOf, refusing, exceeding, plus, Addable, limited, ruled, keptRound, chosen, Settled}
+use Rattle.ledger.proofs.Loops.{or-is}
+
+-- where no account exceeds, each sum is within the limit, so within 64 bits
+pub within : (xs adds : List ℕ) → exceeding xs adds ≡ false → (k : ℕ) → k < length xs → getD xs k 0 + getD adds k 0 ≤ maxAccount
+unfolding exceeding
+within xs adds e k l = lt-no _ _ (some-no (length xs) _ e k l)
+
+pub addable : (xs adds : List ℕ) → exceeding xs adds ≡ false → Addable xs adds
+addable xs adds e = record { fits = λ k l. omega (arith, within xs adds e k l) }
+
+-- of three tests that all fail, the second and the third
+pub all-fail : (a b c : Bool) → (a || b || c) ≡ false → (b ≡ false) × (c ≡ false)
+all-fail a b c e =
+    let h = or-no (a || b) c (sym (or-is (a || b) c) ∙ e) in
+    (or-no a b (sym (or-is a b) ∙ h .0) .1, h .1)
+
+module _ (r : Round) (full : Bool) (round : ℕ) (guests : List ℕ) (house last : ℕ) where
+  -- the code's test
+  pub test-is : (crowded rich : Bool) → crowded ≡ exceeding guests (r .charges) → rich ≡ (maxAccount <? house + r .margin)
+      → (full || crowded || rich) ≡ (full or exceeding guests (r .charges) or maxAccount <? house + r .margin)
+  test-is crowded rich p q = rw (← p, ← q, ← or-is full crowded) (or-is (full || crowded) rich)
+
+  pub settled-refused : (x : Refusal) (s : Round) → r .reply ≡ reply.Refused x → s ≡ refusing x → Settled (ruled r full guests house) r round guests house last s guests house last
+  unfolding ruled verdictOf limited keptRound chosen
+  settled-refused x s e q = rw e (record { round-is = q; guests-are = refl; house-is = refl; last-is = refl })
+
+  pub settled-over : (s : Round) → r .reply ≡ reply.Posted → (full or exceeding guests (r .charges) or maxAccount <? house + r .margin) ≡ true
+      → s ≡ refusing AccountOverLimit → Settled (ruled r full guests house) r round guests house last s guests house last
+  unfolding ruled verdictOf limited keptRound chosen
+  settled-over s e o q = rw (e, o) (record { round-is = q; guests-are = refl; house-is = refl; last-is = refl })
+
+  pub settled-posted : (guests′ : List ℕ) → r .reply ≡ reply.Posted → (full or exceeding guests (r .charges) or maxAccount <? house + r .margin) ≡ false
+      → guests′ ≡ plus guests (r .charges) → Settled (ruled r full guests house) r round guests house last r guests′ (house + r .margin) round
+  unfolding ruled verdictOf limited keptRound chosen
+  settled-posted guests′ e o q = rw (e, o) (record { round-is = refl; guests-are = q; house-is = refl; last-is = refl })
