@@ -8,7 +8,7 @@ use borrow.Author.Tests.{not-false}
 use lib.ListN.{getD, length}
 use Rattle.auction.specs.declared.Refusal.{Refusal}
 use Rattle.auction.specs.Counting.{_=?_, _or_, any}
-use Rattle.auction.specs.Refusals.{Row, _gives_, accepted, firstFault}
+use Rattle.auction.specs.Refusals.{Row, _gives_, accepted, refused, firstFault}
 use Rattle.auction.specs.Limits.{maxPrice}
 use Rattle.auction.specs.Market.{Tables}
 use Rattle.auction.specs.Faults.{outside, counts, lengths, values, marketFaults, verdict, Accepted}
@@ -32,6 +32,19 @@ unfolding firstFault
 clear-of-both [] ys e = (refl, e)
 clear-of-both ((true gives r) ∷ xs) ys e = absurd (let z : _≡_ {A = ℕ} 0 1 = cc in omega arith)
 clear-of-both ((false gives r) ∷ xs) ys e = clear-of-both xs ys e
+
+-- of two tables in turn, the first answers where it refuses, and the second where the first accepts
+pub first-refuses : (xs ys : List Row) (r : Refusal) → firstFault xs ≡ refused r → firstFault (xs ++ ys) ≡ refused r
+unfolding firstFault
+first-refuses [] ys r e = absurd (let z : _≡_ {A = ℕ} 0 1 = cc in omega arith)
+first-refuses ((true gives q) ∷ xs) ys r e = e
+first-refuses ((false gives q) ∷ xs) ys r e = first-refuses xs ys r e
+
+pub first-accepts : (xs ys : List Row) → firstFault xs ≡ accepted → firstFault (xs ++ ys) ≡ firstFault ys
+unfolding firstFault
+first-accepts [] ys e = refl
+first-accepts ((true gives q) ∷ xs) ys e = absurd (let z : _≡_ {A = ℕ} 0 1 = cc in omega arith)
+first-accepts ((false gives q) ∷ xs) ys e = first-accepts xs ys e
 
 pub no-rows : firstFault [] ≡ accepted
 unfolding firstFault

@@ -9,7 +9,7 @@ use native.Mathlib.Numerals.{add-one}
 use native.Mathlib.Omega.{arith}
 use lib.ListN.{getD, length}
 use Rattle.auction.specs.Counting.{_<?_, _or_, only, sum, greatest, count, some, any, list}
-use Rattle.auction.proofs.Tests.{decide, clash, only-le, le-only, only-yes, only-no, is-lt, not-lt, lt-or-le, or-left, or-right, or-no, neither}
+use Rattle.auction.proofs.Tests.{decide, clash, only-le, le-only, only-yes, only-no, is-lt, not-lt, lt-or-le, or-cases, or-left, or-right, or-no, neither}
 
 -- what holds below n + 1 holds below n, and at n
 pub up : {n k : ℕ} → k < n → k < suc n
@@ -199,6 +199,19 @@ pub none-some : (n : ℕ) (f : ℕ → Bool) → ((k : ℕ) → k < n → f k �
 unfolding some
 none-some zero f h = refl
 none-some (suc n) f h = neither (none-some n f (λ k l. h k (up l))) (h n here)
+
+pub some-cong : (n : ℕ) (f g : ℕ → Bool) → ((k : ℕ) → k < n → f k ≡ g k) → some n f ≡ some n g
+unfolding some
+some-cong zero f g h = refl
+some-cong (suc n) f g h = ap₂ _or_ (some-cong n f g (λ k l. h k (up l))) (h n here)
+
+pub some-mono : (n : ℕ) (f g : ℕ → Bool) → ((k : ℕ) → k < n → f k ≡ true → g k ≡ true) → some n f ≡ true → some n g ≡ true
+unfolding some
+some-mono zero f g h e = e
+some-mono (suc n) f g h e = ⊎-elim
+    (λ p. or-left _ _ (some-mono n f g (λ k l. h k (up l)) p))
+    (λ p. or-right _ _ (h n here p))
+    (or-cases _ _ e)
 
 pub any-no : (xs : List ℕ) (f : ℕ → Bool) → any xs f ≡ false → (k : ℕ) → k < length xs → f (getD xs k 0) ≡ false
 unfolding any

@@ -1,22 +1,22 @@
 -- Demand 3, third sentence, proved: by induction over the list, one law for each kind of number that the book keeps.
 use Prim.Native.Nat.{ℕ, _+_, _≤_, _<_}
-use mathlib.Core.Bool.{Bool, true, false}
+use mathlib.Core.Bool.{false}
 use mathlib.Core.List.{List, [], _∷_}
 use mathlib.Core.Path.{_≡_, refl, ap, ap₂, _∙_}
 use native.Mathlib.Omega.{arith}
 use lib.ListN.{getD, length, replicate, length-replicate, getD-replicate}
 use Rattle.auction.specs.Counting.{_<?_, _or_, sum, any}
-use Rattle.auction.specs.Market.{market, marketBy, screen}
+use Rattle.auction.specs.Market.{market}
 use Rattle.auction.specs.Mechanism.{charged, paid}
 use Rattle.auction.specs.Outcome.{seen, decided}
 use Rattle.auction.specs.Refusals.{Verdict, accepted, refused}
-use Rattle.auction.specs.Faults.{Book, outside, raised, entered, overLimit, bookSize, outOfTurn, marketFaults, postingFaults}
+use Rattle.auction.specs.Faults.{Book, raised, entered, overLimit, bookSize, outOfTurn, marketFaults, postingFaults}
 use Rattle.auction.proofs.Tests.{or-no, neither, not-lt}
 use Rattle.auction.proofs.Counting.{none-any}
 use Rattle.auction.proofs.Acceptance.{clear-of, clear-of-both, inside}
 use Rattle.auction.proofs.Truth.{balanced}
 use Rattle.ledger.specs.PlainBook.{Posting, empty, answer, settled, after, answers, final, kept, rounds, total, toGuest, toSold, toPaid, toHouse, together}
-use Rattle.ledger.specs.Ledger.{Posted, Calls, none, call, Kept, BookKept}
+use Rattle.ledger.specs.Ledger.{Calls, none, call, Kept, BookKept}
 use Rattle.ledger.proofs.Accounts.{length-raised, getD-raised, together-raised, together-zeros}
 
 -- a posted round fits the book, and no account passes the limit

@@ -1,5 +1,5 @@
 -- What settling a round leaves, by the round's reply and the room in the accounts.
-use Prim.Native.Nat.{ℕ, _+_, _≤_, _<_, _^_}
+use Prim.Native.Nat.{ℕ, _+_, _≤_, _<_}
 use mathlib.Core.Bool.{Bool, true, false, _||_}
 use mathlib.Core.List.{List}
 use mathlib.Core.Path.{_≡_, refl, sym, _∙_}
@@ -7,7 +7,7 @@ use native.Mathlib.Omega.{arith}
 use lib.ListN.{getD, length}
 use Rattle.auction.specs.Counting.{_<?_, _or_, some}
 use Rattle.auction.specs.Limits.{maxAccount}
-use Rattle.auction.specs.Refusals.{Verdict, accepted, refused}
+use Rattle.auction.specs.Refusals.{refused}
 use Rattle.auction.specs.declared.Refusal.{Refusal}
 use Rattle.auction.specs.declared.Refusal.the-variants.{AccountOverLimit}
 use Rattle.auction.proofs.Tests.{lt-no, or-no}

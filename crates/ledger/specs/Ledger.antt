@@ -8,6 +8,10 @@ use Rattle.auction.specs.Refusals.{Verdict}
 use Rattle.auction.specs.Faults.{Book, overLimit}
 use Rattle.ledger.specs.PlainBook.{Posting, empty, answer, after, answers, final, rounds, total, toGuest, toSold, toPaid, toHouse, together}
 
+-- a book as it is lent
+abbrev pub book : (guests sold paid : List ℕ) (house last : ℕ) → Book
+book guests sold paid house last = record { guests = guests; sold = sold; paid = paid; house = house; last = last }
+
 -- one call: the answer and the whole book at exit, refused or not
 pub record Posted (entry : Book) (p : Posting) (v : Verdict) (exit : Book) : Type 0 where
   pub answered : v ≡ answer entry p

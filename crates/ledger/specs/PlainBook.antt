@@ -14,6 +14,9 @@ pub record Posting : Type 0 where
   pub tables : Tables
   pub round : ℕ
 
+abbrev pub posting : Tables → (round : ℕ) → Posting
+posting t round = record { tables = t; round = round }
+
 -- a book of g guest and s station accounts, all 0
 unfoldable pub empty : (g s : ℕ) → Book
 empty g s = record { guests = replicate g 0; sold = replicate s 0; paid = replicate s 0; house = 0; last = 0 }

@@ -1,6 +1,6 @@
 -- What the functions of src/ promise each other: a round by value, and lists of accounts that it is added to.
-use Prim.Native.Nat.{ℕ, _+_, _<_, _≤_, _^_}
-use mathlib.Core.Bool.{Bool, true, false, not}
+use Prim.Native.Nat.{ℕ, _+_, _<_, _^_}
+use mathlib.Core.Bool.{Bool, true, false}
 use mathlib.Core.List.{List, [], _∷_, _++_}
 use mathlib.Core.Path.{_≡_}
 use lib.ListN.{getD, length, replicate}
@@ -16,11 +16,10 @@ use Rattle.ledger.specs.declared.Reply.the-variants as reply
 use Rattle.ledger.specs.declared.Round.{Round}
 use Rattle.ledger.specs.PlainBook.{Posting, toGuest, toSold, toPaid, toHouse}
 
--- the code's answer for a verdict, and back
-unfoldable pub replyTo : Verdict → Reply
-replyTo accepted = reply.Posted
-replyTo (refused r) = reply.Refused r
+abbrev pub tables : (asks bays amounts bids : List ℕ) (width : ℕ) → Tables
+tables asks bays amounts bids width = record { asks = asks; bays = bays; amounts = amounts; bids = bids; width = width }
 
+-- document 01's answer for each case of the enum
 unfoldable pub verdictOf : Reply → Verdict
 verdictOf reply.Posted = accepted
 verdictOf (reply.Refused r) = refused r
@@ -52,6 +51,9 @@ roundBy (refused r) p = refusing r
 unfoldable pub earlyFaults : Posting → (guests sold paid last : ℕ) → List Row
 earlyFaults p guests sold paid last = marketFaults (p .tables)
     ++ (bookSize (length (p .tables .amounts)) (length (p .tables .asks)) guests sold paid ∷ outOfTurn (p .round) last ∷ [])
+
+unfoldable pub planned : Posting → (guests sold paid last : ℕ) → Round
+planned p guests sold paid last = roundBy (firstFault (earlyFaults p guests sold paid last)) p
 
 -- some account would be above the limit with what is added
 unfoldable pub exceeding : (accounts adds : List ℕ) → Bool

@@ -5,7 +5,6 @@ use native.Mathlib.Omega.{arith}
 use borrow.Author.Tests.{lt-ltb, le-ltb}
 use Rattle.auction.specs.Limits.{maxAccount}
 use Rattle.auction.proofs.Tests.{is-lt, not-lt, lt-or-le}
-use borrow.Author.Needs.{needs}
 use Rattle.ledger.proofs.exceeds.Statement.{statement}
 use Rattle.ledger.proofs.exceeds.Tie as tie
 

@@ -1,6 +1,5 @@
-use Prim.Native.Nat.{_+_}
 use mathlib.Core.Bool.{not}
-use mathlib.Core.Path.{_≡_, sym, ap}
+use mathlib.Core.Path.{sym, ap}
 use Rattle.auction.specs.Counting.{_=?_}
 use Rattle.auction.specs.Refusals.{_gives_}
 use Rattle.auction.specs.Faults.{outOfTurn}

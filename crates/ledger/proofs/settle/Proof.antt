@@ -1,4 +1,4 @@
-use mathlib.Core.Path.{_≡_, sym, _∙_}
+use mathlib.Core.Path.{sym, _∙_}
 use native.Mathlib.Omega.{arith}
 use Rattle.auction.proofs.Tests.{lt-no}
 use Rattle.ledger.proofs.Settling.{addable, all-fail, test-is, settled-refused, settled-over, settled-posted}
