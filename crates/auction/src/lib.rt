@@ -1,6 +1,7 @@
 // The numbers, limits and refusals of the bay market. The market and its mechanism are in specs/.
 ghost use mathlib.Core.Path.{_≡_};
-ghost use Prim.Native.Nat.{_*_, _-_};
+ghost use Prim.Native.Nat.{_+_, _*_, _-_, _<_, _^_, max};
+ghost use lib.Dec.{ltb, eqb};
 ghost use Rattle.auction.specs.Limits.{limits as limitsOf};
 ghost use Rattle.auction.specs.Refusals.{number as numberOf};
 
@@ -55,6 +56,64 @@ impl UnitPrice {
         ensures { λ r. ⌜ r .0 ≡ self .0 * kwh ⌝ }
     {
         Mills((self.0 as u64) * (kwh as u64))
+    }
+
+    pub fn below(self, other: UnitPrice) -> bool
+        ensures { λ r. ⌜ r ≡ ltb (self .0) (other .0) ⌝ }
+    {
+        self.0 < other.0
+    }
+}
+
+impl Mills {
+    // From a table of 32-bit numbers, and back into one.
+    pub fn wide(x: u32) -> Mills
+        ensures { λ r. ⌜ r .0 ≡ x ⌝ }
+    {
+        Mills(x as u64)
+    }
+
+    pub fn narrow(self) -> u32
+        requires { ⌜ self .0 < 2 ^ 32 ⌝ }
+        ensures { λ r. ⌜ r ≡ self .0 ⌝ }
+    {
+        self.0 as u32
+    }
+
+    pub fn plus(self, other: Mills) -> Mills
+        requires { ⌜ self .0 + other .0 < 2 ^ 64 ⌝ }
+        ensures { λ r. ⌜ r .0 ≡ self .0 + other .0 ⌝ }
+    {
+        Mills(self.0 + other.0)
+    }
+
+    // Nothing where the other is larger.
+    pub fn less(self, other: Mills) -> Mills
+        ensures { λ r. ⌜ r .0 ≡ self .0 - other .0 ⌝ }
+    {
+        if self.0 < other.0 {
+            Mills(0)
+        } else {
+            Mills(self.0 - other.0)
+        }
+    }
+
+    pub fn larger(self, other: Mills) -> Mills
+        ensures { λ r. ⌜ r .0 ≡ max (self .0) (other .0) ⌝ }
+    {
+        if self.0 < other.0 { other } else { self }
+    }
+
+    pub fn below(self, other: Mills) -> bool
+        ensures { λ r. ⌜ r ≡ ltb (self .0) (other .0) ⌝ }
+    {
+        self.0 < other.0
+    }
+
+    pub fn same(self, other: Mills) -> bool
+        ensures { λ r. ⌜ r ≡ eqb (self .0) (other .0) ⌝ }
+    {
+        self.0 == other.0
     }
 }
 

@@ -1,0 +1,4 @@
+pub mod Winners
+pub mod Turns
+pub mod Answers
+pub mod Rows

@@ -1,0 +1,228 @@
+-- One station's turn: what its offers leave is what the mechanism's choice leaves.
+use Prim.Native.Nat.{ℕ, zero, suc, _+_, _*_, _-_, _≤_, _<_, max}
+use mathlib.Core.Bool.{Bool, true, false}
+use mathlib.Core.List.{List}
+use mathlib.Core.Logic.{⊎-elim}
+use mathlib.Core.Path.{_≡_, refl, sym, ap, ap₂, _∙_}
+use native.Mathlib.Nat.{le-antisymm, mul-le-mul}
+use native.Mathlib.Numerals.{add-one}
+use native.Mathlib.Omega.{arith}
+use borrow.Author.Tests.{ltb-true, ltb-false}
+use lib.Dec.{ltb}
+use lib.ListN.{getD, length, take, replicate, length-replicate, getD-replicate}
+use lib.Seq.{length-take-le, getD-take}
+use Rattle.auction.specs.Counting.{_<?_, _≤?_, _and_, only, list}
+use Rattle.auction.specs.Limits.{maxGuests, maxPrice, maxAmount}
+use Rattle.auction.specs.Market.{Tables, bidAt, Market, marketBy, median, byNumber, market, cut, opens, Screened, screen, Queue, queue, provisional, critical}
+use Rattle.auction.specs.Mechanism.{at, charge, better, best, surplus, truthful, charged}
+use Rattle.auction.specs.Outcome.{seen, decided, outcome, settle}
+use Rattle.auction.specs.Readings.{WithinLimits}
+use Rattle.auction.proofs.Tests.{decide, and-no, first, lt-yes, le-yes, le-no, is-lt, not-lt, only-yes, only-no, lt-or-le}
+use Rattle.auction.proofs.Counting.{length-list, getD-list, list-cong}
+use Rattle.auction.proofs.Queues.{provisional-candidate}
+use Rattle.kernels.specs.Scans.{above, LeastFew, TieBound}
+use Rattle.kernels.specs.Offers.{pick, totalFor, totalAt, leastAt, wonBy, gainFor, chargeAt, gainAt, taken, Offerable, Offered}
+use Rattle.kernels.proofs.Loops.{is-list, in-table}
+use Rattle.kernels.proofs.Selection.{above-most}
+use Rattle.kernels.proofs.Offers.{total-yes, total-no, product}
+use Rattle.clearing.specs.Stages.{regular, AtCut, stationBy, chargeBy, gainBy, After, Assigned}
+use Rattle.clearing.proofs.Winners.{Shows, critical-is, provisional-is}
+
+-- ---- lists
+
+pub long : (n : ℕ) (f : ℕ → ℕ) {l : List ℕ} → l ≡ list n f → length l ≡ n
+long n f e = ap length e ∙ length-list n f
+
+pub element : (n : ℕ) (f : ℕ → ℕ) {l : List ℕ} → l ≡ list n f → (k : ℕ) → k < n → getD l k 0 ≡ f k
+element n f e k lk = ap (λ l. getD l k 0) e ∙ getD-list n f k lk
+
+pub relist : (m n : ℕ) (f g : ℕ → ℕ) {l : List ℕ} → l ≡ list m f → m ≡ n → ((k : ℕ) → k < n → f k ≡ g k) → l ≡ list n g
+relist m n f g e q h = e ∙ ap (λ n. list n f) q ∙ list-cong n f g h
+
+-- ---- one guest's choice: gains are kept as one more, so that 0 is no station
+
+take-at : (f : ℕ → ℕ) (h : Bool) (g : ℕ → ℕ) (j r : ℕ) → pick (at (λ k. g k + 1) r <? only h (g j + 1)) (f j) (at f r) ≡ at f (better h g j r)
+unfolding at better only pick
+take-at f false g j r = rw (not-lt (at (λ k. g k + 1) r) 0 (omega arith)) refl
+take-at f true g j zero = rw (is-lt 0 (g j + 1) (omega arith)) refl
+take-at f true g j (suc k) = ⊎-elim
+    (λ (l : g k < g j). rw (is-lt (g k) (g j) l, is-lt (g k + 1) (g j + 1) (omega arith)) refl)
+    (λ (l : g j ≤ g k). rw (not-lt (g k) (g j) l, not-lt (g k + 1) (g j + 1) (omega arith)) refl)
+    (lt-or-le (g k) (g j))
+
+take-gain : (h : Bool) (g : ℕ → ℕ) (j r : ℕ) → pick (at (λ k. g k + 1) r <? only h (g j + 1)) (only h (g j + 1)) (at (λ k. g k + 1) r) ≡ at (λ k. g k + 1) (better h g j r)
+unfolding better only pick
+take-gain true g j r = take-at (λ k. g k + 1) true g j r
+take-gain false g j r = rw (not-lt (at (λ k. g k + 1) r) 0 (omega arith)) refl
+
+at-suc : (r : ℕ) → at suc r ≡ r
+unfolding at
+at-suc zero = refl
+at-suc (suc r) = refl
+
+station-step : (S : Screened) (j i : ℕ) → stationBy S (j + 1) i ≡ better (provisional (queue S j) i) (surplus S i) j (stationBy S j i)
+unfolding stationBy best
+station-step S j i = rw add-one refl
+
+-- ---- the lists after a station
+
+module _ (S : Screened) (n j : ℕ) (totals least : List ℕ) (t e s : ℕ) (stations₀ charges₀ gains₀ : List ℕ)
+    (as-long : length totals ≡ n) (es : s ≡ j + 1)
+    (gain-is : (k : ℕ) → k < n → gainAt totals least t e k ≡ only (provisional (queue S j) k) (surplus S k j + 1))
+    (charge-is : (k : ℕ) → k < n → chargeAt least t k ≡ charge S (truthful S) k j)
+    (h : After S n j stations₀ charges₀ gains₀) where
+  -- a value that is read at the station, before and after
+  step : (f : ℕ → ℕ) (new old k : ℕ) → k < n → new ≡ f j → old ≡ at f (stationBy S j k) → pick (getD gains₀ k 0 <? gainAt totals least t e k) new old ≡ at f (stationBy S (j + 1) k)
+  unfolding gainBy
+  step f new old k lk p q = rw (p, q, gain-is k lk, element _ _ (h .gains-are) k lk, station-step S j k) (take-at f (provisional (queue S j) k) (surplus S k) j (stationBy S j k))
+
+  gain-step : (k : ℕ) → k < n → taken gains₀ (gainAt totals least t e) (gainAt totals least t e) gains₀ k ≡ gainBy S (j + 1) k
+  unfolding taken gainBy
+  gain-step k lk = rw (gain-is k lk, element n (gainBy S j) (h .gains-are) k lk, station-step S j k) (take-gain (provisional (queue S j) k) (surplus S k) j (stationBy S j k))
+
+  after-offers : {stations charges gains : List ℕ} → Offered totals least t e s stations₀ charges₀ gains₀ stations charges gains → After S n (j + 1) stations charges gains
+  unfolding taken chargeBy gainBy
+  after-offers o = record {
+    stations-are = relist _ n _ _ (o .stations-are) as-long (λ k lk. step suc s _ k lk (es ∙ add-one j) (element n (stationBy S j) (h .stations-are) k lk ∙ sym (at-suc _)) ∙ at-suc _);
+    charges-are = relist _ n _ _ (o .charges-are) as-long (λ k lk. step (charge S (truthful S) k) _ _ k lk (charge-is k lk) (element n (chargeBy S j) (h .charges-are) k lk));
+    gains-are = relist _ n _ _ (o .gains-are) as-long gain-step;
+  }
+
+only-cong : (b : Bool) (x y : ℕ) → (b ≡ true → x ≡ y) → only b x ≡ only b y
+unfolding only
+only-cong true x y h = h refl
+only-cong false x y h = refl
+
+-- nobody has a place at a station that is not open, so that its turn changes nothing
+closed : (M : Market) (j i : ℕ) → cut M ≤ M .ask j → provisional (queue (screen M) j) i ≡ false
+unfolding provisional queue screen opens
+closed M j i h = and-no _ _ (and-no _ _ (not-lt _ _ h))
+
+stays : (M : Market) (j i : ℕ) → cut M ≤ M .ask j → stationBy (screen M) j i ≡ stationBy (screen M) (j + 1) i
+unfolding better
+stays M j i h = sym (station-step (screen M) j i ∙ ap (λ b. better b (surplus (screen M) i) j (stationBy (screen M) j i)) (closed M j i h))
+
+pub after-closed : (M : Market) (n j : ℕ) {stations charges gains : List ℕ} → cut M ≤ M .ask j → After (screen M) n j stations charges gains → After (screen M) n (j + 1) stations charges gains
+unfolding chargeBy gainBy
+after-closed M n j h a = record {
+  stations-are = a .stations-are ∙ list-cong n _ _ (λ k lk. stays M j k h);
+  charges-are = a .charges-are ∙ list-cong n _ _ (λ k lk. ap (at (charge (screen M) (truthful (screen M)) k)) (stays M j k h));
+  gains-are = a .gains-are ∙ list-cong n _ _ (λ k lk. ap (at (λ i. surplus (screen M) k i + 1)) (stays M j k h));
+}
+
+-- ---- the queue of an open station, and the totals that the code gathers
+
+module _ (t : Tables) (c : ℕ) (least : List ℕ) (A : AtCut t c least) (j : ℕ) (lj : j < length (t .asks)) (op : getD (t .asks) j 0 < c) where
+  abbrev Q : Queue
+  Q = queue (seen t) j
+
+  candidate-is : (k : ℕ) → Q .candidate k ≡ (c ≤? bidAt t k j)
+  unfolding queue seen screen market marketBy opens _and_
+  candidate-is k = rw (← A .is-cut, is-lt _ _ op) refl
+
+  module _ (totals : List ℕ) (gathered : totals ≡ list (length (t .amounts)) (totalAt (t .bids) (t .amounts) (length (t .asks)) j c)) where
+    shows : Shows Q totals
+    unfolding queue seen screen market marketBy bidAt byNumber
+    shows = record {
+      long = long _ _ gathered;
+      some = λ k lk q. element _ _ gathered k lk ∙ sym (total-yes _ _ c (le-yes _ _ (sym (candidate-is k) ∙ q)));
+      none = λ k lk q. element _ _ gathered k lk ∙ sym (total-no _ _ c (le-no _ _ (sym (candidate-is k) ∙ q)));
+      real = λ k lk q. let b : c ≤ bidAt t k j = le-yes _ _ (sym (candidate-is k) ∙ q) in
+          positive _ _ (omega arith) (A .within .amount-least k lk);
+      number = λ k. refl;
+    }
+      where
+        positive : (x y : ℕ) → 1 ≤ x → 1 ≤ y → 0 < x * y
+        positive x y a b = mul-le-mul a b
+
+    module _ (f b e : ℕ) (eb : b ≡ getD (t .bays) j 0) (few : LeastFew totals b f) (tied : TieBound totals f (above totals f) b e) where
+      capacity-is : Q .capacity ≡ b
+      unfolding queue seen screen market marketBy
+      capacity-is = sym eb
+
+      critical-here : f ≡ critical Q
+      critical-here = critical-is Q totals shows f (rw capacity-is few)
+
+      won-here : (k : ℕ) → k < length (t .amounts) → wonBy (getD totals k 0) f k e ≡ provisional Q k
+      unfolding queue seen screen market marketBy
+      won-here k lk = provisional-is Q totals shows k f e lk (rw capacity-is few) (rw capacity-is tied)
+
+      charge-here : (k : ℕ) → k < length (t .amounts) → chargeAt least f k ≡ max ((seen t) .cut * (seen t) .amount k) (critical Q)
+      unfolding chargeAt seen screen market marketBy
+      charge-here k lk = ap₂ max (element _ _ (A .least-are) k lk ∙ ap (λ x. x * getD (t .amounts) k 0) (A .is-cut)) critical-here
+
+      total-here : (k : ℕ) → k < length (t .amounts) → provisional Q k ≡ true → getD totals k 0 ≡ (seen t) .total k j
+      unfolding queue seen screen market marketBy
+      total-here k lk p = shows .some k lk (provisional-candidate Q k p)
+
+      surplus-here : (k : ℕ) → k < length (t .amounts) → provisional Q k ≡ true → getD totals k 0 - chargeAt least f k ≡ surplus (seen t) k j
+      unfolding surplus
+      surplus-here k lk p = ap₂ _-_ (total-here k lk p) (charge-here k lk)
+
+      gain-here : (k : ℕ) → k < length (t .amounts) → gainAt totals least f e k ≡ only (provisional Q k) (surplus (seen t) k j + 1)
+      unfolding gainAt gainFor
+      gain-here k lk = rw (won-here k lk) (only-cong _ _ _ (λ p. ap (λ x. x + 1) (surplus-here k lk p)))
+
+      pub turned : (s : ℕ) {stations₀ charges₀ gains₀ stations charges gains : List ℕ} → s ≡ j + 1
+          → After (seen t) (length (t .amounts)) j stations₀ charges₀ gains₀ → Offered totals least f e s stations₀ charges₀ gains₀ stations charges gains
+          → After (seen t) (length (t .amounts)) (j + 1) stations charges gains
+      unfolding charge truthful
+      turned s es h o = after-offers (seen t) (length (t .amounts)) j totals least f e s _ _ _ (long _ _ gathered) es gain-here charge-here h o
+
+-- the turn of a station that is not open
+pub shut : (t : Tables) (c j : ℕ) {least stations charges gains : List ℕ} → AtCut t c least → c ≤ getD (t .asks) j 0
+    → After (seen t) (length (t .amounts)) j stations charges gains → After (seen t) (length (t .amounts)) (j + 1) stations charges gains
+unfolding seen market marketBy
+shut t c j A h a = after-closed (market t) (length (t .amounts)) j (omega (arith, A .is-cut)) a
+
+-- what `offer` asks of its lists
+total-low : (bid amount cut : ℕ) → bid ≤ maxPrice → amount ≤ maxAmount → totalFor bid amount cut ≤ maxPrice * maxAmount
+total-low bid amount cut p q = ⊎-elim
+    (λ (a : bid < cut). omega (arith, total-no bid amount cut a))
+    (λ (a : cut ≤ bid). omega (arith, total-yes bid amount cut a, product bid amount p q))
+    (lt-or-le bid cut)
+
+pub offerable : (t : Tables) (c j : ℕ) {least totals stations charges gains : List ℕ} → AtCut t c least → j < length (t .asks)
+    → totals ≡ list (length (t .amounts)) (totalAt (t .bids) (t .amounts) (length (t .asks)) j c)
+    → After (seen t) (length (t .amounts)) j stations charges gains → Offerable totals least stations charges gains
+offerable t c j {totals = totals} A lj g a =
+    let n : length totals ≡ length (t .amounts) = long _ _ g in
+    record {
+      few = omega (arith, A .within .guests-most);
+      least-long = long _ _ (A .least-are) ∙ sym n;
+      stations-long = long _ _ (a .stations-are) ∙ sym n;
+      charges-long = long _ _ (a .charges-are) ∙ sym n;
+      gains-long = long _ _ (a .gains-are) ∙ sym n;
+      totals-low = λ k lk. let l : k < length (t .amounts) = omega arith in
+          rw (element _ _ g k l) (total-low _ _ c
+          (A .within .bid-most _ (omega (arith, A .within .bids-length, in-table (length (t .amounts)) (length (t .asks)) k j l lj)))
+          (A .within .amount-most k l));
+    }
+
+pub few-above : (l : List ℕ) (t a n : ℕ) → a ≡ above l t → length l ≤ n → a ≤ n
+few-above l t a n e h = omega (arith, above-most l t)
+
+pub after-end : {S : Screened} {n j m : ℕ} {stations charges gains : List ℕ} → After S n j stations charges gains → j ≤ m → m ≤ j → After S n m stations charges gains
+after-end h a b = rw (le-antisymm b a) h
+
+-- ---- before the first station, and after the last
+
+-- the first n of an array of zeros
+pub zeros-long : (n : ℕ) → n ≤ maxGuests → length (take n (replicate {A = ℕ} maxGuests 0)) ≡ n
+zeros-long n h = length-take-le n _ (omega (arith, length-replicate {A = ℕ} maxGuests 0))
+
+zeros-are : (n : ℕ) → n ≤ maxGuests → take n (replicate {A = ℕ} maxGuests 0) ≡ list n (λ _. 0)
+zeros-are n h = is-list n _ _ (zeros-long n h) (λ k l. getD-take n _ k 0 l ∙ getD-replicate {A = ℕ} maxGuests k 0 0 (omega arith))
+
+pub after-none : {S : Screened} {n a b : ℕ} {stations charges : List ℕ} → n ≤ maxGuests → a ≡ n → b ≡ n
+    → stations ≡ list a (λ _. 0) → charges ≡ list b (λ _. 0) → After S n 0 stations charges (take n (replicate {A = ℕ} maxGuests 0))
+unfolding stationBy chargeBy gainBy best at
+after-none {n = n} h ea eb s c = record {
+  stations-are = s ∙ ap (λ n. list n (λ _. 0)) ea;
+  charges-are = c ∙ ap (λ n. list n (λ _. 0)) eb;
+  gains-are = zeros-are n h;
+}
+
+pub assigned : (t : Tables) {stations charges gains : List ℕ} → After (seen t) (length (t .amounts)) (length (t .asks)) stations charges gains → Assigned t stations charges
+unfolding stationBy chargeBy outcome settle seen decided screen market marketBy truthful charged
+assigned t a = record { stations-are = a .stations-are; charges-are = a .charges-are }

@@ -1,0 +1,44 @@
+-- What `clear` and `row` promise.
+use Prim.Native.Nat.{ℕ, _*_, _-_}
+use mathlib.Core.Bool.{Bool, true, false}
+use mathlib.Core.List.{List, []}
+use mathlib.Core.Path.{_≡_}
+use lib.ListN.{length, take, drop}
+use Rattle.auction.specs.Counting.{_≤?_, _and_}
+use Rattle.auction.specs.Refusals.{Verdict, accepted, refused, firstFault}
+use Rattle.auction.specs.Market.{Tables}
+use Rattle.auction.specs.Outcome.{Results, Outcome, outcome}
+use Rattle.auction.specs.Faults.{clearingFaults}
+use Rattle.clearing.specs.declared.Clearing.{Clearing}
+use Rattle.clearing.specs.declared.Clearing.the-variants.{Cleared, Refused}
+
+-- a market, and result lists, as they are lent
+abbrev pub tables : (asks bays amounts bids : List ℕ) (width : ℕ) → Tables
+tables asks bays amounts bids width = record { asks = asks; bays = bays; amounts = amounts; bids = bids; width = width }
+
+abbrev pub results : (stations charges sold paid : List ℕ) → Results
+results stations charges sold paid = record { stations = stations; charges = charges; sold = sold; paid = paid }
+
+-- the enum's case for each verdict, with the values that it carries; a refusal's number is `number` of auction's Refusals
+unfoldable pub answerTo : Verdict → Outcome → Clearing
+answerTo accepted o = Cleared (o .cut) (o .margin)
+answerTo (refused r) o = Refused r
+
+-- the result lists afterwards
+unfoldable pub resultsOf : Verdict → Outcome → (entry : Results) → Results
+resultsOf accepted o entry = o .results
+resultsOf (refused r) o entry = entry
+
+-- a call of `clear` with tables t: the result lists at entry, the answer, the result lists at exit
+pub record Clears (t : Tables) (entry : Results) (answer : Clearing) (exit : Results) : Type 0 where
+  pub answered : answer ≡ answerTo (firstFault (clearingFaults t entry)) (outcome t)
+  pub left : exit ≡ resultsOf (firstFault (clearingFaults t entry)) (outcome t) entry
+
+-- a list where a test passes, the empty list where not
+unfoldable pub shown : Bool → List ℕ → List ℕ
+shown true l = l
+shown false l = []
+
+-- the m bids of a guest counted from 1; none for guest 0 or a row that ends past the table
+unfoldable pub rowOf : (bids : List ℕ) (m guest : ℕ) → List ℕ
+rowOf bids m guest = shown (1 ≤? guest and guest * m ≤? length bids) (take m (drop ((guest - 1) * m) bids))

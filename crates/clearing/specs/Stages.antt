@@ -1,0 +1,65 @@
+-- What the contracts inside the crate cite.
+use Prim.Native.Nat.{ℕ, _+_, _≤_}
+use mathlib.Core.List.{List}
+use mathlib.Core.Path.{_≡_}
+use lib.ListN.{length}
+use Rattle.auction.specs.Counting.{list}
+use Rattle.auction.specs.Refusals as verdicts
+use Rattle.auction.specs.Market.{Tables, market, cut, Screened, queue, provisional}
+use Rattle.auction.specs.Mechanism.{at, charge, best, surplus, truthful}
+use Rattle.auction.specs.Outcome.{Results, outcome}
+use Rattle.auction.specs.Readings.{WithinLimits}
+use Rattle.kernels.specs.Offers.{leastAt}
+use Rattle.clearing.specs.Clears.{tables}
+use Rattle.clearing.specs.declared.Clearing.{Clearing}
+use Rattle.clearing.specs.declared.Clearing.the-variants.{Cleared}
+use Rattle.clearing.specs.declared.Verdict.{Verdict}
+use Rattle.clearing.specs.declared.Verdict.the-variants.{Accepted, Refused}
+
+-- the code's verdict for that of the definitions
+unfoldable pub verdictOf : verdicts.Verdict → Verdict
+verdictOf verdicts.accepted = Accepted
+verdictOf (verdicts.refused r) = Refused r
+
+-- tables whose row width is the number of stations
+abbrev pub regular : (asks bays amounts bids : List ℕ) → Tables
+regular asks bays amounts bids = tables asks bays amounts bids (length asks)
+
+-- result lists of the right lengths
+pub record Fits (t : Tables) (r : Results) : Type 0 where
+  pub stations-long : length (r .stations) ≡ length (t .amounts)
+  pub charges-long : length (r .charges) ≡ length (t .amounts)
+  pub sold-long : length (r .sold) ≡ length (t .asks)
+  pub paid-long : length (r .paid) ≡ length (t .asks)
+
+-- a market within the limits with its cut and least charges
+pub record AtCut (t : Tables) (c : ℕ) (least : List ℕ) : Type 0 where
+  pub within : WithinLimits t
+  pub is-cut : c ≡ cut (market t)
+  pub least-are : least ≡ list (length (t .amounts)) (leastAt (t .amounts) c)
+
+-- guest i's station among the first j, the charge there, and one more than the surplus there; 0 for none
+unfoldable pub stationBy : Screened → (j i : ℕ) → ℕ
+stationBy S j i = best j (λ k. provisional (queue S k) i) (surplus S i)
+
+unfoldable pub chargeBy : Screened → (j i : ℕ) → ℕ
+chargeBy S j i = at (charge S (truthful S) i) (stationBy S j i)
+
+unfoldable pub gainBy : Screened → (j i : ℕ) → ℕ
+gainBy S j i = at (λ k. surplus S i k + 1) (stationBy S j i)
+
+-- the three lists of n guests after the first j stations
+pub record After (S : Screened) (n j : ℕ) (stations charges gains : List ℕ) : Type 0 where
+  pub stations-are : stations ≡ list n (stationBy S j)
+  pub charges-are : charges ≡ list n (chargeBy S j)
+  pub gains-are : gains ≡ list n (gainBy S j)
+
+-- every guest's station and charge
+pub record Assigned (t : Tables) (stations charges : List ℕ) : Type 0 where
+  pub stations-are : stations ≡ (outcome t) .results .stations
+  pub charges-are : charges ≡ (outcome t) .results .charges
+
+-- an accepted market's answer and result lists
+pub record Settles (t : Tables) (answer : Clearing) (exit : Results) : Type 0 where
+  pub answered : answer ≡ Cleared ((outcome t) .cut) ((outcome t) .margin)
+  pub left : exit ≡ (outcome t) .results

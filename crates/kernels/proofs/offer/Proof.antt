@@ -1,0 +1,149 @@
+use Prim.Native.Nat.{_-_, _≤_}
+use native.Mathlib.Omega.{arith}
+use lib.ListN.{length}
+use borrow.Author.Needs.{needs}
+use Rattle.kernels.proofs.Offers.{Offering, offers-none, offers-more, offers-end}
+use Rattle.kernels.proofs.offer.Statement.{statement}
+use Rattle.kernels.proofs.offer.Tie as tie
+
+abbrev Inv-loop : tie.InvT-loop
+Inv-loop totals least critical bound station stations₀ charges₀ gains₀ i₀ stations charges gains i =
+    (i ≤ length totals) × Offering totals least critical bound station stations₀ charges₀ gains₀ i stations charges gains
+
+abbrev μ-loop : tie.MeasureT-loop
+μ-loop totals least critical bound station stations₀ charges₀ gains₀ i₀ stations charges gains i = length totals - i
+
+loop-holds : tie.Need-loop-holds Inv-loop μ-loop
+loop-holds c = (search needs, offers-none)
+
+mul-total : tie.Need-mul-total Inv-loop μ-loop
+mul-total c = search needs
+
+shared-slice-read-total : tie.Need-shared-slice-read-total Inv-loop μ-loop
+shared-slice-read-total c = search needs
+
+mul-charge-for : tie.Need-mul-charge-for Inv-loop μ-loop
+mul-charge-for c = search needs
+
+shared-slice-read-charge-for : tie.Need-shared-slice-read-charge-for Inv-loop μ-loop
+shared-slice-read-charge-for c = search needs
+
+charge-for-requires : tie.Need-charge-for-requires Inv-loop μ-loop
+charge-for-requires c κs = search needs
+
+cast-wins : tie.Need-cast-wins Inv-loop μ-loop
+cast-wins c = search needs
+
+wins-requires : tie.Need-wins-requires Inv-loop μ-loop
+wins-requires c κs = search needs
+
+gain-for-requires : tie.Need-gain-for-requires Inv-loop μ-loop
+gain-for-requires c κs = c .before .before .before .before .before .before .before .before .before .before .before .pre .totals-low _ (c .before .before .before .before .loop-test .taken)
+
+mul-old : tie.Need-mul-old Inv-loop μ-loop
+mul-old c = search needs
+
+slice-read-old : tie.Need-slice-read-old Inv-loop μ-loop
+slice-read-old c = search needs
+
+mul-pick16 : tie.Need-mul-pick16 Inv-loop μ-loop
+mul-pick16 c = search needs
+
+slice-read-pick16 : tie.Need-slice-read-pick16 Inv-loop μ-loop
+slice-read-pick16 c = search needs
+
+pick16-requires : tie.Need-pick16-requires Inv-loop μ-loop
+pick16-requires c κs = search needs
+
+mul-stations : tie.Need-mul-stations Inv-loop μ-loop
+mul-stations c = search needs
+
+slice-write-stations : tie.Need-slice-write-stations Inv-loop μ-loop
+slice-write-stations c = search needs
+
+mul-pick32 : tie.Need-mul-pick32 Inv-loop μ-loop
+mul-pick32 c = search needs
+
+slice-read-pick32 : tie.Need-slice-read-pick32 Inv-loop μ-loop
+slice-read-pick32 c = search needs
+
+pick32-requires : tie.Need-pick32-requires Inv-loop μ-loop
+pick32-requires c κs = search needs
+
+mul-charges : tie.Need-mul-charges Inv-loop μ-loop
+mul-charges c = search needs
+
+slice-write-charges : tie.Need-slice-write-charges Inv-loop μ-loop
+slice-write-charges c = search needs
+
+pick32-requires-2 : tie.Need-pick32-requires-2 Inv-loop μ-loop
+pick32-requires-2 c κs = search needs
+
+mul-gains : tie.Need-mul-gains Inv-loop μ-loop
+mul-gains c = search needs
+
+slice-write-gains : tie.Need-slice-write-gains Inv-loop μ-loop
+slice-write-gains c = search needs
+
+add-i : tie.Need-add-i Inv-loop μ-loop
+add-i c = search needs
+
+loop-less : tie.Need-loop-less Inv-loop μ-loop
+loop-less c = search needs
+
+loop-again : tie.Need-loop-again Inv-loop μ-loop
+loop-again c = (
+  omega arith,
+  offers-more (c .before .before .before .before .before .before .before .before .before .before .before .before .before .before .before .before .before .before .pre) (c .before .before .before .before .before .before .before .before .before .before .before .before .loop .inv .1) (c .before .before .before .before .before .before .before .before .before .before .before .loop-test .taken)
+      (c .before .before .before .before .before .before .before .wins .ensures) (c .before .before .before .before .before .before .before .before .charge-for .ensures) (c .before .before .before .before .before .before .gain-for .ensures) (c .before .before .before .pick16 .ensures) (c .before .pick32 .ensures) (c .pick322 .ensures),
+)
+
+same-length : tie.Need-same-length Inv-loop μ-loop
+same-length c = search needs
+
+same-length-2 : tie.Need-same-length-2 Inv-loop μ-loop
+same-length-2 c = search needs
+
+same-length-3 : tie.Need-same-length-3 Inv-loop μ-loop
+same-length-3 c = search needs
+
+returns : tie.Need-returns Inv-loop μ-loop
+returns c = offers-end (c .before .before .before .before .before .before .before .pre) (c .before .loop .inv .1) (c .loop-test .left)
+
+pub offer-spec : {M : Type 1} → statement M
+offer-spec =
+    tie.close
+    (tie.spec
+    Inv-loop
+    μ-loop
+    loop-holds
+    mul-total
+    shared-slice-read-total
+    mul-charge-for
+    shared-slice-read-charge-for
+    charge-for-requires
+    cast-wins
+    wins-requires
+    gain-for-requires
+    mul-old
+    slice-read-old
+    mul-pick16
+    slice-read-pick16
+    pick16-requires
+    mul-stations
+    slice-write-stations
+    mul-pick32
+    slice-read-pick32
+    pick32-requires
+    mul-charges
+    slice-write-charges
+    pick32-requires-2
+    mul-gains
+    slice-write-gains
+    add-i
+    loop-less
+    loop-again
+    same-length
+    same-length-2
+    same-length-3
+    returns)

@@ -1,0 +1,63 @@
+-- Totals, who wins by the critical total, and one station's offers.
+use Prim.Native.Nat.{ℕ, _+_, _*_, _-_, _<_, _≤_, max}
+use mathlib.Core.Bool.{Bool, true, false}
+use mathlib.Core.List.{List}
+use mathlib.Core.Path.{_≡_}
+use lib.ListN.{getD, length}
+use Rattle.auction.specs.Counting.{_<?_, _≤?_, _=?_, _and_, _or_, only, list}
+use Rattle.auction.specs.Limits.{maxGuests, maxPrice, maxAmount}
+
+unfoldable pub pick : Bool → ℕ → ℕ → ℕ
+pick true a b = a
+pick false a b = b
+
+-- bid times amount for a candidate, 0 for whoever is none
+unfoldable pub totalFor : (bid amount cut : ℕ) → ℕ
+totalFor bid amount cut = only (cut ≤? bid) (bid * amount)
+
+-- guest i's total at station j of m
+abbrev pub totalAt : (bids amounts : List ℕ) (m j cut i : ℕ) → ℕ
+totalAt bids amounts m j cut i = totalFor (getD bids (i * m + j) 0) (getD amounts i 0) cut
+
+-- cut times guest i's amount, the least charge
+abbrev pub leastAt : (amounts : List ℕ) (cut i : ℕ) → ℕ
+leastAt amounts cut i = cut * getD amounts i 0
+
+-- guest k of total x wins a place: above the critical total t, or at t and below e
+unfoldable pub wonBy : (x t k e : ℕ) → Bool
+wonBy x t k e = t <? x or (x =? t and k <? e)
+
+-- one more than total less charge where a place is won, else 0
+unfoldable pub gainFor : Bool → (total charge : ℕ) → ℕ
+gainFor won total charge = only won (total - charge + 1)
+
+-- guest i's charge at the station, and gain
+unfoldable pub chargeAt : (least : List ℕ) (t i : ℕ) → ℕ
+chargeAt least t i = max (getD least i 0) t
+
+unfoldable pub gainAt : (totals least : List ℕ) (t e i : ℕ) → ℕ
+gainAt totals least t e i = gainFor (wonBy (getD totals i 0) t i e) (getD totals i 0) (chargeAt least t i)
+
+-- what guest i has after the offer: the new value where the gain is greater than before
+unfoldable pub taken : (gains : List ℕ) (gain new : ℕ → ℕ) (old : List ℕ) → ℕ → ℕ
+taken gains gain new old i = pick (getD gains i 0 <? gain i) (new i) (getD old i 0)
+
+-- what an offer asks of its lists
+pub record Offerable (totals least stations charges gains : List ℕ) : Type 0 where
+  pub few : length totals ≤ maxGuests
+  pub least-long : length least ≡ length totals
+  pub stations-long : length stations ≡ length totals
+  pub charges-long : length charges ≡ length totals
+  pub gains-long : length gains ≡ length totals
+  pub totals-low : (k : ℕ) → k < length totals → getD totals k 0 ≤ maxPrice * maxAmount
+
+-- the lists after one station's offers: critical total t, bound e, station number s
+pub record Offered (totals least : List ℕ) (t e s : ℕ) (stations₀ charges₀ gains₀ stations charges gains : List ℕ) : Type 0 where
+  pub stations-are : stations ≡ list (length totals) (taken gains₀ (gainAt totals least t e) (λ _. s) stations₀)
+  pub charges-are : charges ≡ list (length totals) (taken gains₀ (gainAt totals least t e) (chargeAt least t) charges₀)
+  pub gains-are : gains ≡ list (length totals) (taken gains₀ (gainAt totals least t e) (gainAt totals least t e) gains₀)
+
+-- what each of m stations sold, by the kWh of each station number, and what it is paid
+pub record PaidOut (kwh : ℕ → ℕ) (cut m : ℕ) (sold paid : List ℕ) : Type 0 where
+  pub sold-are : sold ≡ list m (λ j. kwh (j + 1))
+  pub paid-are : paid ≡ list m (λ j. cut * kwh (j + 1))
