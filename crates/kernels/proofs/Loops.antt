@@ -73,6 +73,13 @@ pub scan-more : (xs : List ℕ) (low high i : ℕ) (b : Bool) → let x = getD x
 unfolding some outside _<?_
 scan-more xs low high i b e = rw (add-one, ← e) (or-is b _ ∙ ap (λ z. b or z) (or-is _ _))
 
+pub scan-turn : (f : ℕ → Bool) (i : ℕ) (b c : Bool) → b ≡ some i f → c ≡ f i → (b || c) ≡ some (i + 1) f
+unfolding some
+scan-turn f i b c e h = rw (add-one, ← e, ← h) (or-is b c)
+
+pub some-end : (f : ℕ → Bool) {i n : ℕ} {b : Bool} → b ≡ some i f → i ≤ n → n ≤ i → b ≡ some n f
+some-end f e l r = e ∙ ap (λ n. some n f) (le-antisymm l r)
+
 pub scan-end : (xs : List ℕ) (f : ℕ → Bool) {i : ℕ} {b : Bool} → b ≡ some i (λ k. f (getD xs k 0)) → i ≤ length xs → length xs ≤ i → b ≡ any xs f
 unfolding any
 scan-end xs f {b = b} e l r = e ∙ ap (λ n. some n (λ k. f (getD xs k 0))) (le-antisymm l r)

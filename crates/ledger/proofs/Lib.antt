@@ -1,5 +1,5 @@
 pub mod Accounts
 pub mod Ledger
-pub mod Loops
+pub mod Cleared
 pub mod Settling
 pub mod Posting

@@ -23,9 +23,9 @@ use Rattle.ledger.specs.declared.Reply.the-variants as reply
 use Rattle.ledger.specs.declared.Round.{Round}
 use Rattle.ledger.specs.PlainBook.{Posting, posting, answer, settled, after, toGuest, toSold, toPaid, toHouse}
 use Rattle.ledger.specs.Ledger.{book, Posted}
-use Rattle.ledger.specs.Round.{verdictOf, adding, refusing, roundBy, earlyFaults, planned, exceeding, plus, Addable, limited, ruled, keptRound, chosen, Settled}
+use Rattle.ledger.specs.Round.{verdictOf, posted, adding, refusing, roundBy, earlyFaults, planned, exceeding, plus, Addable, limited, ruled, keptRound, chosen, Settled}
 use Rattle.ledger.proofs.Accounts.{length-raised, getD-raised}
-use Rattle.ledger.proofs.Loops.{or-is}
+use Rattle.kernels.proofs.Loops.{or-is}
 use Rattle.ledger.proofs.Settling.{addable}
 
 -- ---- accounts with what a round adds
@@ -94,7 +94,7 @@ module _ (p : Posting) (B : Book) (g : length (B .guests) ≤ maxGuests) (s : le
   room-is : let r = adding p in
       (exceeding (B .sold) (r .sold) or exceeding (B .paid) (r .paid) or exceeding (B .guests) (r .charges) or maxAccount <? B .house + r .margin)
       ≡ (overLimit B or overLimit (entered (p .tables) (p .round) B))
-  unfolding adding toGuest toSold toPaid toHouse overLimit entered
+  unfolding adding posted toGuest toSold toPaid toHouse overLimit entered
   room-is = rw (
     exceeding-raised (length (p .tables .asks)) (sold (seen (p .tables)) (decided (p .tables))) (B .sold) maxStations s,
     exceeding-raised (length (p .tables .asks)) (paid (seen (p .tables)) (decided (p .tables))) (B .paid) maxStations q,
@@ -105,7 +105,7 @@ module _ (p : Posting) (B : Book) (g : length (B .guests) ≤ maxGuests) (s : le
   plus-adding : (plus (B .guests) ((adding p) .charges) ≡ (entered (p .tables) (p .round) B) .guests)
       × (plus (B .sold) ((adding p) .sold) ≡ (entered (p .tables) (p .round) B) .sold)
       × (plus (B .paid) ((adding p) .paid) ≡ (entered (p .tables) (p .round) B) .paid)
-  unfolding adding toGuest toSold toPaid entered
+  unfolding adding posted toGuest toSold toPaid entered
   plus-adding = (plus-raised _ _ (B .guests) maxGuests g, plus-raised _ _ (B .sold) maxStations s, plus-raised _ _ (B .paid) maxStations q)
 
 -- ---- the faults before the one on the limit
@@ -165,7 +165,7 @@ module _ (p : Posting) (B : Book) (full : Bool) (s : Round) (guests : List ℕ) 
   -- not refused before: by the room that is left
   decided-late : (b : Bool) → (overLimit B or overLimit (entered (p .tables) (p .round) B)) ≡ b → firstFault (early p B) ≡ accepted
       → Settled (limited b accepted) (adding p) (p .round) (B .guests) (B .house) (B .last) s guests house last → Stepped (answer B p) p B s guests house last
-  unfolding limited keptRound chosen settled roundBy firstFault entered adding toHouse
+  unfolding limited keptRound chosen settled roundBy firstFault entered adding posted toHouse
   decided-late true o e t = rw (answer-late p B true o e) (record { round-is = t .round-is; guests-are = t .guests-are; house-is = t .house-is; last-is = t .last-is })
   decided-late false o e t =
       let z = sizes p B e in
@@ -185,7 +185,7 @@ module _ (p : Posting) (B : Book) (full : Bool) (s : Round) (guests : List ℕ) 
       (ap (λ b. b or exceeding (B .guests) ((adding p) .charges) or maxAccount <? B .house + (adding p) .margin) f ∙ room-is p B (z .guests) (z .sold) (z .paid))
 
   posted-reply : verdictOf ((adding p) .reply) ≡ accepted
-  unfolding adding verdictOf
+  unfolding adding posted verdictOf
   posted-reply = refl
 
   -- what settling r leaves
@@ -219,7 +219,7 @@ module _ (p : Posting) (B : Book) where
 
   room-left : overLimit (entered (p .tables) (p .round) B) ≡ false → Sizes B
       → (exceeding (B .sold) ((adding p) .sold) ≡ false) × (exceeding (B .paid) ((adding p) .paid) ≡ false)
-  unfolding overLimit entered adding toSold toPaid
+  unfolding overLimit entered adding posted toSold toPaid
   room-left e z =
       let (gsq, _) = or-no _ _ e in
       let (gs, q) = or-no _ _ gsq in
@@ -234,7 +234,7 @@ module _ (p : Posting) (B : Book) where
 
 -- the reply says the verdict
 pub replied : (v : Verdict) (p : Posting) → verdictOf ((roundBy v p) .reply) ≡ v
-unfolding roundBy adding refusing verdictOf
+unfolding roundBy adding posted refusing verdictOf
 replied accepted p = refl
 replied (refused x) p = refl
 
@@ -268,7 +268,7 @@ module _ (p : Posting) (guests sold paid : List ℕ) (house last : ℕ) where
 
 -- the round does not depend on its number
 same-round : (v : Verdict) (t : Tables) (n : ℕ) → roundBy v (posting t 0) ≡ roundBy v (posting t n)
-unfolding roundBy adding toGuest toSold toPaid toHouse
+unfolding roundBy adding posted toGuest toSold toPaid toHouse
 same-round accepted t n = refl
 same-round (refused x) t n = refl
 

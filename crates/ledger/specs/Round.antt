@@ -10,29 +10,23 @@ use Rattle.auction.specs.Refusals.{Row, Verdict, accepted, refused, firstFault}
 use Rattle.auction.specs.declared.Refusal.{Refusal}
 use Rattle.auction.specs.declared.Refusal.the-variants.{AccountOverLimit}
 use Rattle.auction.specs.Faults.{marketFaults, bookSize, outOfTurn}
-use Rattle.auction.specs.Market.{Tables}
 use Rattle.ledger.specs.declared.Reply.{Reply}
 use Rattle.ledger.specs.declared.Reply.the-variants as reply
 use Rattle.ledger.specs.declared.Round.{Round}
 use Rattle.ledger.specs.PlainBook.{Posting, toGuest, toSold, toPaid, toHouse}
-
-abbrev pub tables : (asks bays amounts bids : List ℕ) (width : ℕ) → Tables
-tables asks bays amounts bids width = record { asks = asks; bays = bays; amounts = amounts; bids = bids; width = width }
 
 -- document 01's answer for each case of the enum
 unfoldable pub verdictOf : Reply → Verdict
 verdictOf reply.Posted = accepted
 verdictOf (reply.Refused r) = refused r
 
--- a round that adds what p's market clears to, and one that is refused and adds 0 everywhere
+-- a posted round of these lists
+unfoldable pub posted : (charges sold paid : List ℕ) (margin : ℕ) → Round
+posted charges sold paid margin = record { reply = reply.Posted; charges = charges; sold = sold; paid = paid; margin = margin }
+
+-- the round that adds what p's market clears to, and one that is refused and adds 0 everywhere
 unfoldable pub adding : Posting → Round
-adding p = record {
-  reply = reply.Posted;
-  charges = list maxGuests (λ i. toGuest i p);
-  sold = list maxStations (λ j. toSold j p);
-  paid = list maxStations (λ j. toPaid j p);
-  margin = toHouse p;
-}
+adding p = posted (list maxGuests (λ i. toGuest i p)) (list maxStations (λ j. toSold j p)) (list maxStations (λ j. toPaid j p)) (toHouse p)
 
 unfoldable pub refusing : Refusal → Round
 refusing r = record {
