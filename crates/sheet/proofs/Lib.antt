@@ -1,0 +1,5 @@
+pub mod Lists
+pub mod Faults
+pub mod Fields
+pub mod Filled
+pub mod Tables

@@ -1,0 +1,14 @@
+use borrow.Author.Needs.{needs}
+use Rattle.sheet.specs.Sheet.{width}
+use Rattle.sheet.proofs.map_width.Statement.{statement}
+use Rattle.sheet.proofs.map_width.Tie as tie
+
+add-result : tie.Need-add-result
+add-result c = search needs
+
+returns : tie.Need-returns
+unfolding width
+returns c = search needs
+
+pub map-width-spec : {M : Type 1} → statement M
+map-width-spec = tie.close (tie.spec add-result returns)

@@ -1,0 +1,367 @@
+// The reader of market sheets: whatever bytes arrive, the market that they state or the refusal of their first fault.
+ghost use Prim.Native.Nat.{_+_, _*_, _^_, _<_, _≤_};
+ghost use mathlib.Core.Path.{_≡_};
+ghost use lib.ListN.{length};
+ghost use Rattle.auction.specs.Counting.{_<?_, only, count, list};
+ghost use Rattle.auction.specs.Faults.{counts};
+ghost use Rattle.auction.specs.Refusals.{_gives_, accepted, firstFault};
+ghost use Rattle.auction.specs.declared.Refusal.the-variants.{CountsOutOfRange, LentLengths};
+ghost use Rattle.sheet.specs.Passes.{Taken, stepBy, placed};
+ghost use Rattle.sheet.specs.Sheet.{number, width, hasBit, next, rowAt, askOf, baysOf, amountOf, bidBy, bidOf, joined, rowFaults, rowsFaults, lent, readSheet, answerOf, over, Reads};
+use auction::MAX_GUESTS;
+use auction::MAX_STATIONS;
+use auction::Refusal;
+
+// The place reached in a sheet.
+struct Cursor {
+    at: usize,
+}
+
+// A field of 2 bytes, of 4 bytes, a bit map: what was taken and the place after it.
+struct Short {
+    value: u16,
+    next: Cursor,
+}
+
+struct Long {
+    value: u32,
+    next: Cursor,
+}
+
+struct Map {
+    bits: u64,
+    next: Cursor,
+}
+
+fn wide(x: u8) -> u64
+    ensures { λ r. ⌜ (r ≡ x) × (r < 256) ⌝ }
+{
+    x as u64
+}
+
+// The number that the k bytes from at hold, lowest byte first.
+fn number(s: &[u8], at: usize, k: usize) -> u64
+    requires { ⌜ (k ≤ 5) × (at + k ≤ length (now s)) ⌝ }
+    ensures { λ r. ⌜ r ≡ number (now (s .entry)) at k ⌝ }
+{
+    let mut x: u64 = 0;
+    let mut left = k;
+    while 0 < left {
+        left -= 1;
+        x = x * 256 + wide(s[at + left]);
+    }
+    x
+}
+
+impl Cursor {
+    // Whether the sheet ends inside the next k bytes.
+    fn ends(self, s: &[u8], k: usize) -> bool
+        requires { ⌜ self .at ≤ length (now s) ⌝ }
+        ensures { λ r. ⌜ r ≡ (length (now (s .entry)) <? self .at + k) ⌝ }
+    {
+        s.len() - self.at < k
+    }
+
+    fn skip(self, k: usize) -> Cursor
+        requires { ⌜ self .at + k < 2 ^ 64 ⌝ }
+        ensures { λ r. ⌜ r .at ≡ self .at + k ⌝ }
+    {
+        Cursor { at: self.at + k }
+    }
+
+    fn two(self, s: &[u8]) -> Short
+        requires { ⌜ self .at + 2 ≤ length (now s) ⌝ }
+        ensures { λ r. ⌜ Taken (now (s .entry)) (self .at) 2 (r .value) (r .next) ⌝ }
+    {
+        let at = self.at;
+        Short {
+            value: (wide(s[at]) + 256 * wide(s[at + 1])) as u16,
+            next: self.skip(2),
+        }
+    }
+
+    fn four(self, s: &[u8]) -> Long
+        requires { ⌜ self .at + 4 ≤ length (now s) ⌝ }
+        ensures { λ r. ⌜ Taken (now (s .entry)) (self .at) 4 (r .value) (r .next) ⌝ }
+    {
+        let low = self.two(s);
+        let high = low.next.two(s);
+        let next = high.next;
+        Long {
+            value: low.value as u32 + 65_536 * (high.value as u32),
+            next,
+        }
+    }
+
+    fn map(self, s: &[u8], stations: usize) -> Map
+        requires { ⌜ (stations ≤ 40) × (self .at + width stations ≤ length (now s)) ⌝ }
+        ensures { λ r. ⌜ Taken (now (s .entry)) (self .at) (width stations) (r .bits) (r .next) ⌝ }
+    {
+        let at = self.at;
+        let k = map_width(stations);
+        Map {
+            bits: number(s, at, k),
+            next: self.skip(k),
+        }
+    }
+}
+
+fn map_width(stations: usize) -> usize
+    requires { ⌜ stations ≤ 40 ⌝ }
+    ensures { λ r. ⌜ r ≡ width stations ⌝ }
+{
+    (stations + 7) / 8
+}
+
+// Whether a map has the bit of a station set, the first being 0.
+fn has_bit(bits: u64, station: usize) -> bool
+    requires { ⌜ station < 64 ⌝ }
+    ensures { λ r. ⌜ r ≡ hasBit bits station ⌝ }
+{
+    (bits >> station) % 2 == 1
+}
+
+// How many bits of a map are set.
+fn count_bits(bits: u64) -> usize
+    ensures { λ r. ⌜ r ≡ count 64 (hasBit bits) ⌝ }
+{
+    u64::count_ones(bits) as usize
+}
+
+// ---- the checking pass
+
+enum Step {
+    Next(Cursor),
+    Fault(Refusal),
+}
+
+fn check_row(s: &[u8], c: Cursor, stations: usize) -> Step
+    requires { ⌜ (stations ≤ 40) × (c .at ≤ length (now s)) ⌝ }
+    ensures { λ r. ⌜ r ≡ stepBy (firstFault (rowFaults (now (s .entry)) stations (c .at))) (next (now (s .entry)) stations (c .at)) ⌝ }
+{
+    if c.ends(s, 2) {
+        return Step::Fault(Refusal::SheetEnds);
+    }
+    let d = c.skip(2);
+    if d.ends(s, map_width(stations)) {
+        return Step::Fault(Refusal::SheetEnds);
+    }
+    let map = d.map(s, stations);
+    if 0 < map.bits >> stations {
+        return Step::Fault(Refusal::StrayBit);
+    }
+    let size = 4 * count_bits(map.bits);
+    let e = map.next;
+    if e.ends(s, size) {
+        return Step::Fault(Refusal::SheetEnds);
+    }
+    Step::Next(e.skip(size))
+}
+
+fn check_rows(s: &[u8], c: Cursor, guests: usize, stations: usize) -> Step
+    requires { ⌜ (stations ≤ 40) × (c .at ≤ length (now s)) × (c .at ≡ rowAt (now s) stations 0) ⌝ }
+    ensures { λ r. ⌜ r ≡ stepBy (firstFault (rowsFaults (now (s .entry)) stations guests)) (rowAt (now (s .entry)) stations guests) ⌝ }
+{
+    let mut d = c;
+    let mut i = 0;
+    while i < guests {
+        match check_row(s, d, stations) {
+            Step::Next(e) => {
+                d = e;
+            }
+            Step::Fault(r) => {
+                return Step::Fault(r);
+            }
+        }
+        i += 1;
+    }
+    Step::Next(d)
+}
+
+fn miscounted(guests: usize, stations: usize) -> bool
+    ensures { λ r. ⌜ counts guests stations ≡ (r gives CountsOutOfRange) ⌝ }
+{
+    (MAX_GUESTS < guests) | (stations == 0) | (MAX_STATIONS < stations)
+}
+
+fn check(s: &[u8]) -> Reading
+    ensures { λ r. ⌜ r ≡ answerOf (readSheet (now (s .entry))) ⌝ }
+{
+    let start = Cursor { at: 0 };
+    if start.ends(s, 4) {
+        return Reading::Refused(Refusal::SheetEnds);
+    }
+    let n = start.two(s);
+    let m = n.next.two(s);
+    let guests = n.value as usize;
+    let stations = m.value as usize;
+    if miscounted(guests, stations) {
+        return Reading::Refused(Refusal::CountsOutOfRange);
+    }
+    let c = m.next;
+    if c.ends(s, 6 * stations) {
+        return Reading::Refused(Refusal::SheetEnds);
+    }
+    match check_rows(s, c.skip(6 * stations), guests, stations) {
+        Step::Next(end) => {
+            if end.at < s.len() {
+                return Reading::Refused(Refusal::TrailingBytes);
+            }
+            Reading::Read { guests, stations }
+        }
+        Step::Fault(r) => Reading::Refused(r),
+    }
+}
+
+// ---- the filling pass: the sheet has no fault
+
+fn fill_stations(s: &[u8], c: Cursor, stations: usize, asks: &mut [u32], bays: &mut [u16]) -> Cursor
+    requires { ⌜ (c .at ≡ 4) × (4 + 6 * stations ≤ length (now s)) × (stations ≤ length (now asks)) × (stations ≤ length (now bays)) ⌝ }
+    ensures { λ r. ⌜ r .at ≡ 4 + 6 * stations ⌝ }
+    ensures { λ _. ⌜ now (asks .exit) ≡ over (list stations (askOf (now (s .entry)))) (now (asks .entry)) ⌝ }
+    ensures { λ _. ⌜ now (bays .exit) ≡ over (list stations (baysOf (now (s .entry)))) (now (bays .entry)) ⌝ }
+{
+    let mut d = c;
+    let mut j = 0;
+    while j < stations {
+        let ask = d.four(s);
+        let bay = ask.next.two(s);
+        asks[j] = ask.value;
+        bays[j] = bay.value;
+        d = bay.next;
+        j += 1;
+    }
+    d
+}
+
+// The bid of a station by its row's map, with c where its field stands if it has one.
+fn take_bid(s: &[u8], c: Cursor, bits: u64, station: usize) -> Long
+    requires { ⌜ (station < 64) × (c .at + 4 * only (hasBit bits station) 1 ≤ length (now s)) ⌝ }
+    ensures { λ r. ⌜ (r .value ≡ only (hasBit bits station) (number (now (s .entry)) (c .at) 4)) × (r .next .at ≡ c .at + 4 * only (hasBit bits station) 1) ⌝ }
+{
+    if has_bit(bits, station) {
+        c.four(s)
+    } else {
+        Long { value: 0, next: c }
+    }
+}
+
+// The bids of a row whose bits are set for some stations, to the places from base on.
+fn fill_some(
+    s: &[u8],
+    c: Cursor,
+    bits: u64,
+    stations: usize,
+    base: usize,
+    bids: &mut [u32],
+) -> Cursor
+    requires { ⌜ (stations ≤ 40) × (c .at + 4 * count stations (hasBit bits) ≤ length (now s)) × (base + stations ≤ length (now bids)) ⌝ }
+    ensures { λ r. ⌜ r .at ≡ c .at + 4 * count stations (hasBit bits) ⌝ }
+    ensures { λ _. ⌜ now (bids .exit) ≡ placed base stations (bidBy (now (s .entry)) bits (c .at)) (now (bids .entry)) ⌝ }
+{
+    let mut d = c;
+    let mut j = 0;
+    while j < stations {
+        let bid = take_bid(s, d, bits, j);
+        bids[base + j] = bid.value;
+        d = bid.next;
+        j += 1;
+    }
+    d
+}
+
+// The same where the bits of all stations are set.
+fn fill_all(s: &[u8], c: Cursor, stations: usize, base: usize, bids: &mut [u32]) -> Cursor
+    requires { ⌜ (c .at + 4 * stations ≤ length (now s)) × (base + stations ≤ length (now bids)) ⌝ }
+    ensures { λ r. ⌜ r .at ≡ c .at + 4 * stations ⌝ }
+    ensures { λ _. ⌜ now (bids .exit) ≡ placed base stations (λ j. number (now (s .entry)) (c .at + 4 * j) 4) (now (bids .entry)) ⌝ }
+{
+    let mut d = c;
+    let mut j = 0;
+    while j < stations {
+        let bid = d.four(s);
+        bids[base + j] = bid.value;
+        d = bid.next;
+        j += 1;
+    }
+    d
+}
+
+fn fill_row(
+    s: &[u8],
+    c: Cursor,
+    bits: u64,
+    stations: usize,
+    base: usize,
+    bids: &mut [u32],
+) -> Cursor
+    requires { ⌜ (stations ≤ 40) × (bits < 2 ^ stations) × (c .at + 4 * count stations (hasBit bits) ≤ length (now s)) × (base + stations ≤ length (now bids)) ⌝ }
+    ensures { λ r. ⌜ r .at ≡ c .at + 4 * count stations (hasBit bits) ⌝ }
+    ensures { λ _. ⌜ now (bids .exit) ≡ placed base stations (bidBy (now (s .entry)) bits (c .at)) (now (bids .entry)) ⌝ }
+{
+    if count_bits(bits) == stations {
+        return fill_all(s, c, stations, base, bids);
+    }
+    fill_some(s, c, bits, stations, base, bids)
+}
+
+fn fill_rows(
+    s: &[u8],
+    c: Cursor,
+    guests: usize,
+    stations: usize,
+    amounts: &mut [u16],
+    bids: &mut [u32],
+)
+    requires { ⌜ (stations ≤ 40) × (c .at ≡ rowAt (now s) stations 0) × (firstFault (rowsFaults (now s) stations guests) ≡ accepted) × (guests ≤ length (now amounts)) × (guests * stations ≤ length (now bids)) ⌝ }
+    ensures { λ _. ⌜ now (amounts .exit) ≡ over (list guests (amountOf (now (s .entry)) stations)) (now (amounts .entry)) ⌝ }
+    ensures { λ _. ⌜ now (bids .exit) ≡ over (joined guests (λ i. list stations (bidOf (now (s .entry)) stations i))) (now (bids .entry)) ⌝ }
+{
+    let mut d = c;
+    let mut i = 0;
+    while i < guests {
+        let amount = d.two(s);
+        let map = amount.next.map(s, stations);
+        amounts[i] = amount.value;
+        d = fill_row(s, map.next, map.bits, stations, i * stations, bids);
+        i += 1;
+    }
+}
+
+// What a sheet comes to: the counts of the market read, or the refusal.
+pub enum Reading {
+    Read { guests: usize, stations: usize },
+    Refused(Refusal),
+}
+
+fn mislent(amounts: usize, asks: usize, bays: usize, bids: usize) -> bool
+    ensures { λ r. ⌜ lent amounts asks bays bids ≡ (r gives LentLengths) ⌝ }
+{
+    (amounts != MAX_GUESTS)
+        | (asks != MAX_STATIONS)
+        | (bays != MAX_STATIONS)
+        | (bids != MAX_GUESTS * MAX_STATIONS)
+}
+
+// Reads a sheet into lent tables of the greatest size. They are written once the whole sheet is known to be good.
+pub fn read(
+    sheet: &[u8],
+    amounts: &mut [u16],
+    asks: &mut [u32],
+    bays: &mut [u16],
+    bids: &mut [u32],
+) -> Reading
+    ensures { λ r. ⌜ Reads (now (sheet .entry)) (now (amounts .entry)) (now (asks .entry)) (now (bays .entry)) (now (bids .entry)) r (now (amounts .exit)) (now (asks .exit)) (now (bays .exit)) (now (bids .exit)) ⌝ }
+{
+    if mislent(amounts.len(), asks.len(), bays.len(), bids.len()) {
+        return Reading::Refused(Refusal::LentLengths);
+    }
+    match check(sheet) {
+        Reading::Read { guests, stations } => {
+            let c = fill_stations(sheet, Cursor { at: 4 }, stations, asks, bays);
+            fill_rows(sheet, c, guests, stations, amounts, bids);
+            Reading::Read { guests, stations }
+        }
+        Reading::Refused(r) => Reading::Refused(r),
+    }
+}
