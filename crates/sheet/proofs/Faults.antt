@@ -14,13 +14,13 @@ use Rattle.auction.specs.Counting.{_<?_, _=?_, _or_, count}
 use Rattle.auction.specs.Faults.{counts}
 use Rattle.auction.specs.Limits.{maxGuests, maxStations}
 use Rattle.auction.specs.Refusals.{Row, _gives_, Verdict, accepted, refused, firstFault}
-use Rattle.auction.proofs.Tests.{lt-no, eq-no, is-lt, not-lt, or-no}
+use Rattle.auction.proofs.Tests.{lt-no, eq-no, is-lt, not-lt, not-eq, or-no, neither}
 use Rattle.sheet.specs.Passes.{Taken, stepBy}
 use Rattle.sheet.specs.Sheet.{number, guests, stations, width, hasBit, mapAt, bidsAt, next, rowAt, joined, rowFaults, rowsFaults, sheetFaults}
 use Rattle.sheet.specs.declared.Cursor.{Cursor}
 use Rattle.sheet.specs.declared.Step.{Step}
 use Rattle.sheet.specs.declared.Step.the-variants.{Next, Fault}
-use Rattle.sheet.proofs.Fields.{moved, narrow, count-narrow}
+use Rattle.sheet.proofs.Fields.{moved, narrow, wide, count-narrow}
 use Rattle.sheet.proofs.Lists.{fault-here, fault-later, fault-none, no-fault, fault-first, fault-second, no-faults}
 
 -- ---- steps
@@ -106,6 +106,12 @@ row-sound s m p e =
     let (a, e1) = no-fault _ _ _ e in let (b, e2) = no-fault _ _ _ e1 in let (c, e3) = no-fault _ _ _ e2 in let (d, e4) = no-fault _ _ _ e3 in
     record { map-in = lt-no _ _ b; no-stray = narrow _ _ (lt-no _ _ c); bids-in = lt-no _ _ d }
 
+pub sound-row : {s : List ℕ} {m p : ℕ} → RowSound s m p → firstFault (rowFaults s m p) ≡ accepted
+unfolding rowFaults
+sound-row {s} {m} {p} t =
+    fault-later _ _ (not-lt _ _ (omega (arith, bids-at m p, t .map-in))) ∙ fault-later _ _ (not-lt _ _ (t .map-in))
+    ∙ fault-later _ _ (not-lt _ _ (wide (mapAt s m p) m (t .no-stray))) ∙ fault-later _ _ (not-lt _ _ (t .bids-in)) ∙ fault-none
+
 -- ---- the rows
 
 pub rows-none : (s : List ℕ) (m : ℕ) → firstFault (rowsFaults s m 0) ≡ accepted
@@ -117,7 +123,7 @@ unfolding rowAt
 rows-to s m i p g = rw (add-one i, g) refl
 
 -- after i sound rows the next one decides
-rows-suc : (s : List ℕ) (m i : ℕ) → firstFault (rowsFaults s m i) ≡ accepted → firstFault (rowsFaults s m (suc i)) ≡ firstFault (rowFaults s m (rowAt s m i))
+pub rows-suc : (s : List ℕ) (m i : ℕ) → firstFault (rowsFaults s m i) ≡ accepted → firstFault (rowsFaults s m (suc i)) ≡ firstFault (rowFaults s m (rowAt s m i))
 unfolding rowsFaults joined
 rows-suc s m i e = fault-second _ _ e
 
@@ -184,6 +190,10 @@ counted n m e =
     pos : (k : ℕ) → (k ≡ 0 → ⊥) → 1 ≤ k
     pos zero h = absurd (h refl)
     pos (suc k) h = omega arith
+
+pub counts-good : (n m : ℕ) → n ≤ maxGuests → 1 ≤ m → m ≤ maxStations → counts n m ≡ (false gives CountsOutOfRange)
+unfolding counts
+counts-good n m h g l = ap (λ b. b gives CountsOutOfRange) (neither (neither (not-lt _ _ h) (not-eq m 0 (λ e. omega arith))) (not-lt _ _ l))
 
 module _ {s : List ℕ} {n m : ℕ} (t : Headed s n m) where
   after-header : (b : Bool) → counts n m ≡ (b gives CountsOutOfRange)

@@ -82,7 +82,10 @@ pow-pos (suc k) = omega (arith, pow-pos k)
 pub narrow : (x m : ℕ) → x / 2 ^ m ≤ 0 → x < 2 ^ m
 narrow x m h = omega (arith, div-lt-iff-lt-mul {x = x} {y = 1} (pow-pos m) .0 (omega arith))
 
-first-bit : (x : ℕ) → only (hasBit x 0) 1 ≡ x % 2
+pub wide : (x m : ℕ) → x < 2 ^ m → x / 2 ^ m ≤ 0
+wide x m h = omega (arith, div-lt-iff-lt-mul {x = x} {y = 1} (pow-pos m) .1 (omega arith))
+
+pub first-bit : (x : ℕ) → only (hasBit x 0) 1 ≡ x % 2
 unfolding hasBit
 first-bit x =
     let e : x / 2 ^ 0 % 2 ≡ x % 2 = omega arith in

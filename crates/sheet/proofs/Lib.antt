@@ -1,5 +1,9 @@
 pub mod Lists
-pub mod Faults
 pub mod Fields
+pub mod Faults
 pub mod Filled
 pub mod Tables
+pub mod Holds
+pub mod Stated
+pub mod Truth
+pub mod Cases
