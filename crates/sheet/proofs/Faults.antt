@@ -3,23 +3,23 @@ use Prim.Native.Nat.{ℕ, zero, suc, _+_, _*_, _/_, _^_, _≤_, _<_}
 use mathlib.Core.Bool.{Bool, true, false}
 use mathlib.Core.List.{List, [], _∷_, _++_}
 use mathlib.Core.Logic.{⊎-elim}
-use mathlib.Core.Path.{_≡_, refl, sym, ap, _∙_}
+use mathlib.Core.Path.{_≡_, refl, ap, _∙_}
 use native.Mathlib.Nat.{not-suc-le-zero, eq-or-lt-of-le, le-of-suc-le-suc}
 use native.Mathlib.Numerals.{add-one}
 use native.Mathlib.Omega.{arith}
 use lib.ListN.{length}
-use Rattle.auction.specs.declared.Refusal.{Refusal}
-use Rattle.auction.specs.declared.Refusal.the-variants.{SheetEnds, CountsOutOfRange, StrayBit, TrailingBytes}
 use Rattle.auction.specs.Counting.{_<?_, _=?_, _or_, count}
 use Rattle.auction.specs.Faults.{counts}
 use Rattle.auction.specs.Limits.{maxGuests, maxStations}
 use Rattle.auction.specs.Refusals.{Row, _gives_, Verdict, accepted, refused, firstFault}
+use Rattle.auction.specs.declared.Refusal.the-variants.{SheetEnds, CountsOutOfRange, StrayBit, TrailingBytes}
+use Rattle.auction.specs.declared.Refusal.{Refusal}
 use Rattle.auction.proofs.Tests.{lt-no, eq-no, is-lt, not-lt, not-eq, or-no, neither}
 use Rattle.sheet.specs.Passes.{Taken, stepBy}
-use Rattle.sheet.specs.Sheet.{number, guests, stations, width, hasBit, mapAt, bidsAt, next, rowAt, joined, rowFaults, rowsFaults, sheetFaults}
+use Rattle.sheet.specs.Sheet.{guests, stations, mapWidth, hasBit, mapAt, bidsAt, nextAt, rowAt, joined, rowFaults, rowsFaults, sheetFaults}
 use Rattle.sheet.specs.declared.Cursor.{Cursor}
-use Rattle.sheet.specs.declared.Step.{Step}
 use Rattle.sheet.specs.declared.Step.the-variants.{Next, Fault}
+use Rattle.sheet.specs.declared.Step.{Step}
 use Rattle.sheet.proofs.Fields.{moved, narrow, wide, count-narrow}
 use Rattle.sheet.proofs.Lists.{fault-here, fault-later, fault-none, no-fault, fault-first, fault-second, no-faults}
 
@@ -45,7 +45,7 @@ told-fault (refused y) p x r e f = let g : y ≡ x = cc in ap refused g
 
 -- ---- a row
 
-pub bids-at : (m p : ℕ) → bidsAt m p ≡ p + 2 + width m
+pub bids-at : (m p : ℕ) → bidsAt m p ≡ p + 2 + mapWidth m
 unfolding bidsAt
 bids-at m p = refl
 
@@ -64,28 +64,28 @@ pub record MapTaken (s : List ℕ) (m p x q : ℕ) : Type 0 where
   pub map : x ≡ mapAt s m p
   pub to : q ≡ bidsAt m p
 
-pub map-taken : (s : List ℕ) (m p d x : ℕ) (e : Cursor) → d ≡ p + 2 → d + width m ≤ length s → Taken s d (width m) x e → MapTaken s m p x (e .at)
+pub map-taken : (s : List ℕ) (m p d x : ℕ) (e : Cursor) → d ≡ p + 2 → d + mapWidth m ≤ length s → Taken s d (mapWidth m) x e → MapTaken s m p x (e .at)
 unfolding mapAt
 map-taken s m p d x e f h t = record {
   within = omega (arith, bids-at m p);
-  map = moved s (width m) d (p + 2) (t .value) f;
+  map = moved s (mapWidth m) d (p + 2) (t .value) f;
   to = omega (arith, bids-at m p, t .place);
 }
 
 module _ {s : List ℕ} {m p x q : ℕ} (t : MapTaken s m p x q) where
-  after-map : firstFault (rowFaults s m p) ≡ firstFault ((0 <? x / 2 ^ m gives StrayBit) ∷ (length s <? next s m p gives SheetEnds) ∷ [])
+  after-map : firstFault (rowFaults s m p) ≡ firstFault ((0 <? x / 2 ^ m gives StrayBit) ∷ (length s <? nextAt s m p gives SheetEnds) ∷ [])
   unfolding rowFaults
   after-map = rw (t .map) (fault-later _ _ (not-lt _ _ (omega (arith, bids-at m p, t .within))) ∙ fault-later _ _ (not-lt _ _ (t .within)))
 
   pub stray : 0 < x / 2 ^ m → firstFault (rowFaults s m p) ≡ refused StrayBit
   stray g = after-map ∙ fault-here _ (is-lt _ _ g)
 
-  pub to-next : q + 4 * count m (hasBit x) ≡ next s m p
-  unfolding next
+  pub to-next : q + 4 * count m (hasBit x) ≡ nextAt s m p
+  unfolding nextAt
   to-next = rw (t .map, t .to) refl
 
   module _ (w : m ≤ 64) (g : x / 2 ^ m ≤ 0) where
-    pub next-is : q + 4 * count 64 (hasBit x) ≡ next s m p
+    pub next-is : q + 4 * count 64 (hasBit x) ≡ nextAt s m p
     next-is = omega (arith, to-next, count-narrow m x w (narrow x m g))
 
     pub bids-end : length s < q + 4 * count 64 (hasBit x) → firstFault (rowFaults s m p) ≡ refused SheetEnds
@@ -98,7 +98,7 @@ module _ {s : List ℕ} {m p x q : ℕ} (t : MapTaken s m p x q) where
 pub record RowSound (s : List ℕ) (m p : ℕ) : Type 0 where
   pub map-in : bidsAt m p ≤ length s
   pub no-stray : mapAt s m p < 2 ^ m
-  pub bids-in : next s m p ≤ length s
+  pub bids-in : nextAt s m p ≤ length s
 
 pub row-sound : (s : List ℕ) (m p : ℕ) → firstFault (rowFaults s m p) ≡ accepted → RowSound s m p
 unfolding rowFaults
@@ -118,7 +118,7 @@ pub rows-none : (s : List ℕ) (m : ℕ) → firstFault (rowsFaults s m 0) ≡ a
 unfolding rowsFaults joined firstFault
 rows-none s m = refl
 
-pub rows-to : (s : List ℕ) (m i p : ℕ) → p ≡ rowAt s m i → next s m p ≡ rowAt s m (i + 1)
+pub rows-to : (s : List ℕ) (m i p : ℕ) → p ≡ rowAt s m i → nextAt s m p ≡ rowAt s m (i + 1)
 unfolding rowAt
 rows-to s m i p g = rw (add-one i, g) refl
 

@@ -4,16 +4,16 @@ use mathlib.Core.Bool.{true, false}
 use mathlib.Core.List.{List}
 use mathlib.Core.Logic.{⊎-elim}
 use mathlib.Core.Path.{_≡_, refl, sym, ap, _∙_}
+use borrow.Author.Tests.{lt-ltb, le-ltb}
 use native.Mathlib.Nat.{div-lt-iff-lt-mul, div-div-eq-div-mul}
 use native.Mathlib.Omega.{arith}
-use borrow.Author.Tests.{lt-ltb, le-ltb}
 use lib.Count.{ones, onesIn, ones-step}
 use lib.Dec.{ltb}
 use lib.ListN.{getD}
 use lib.Pow.{pow-mono}
 use Rattle.auction.specs.Counting.{_<?_, _=?_, only, count}
-use Rattle.auction.proofs.Tests.{decide, lt-or-le, eq-yes, eq-no, is-eq, not-eq, only-yes, only-no}
 use Rattle.auction.proofs.Counting.{count-start, count-cong}
+use Rattle.auction.proofs.Tests.{decide, lt-or-le, eq-yes, eq-no, only-yes, only-no}
 use Rattle.sheet.specs.Sheet.{number, hasBit, bidBy}
 use Rattle.sheet.proofs.Lists.{count-front, count-all}
 

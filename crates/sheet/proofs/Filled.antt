@@ -1,5 +1,5 @@
 -- Laws of a table that is written from its start on.
-use Prim.Native.Nat.{ℕ, zero, suc, _+_, _≤_, _<_}
+use Prim.Native.Nat.{ℕ, suc, _+_, _≤_, _<_}
 use mathlib.Core.List.{List, [], _∷_, _++_, append-assoc, append-nil}
 use mathlib.Core.Path.{_≡_, refl, sym, ap, _∙_}
 use native.Mathlib.Omega.{arith}
@@ -7,8 +7,8 @@ use lib.ListN.{length, getD, take, drop, set, length-append, length-set, take-ap
 use lib.Seq.{drop-cons, set-at, take-at, drop-append-add, drop-drop, length-take-le}
 use Rattle.auction.specs.Counting.{list}
 use Rattle.auction.proofs.Counting.{length-list, list-cong}
-use Rattle.sheet.specs.Sheet.{over}
 use Rattle.sheet.specs.Passes.{placed}
+use Rattle.sheet.specs.Sheet.{over}
 use Rattle.sheet.proofs.Lists.{list-step}
 
 -- l is l₀ with xs over its first places

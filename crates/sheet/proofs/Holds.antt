@@ -1,9 +1,9 @@
 -- A list that stands at a place of a sheet; bytes and bit maps there.
-use Prim.Native.Nat.{ℕ, zero, suc, _+_, _*_, _/_, _%_, _^_, _≤_, _<_}
+use Prim.Native.Nat.{ℕ, zero, suc, _+_, _*_, _/_, _^_, _≤_, _<_}
 use mathlib.Core.Bool.{Bool, true, false}
 use mathlib.Core.List.{List, [], _∷_, _++_}
 use mathlib.Core.Logic.{⊎-elim}
-use mathlib.Core.Path.{_≡_, refl, sym, ap, ap₂, _∙_}
+use mathlib.Core.Path.{_≡_, refl, ap, ap₂, _∙_}
 use native.Mathlib.Nat.{not-suc-le-zero, eq-or-lt-of-le, le-of-suc-le-suc}
 use native.Mathlib.Omega.{arith}
 use lib.ListN.{length, getD, length-append}
@@ -13,7 +13,7 @@ use Rattle.auction.specs.Counting.{_=?_, only}
 use Rattle.auction.proofs.Counting.{up, here}
 use Rattle.auction.proofs.Tests.{is-eq, not-eq, only-le}
 use Rattle.sheet.specs.Layout.{bytesOf, pack, Bytes}
-use Rattle.sheet.specs.Sheet.{number, width, hasBit, joined}
+use Rattle.sheet.specs.Sheet.{number, mapWidth, hasBit, joined}
 use Rattle.sheet.proofs.Fields.{first-bit, next-bit}
 
 -- xs stands at p in s
@@ -152,6 +152,6 @@ bytes-pow : (k : ℕ) → 2 ^ (8 * k) ≡ 256 ^ k
 bytes-pow zero = refl
 bytes-pow (suc k) = let e : 8 * suc k ≡ 8 + 8 * k = omega arith in rw e (pow-add 2 8 (8 * k) ∙ omega (arith, bytes-pow k))
 
-pub pack-fits : (m : ℕ) (b : ℕ → Bool) → pack m b < 256 ^ width m
-unfolding width
+pub pack-fits : (m : ℕ) (b : ℕ → Bool) → pack m b < 256 ^ mapWidth m
+unfolding mapWidth
 pack-fits m b = omega (arith, pack-low m b, pow-mono {i = m} {j = 8 * ((m + 7) / 8)} (omega arith), bytes-pow ((m + 7) / 8))

@@ -10,7 +10,7 @@ use Rattle.auction.specs.Market.{Tables}
 use Rattle.auction.proofs.Counting.{count-start}
 use Rattle.auction.proofs.Tests.{clash}
 use Rattle.sheet.specs.Layout.{bytesOf, pack, station, bid, stated, row, layout, Fitting, Bytes}
-use Rattle.sheet.specs.Sheet.{number, guests, stations, width, hasBit, mapAt, bidsAt, next, rowAt, joined}
+use Rattle.sheet.specs.Sheet.{number, guests, stations, mapWidth, hasBit, mapAt, bidsAt, nextAt, rowAt, joined}
 use Rattle.sheet.proofs.Faults.{first-row, bids-at}
 use Rattle.sheet.proofs.Holds.{Holds, holds-left, holds-then, holds-next, holds-all, holds-self, bytes-length, holds-number, number-holds, joined-place, joined-holds, joined-each, pack-bit, pack-fits}
 
@@ -29,7 +29,7 @@ abbrev amountBytes : Tables → ℕ → List ℕ
 amountBytes t i = bytesOf 2 (getD (t .amounts) i 0)
 
 abbrev mapBytes : Tables → (ℕ → ℕ → Bool) → ℕ → List ℕ
-mapBytes t set i = bytesOf (width (m t)) (pack (m t) (set i))
+mapBytes t set i = bytesOf (mapWidth (m t)) (pack (m t) (set i))
 
 stated-length : (b : Bool) (x : ℕ) → length (stated b x) ≡ 4 * only b 1
 unfolding stated only
@@ -76,10 +76,10 @@ module _ (t : Tables) (set : ℕ → ℕ → Bool) (s : List ℕ) (i p : ℕ) wh
   amount-long = omega (arith, bytes-length 2 (getD (t .amounts) i 0))
 
   map-long : p + 2 + length (mapBytes t set i) ≡ bidsAt (m t) p
-  map-long = omega (arith, bids-at (m t) p, bytes-length (width (m t)) (pack (m t) (set i)))
+  map-long = omega (arith, bids-at (m t) p, bytes-length (mapWidth (m t)) (pack (m t) (set i)))
 
-  row-place : mapAt s (m t) p ≡ pack (m t) (set i) → next s (m t) p ≡ p + length (row t set i)
-  unfolding row next
+  row-place : mapAt s (m t) p ≡ pack (m t) (set i) → nextAt s (m t) p ≡ p + length (row t set i)
+  unfolding row nextAt
   row-place e = simp length-append (omega (arith, amount-long, map-long, bids-place s (m t) (mapAt s (m t) p) (bidsAt (m t) p) (set i) (bid t i) e))
 
   row-holds : Bytes s → number s p 2 ≡ getD (t .amounts) i 0 → mapAt s (m t) p ≡ pack (m t) (set i)
@@ -88,7 +88,7 @@ module _ (t : Tables) (set : ℕ → ℕ → Bool) (s : List ℕ) (i p : ℕ) wh
   unfolding row mapAt
   row-holds y a e h =
       holds-then s p (p + 2) (amountBytes t i) _ (number-holds s y p 2 _ a) amount-long
-      (holds-then s (p + 2) (bidsAt (m t) p) (mapBytes t set i) _ (number-holds s y (p + 2) (width (m t)) _ e) map-long
+      (holds-then s (p + 2) (bidsAt (m t) p) (mapBytes t set i) _ (number-holds s y (p + 2) (mapWidth (m t)) _ e) map-long
       (bids-hold s (m t) (mapAt s (m t) p) (bidsAt (m t) p) (set i) (bid t i) e y h))
 
   module _ (h : Holds s p (row t set i)) where
@@ -102,7 +102,7 @@ module _ (t : Tables) (set : ℕ → ℕ → Bool) (s : List ℕ) (i p : ℕ) wh
 
     row-map : mapAt s (m t) p ≡ pack (m t) (set i)
     unfolding mapAt
-    row-map = holds-number s (p + 2) (width (m t)) _ (pack-fits (m t) (set i)) (holds-left s (p + 2) (mapBytes t set i) _ after-amount)
+    row-map = holds-number s (p + 2) (mapWidth (m t)) _ (pack-fits (m t) (set i)) (holds-left s (p + 2) (mapBytes t set i) _ after-amount)
 
     row-bids : ((j : ℕ) → j < m t → bid t i j < 256 ^ 4)
         → (j : ℕ) → j < m t → set i j ≡ true → number s (bidsAt (m t) p + 4 * count j (hasBit (mapAt s (m t) p))) 4 ≡ bid t i j
@@ -141,7 +141,7 @@ pub record Fields (s : List ℕ) (t : Tables) (set : ℕ → ℕ → Bool) : Typ
       → number s (bidsAt (m t) (rowAt s (m t) i) + 4 * count j (hasBit (mapAt s (m t) (rowAt s (m t) i)))) 4 ≡ bid t i j
   pub end : rowAt s (m t) (n t) ≡ length s
 
-pub row-suc : (s : List ℕ) (m i : ℕ) → rowAt s m (suc i) ≡ next s m (rowAt s m i)
+pub row-suc : (s : List ℕ) (m i : ℕ) → rowAt s m (suc i) ≡ nextAt s m (rowAt s m i)
 unfolding rowAt
 row-suc s m i = refl
 

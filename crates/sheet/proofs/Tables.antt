@@ -1,23 +1,23 @@
 -- The answer and the tables, as the filling pass and `read` make them.
-use Prim.Native.Nat.{ℕ, zero, suc, _+_, _*_, _^_, _≤_, _<_}
+use Prim.Native.Nat.{ℕ, zero, suc, _+_, _*_, _≤_, _<_}
 use mathlib.Core.Bool.{Bool, true, false, not}
-use mathlib.Core.List.{List, [], _∷_, _++_}
-use mathlib.Core.Path.{_≡_, refl, sym, ap, ap₂, _∙_}
+use mathlib.Core.List.{List, _∷_}
+use mathlib.Core.Path.{_≡_, refl, sym, ap, _∙_}
 use native.Mathlib.Nat.{mul-le-mul-right}
 use native.Mathlib.Numerals.{add-one}
 use native.Mathlib.Omega.{arith}
 use lib.ListN.{length, length-append}
-use Rattle.auction.specs.declared.Refusal.{Refusal}
-use Rattle.auction.specs.declared.Refusal.the-variants.{LentLengths}
 use Rattle.auction.specs.Counting.{_=?_, _or_, list}
 use Rattle.auction.specs.Market.{Tables}
 use Rattle.auction.specs.Refusals.{_gives_, Verdict, accepted, refused, firstFault}
-use Rattle.auction.proofs.Tests.{eq-yes, or-no}
+use Rattle.auction.specs.declared.Refusal.the-variants.{LentLengths}
+use Rattle.auction.specs.declared.Refusal.{Refusal}
 use Rattle.auction.proofs.Counting.{length-list}
+use Rattle.auction.proofs.Tests.{eq-yes, or-no}
 use Rattle.sheet.specs.Passes.{placed}
-use Rattle.sheet.specs.Sheet.{guests, stations, mapAt, bidsAt, rowAt, askOf, baysOf, amountOf, bidBy, bidOf, joined, tablesOf, rowsFaults, sheetFaults, lent, Content, contentBy, readSheet, readInto, answerOf, over, written, Reads}
-use Rattle.sheet.specs.declared.Reading.{Reading}
+use Rattle.sheet.specs.Sheet.{guests, stations, rowAt, askOf, baysOf, amountOf, bidBy, bidOf, joined, tablesOf, rowsFaults, sheetFaults, lentTables, contentBy, readSheet, readInto, answerOf, over, written, Reads}
 use Rattle.sheet.specs.declared.Reading.the-variants.{Read, Refused}
+use Rattle.sheet.specs.declared.Reading.{Reading}
 use Rattle.sheet.proofs.Faults.{MapTaken, Sound}
 use Rattle.sheet.proofs.Filled.{Filled, filled-start, filled-row}
 use Rattle.sheet.proofs.Lists.{fault-here, fault-later}
@@ -75,8 +75,8 @@ told-refused (refused y) t x r e f = let g : y ≡ x = cc in ap refused g
 
 -- ---- `read`
 
-pub lent-lengths : (a b c d : ℕ) → lent a b c d ≡ (false gives LentLengths) → (a ≡ 200) × (b ≡ 40) × (c ≡ 40) × (d ≡ 8000)
-unfolding lent
+pub lent-lengths : (a b c d : ℕ) → lentTables a b c d ≡ (false gives LentLengths) → (a ≡ 200) × (b ≡ 40) × (c ≡ 40) × (d ≡ 8000)
+unfolding lentTables
 lent-lengths a b c d e =
     let t : (not (a =? 200) or not (b =? 40) or not (c =? 40) or not (d =? 8000)) ≡ false = cc in
     let (t1, t2) = or-no _ _ t in let (t3, t4) = or-no _ _ t1 in let (t5, t6) = or-no _ _ t3 in
@@ -90,15 +90,15 @@ pub rows-good : {s : List ℕ} {n m : ℕ} → Sound s → n ≡ guests s → m 
 rows-good t e f = rw (e, f) (t .rows-in)
 
 module _ (s a b c d : List ℕ) where
-  refused-by : (r : Refusal) → firstFault (lent (length a) (length b) (length c) (length d) ∷ sheetFaults s) ≡ refused r → Reads s a b c d (Refused r) a b c d
+  refused-by : (r : Refusal) → firstFault (lentTables (length a) (length b) (length c) (length d) ∷ sheetFaults s) ≡ refused r → Reads s a b c d (Refused r) a b c d
   unfolding readInto contentBy answerOf written
   refused-by r e = record { answers = rw e refl; amounts-are = rw e refl; asks-are = rw e refl; bays-are = rw e refl; bids-are = rw e refl }
 
-  pub refused-lent : lent (length a) (length b) (length c) (length d) ≡ (true gives LentLengths) → Reads s a b c d (Refused LentLengths) a b c d
+  pub refused-lent : lentTables (length a) (length b) (length c) (length d) ≡ (true gives LentLengths) → Reads s a b c d (Refused LentLengths) a b c d
   refused-lent e = refused-by LentLengths (rw e (fault-here _ refl))
 
-  module _ (l : lent (length a) (length b) (length c) (length d) ≡ (false gives LentLengths)) where
-    as-sheet : firstFault (lent (length a) (length b) (length c) (length d) ∷ sheetFaults s) ≡ firstFault (sheetFaults s)
+  module _ (l : lentTables (length a) (length b) (length c) (length d) ≡ (false gives LentLengths)) where
+    as-sheet : firstFault (lentTables (length a) (length b) (length c) (length d) ∷ sheetFaults s) ≡ firstFault (sheetFaults s)
     as-sheet = rw l (fault-later _ _ refl)
 
     pub refused-sheet : (x : Refusal) (r : Reading) → r ≡ answerOf (readSheet s) → r ≡ Refused x → Reads s a b c d (Refused x) a b c d
@@ -110,7 +110,7 @@ module _ (s a b c d : List ℕ) where
         → d′ ≡ over (joined n (λ i. list m (bidOf s m i))) d → Reads s a b c d (Read n m) a′ b′ c′ d′
     unfolding readInto contentBy answerOf written tablesOf
     read-all n m a′ b′ c′ d′ e f g i j k l =
-        let h : firstFault (lent (length a) (length b) (length c) (length d) ∷ sheetFaults s) ≡ accepted = as-sheet ∙ e in
+        let h : firstFault (lentTables (length a) (length b) (length c) (length d) ∷ sheetFaults s) ≡ accepted = as-sheet ∙ e in
         record {
           answers = rw (h, length-list, length-list, f, g) refl;
           amounts-are = rw (h, ← f, ← g) i;

@@ -1,5 +1,5 @@
 -- A sheet is read as a market exactly where it states that market.
-use Prim.Native.Nat.{ℕ, zero, suc, _+_, _*_, _/_, _%_, _^_, _<_, _≤_}
+use Prim.Native.Nat.{ℕ, zero, suc, _+_, _*_, _/_, _%_, _<_, _≤_}
 use mathlib.Core.Bool.{Bool, true, false}
 use mathlib.Core.List.{List, _++_}
 use mathlib.Core.Logic.{⊎-elim}
@@ -15,8 +15,8 @@ use Rattle.auction.specs.Refusals.{Verdict, accepted, refused, firstFault}
 use Rattle.auction.proofs.Counting.{up, here, length-list, getD-list}
 use Rattle.auction.proofs.Tests.{decide, only-le, only-yes, only-no}
 use Rattle.sheet.specs.Layout.{bid, Fitting, States, Bytes, ReadsExactlyWhatIsStated, StatesOneMarket}
-use Rattle.sheet.specs.Sheet.{number, guests, stations, hasBit, mapAt, bidsAt, next, rowAt, askOf, baysOf, amountOf, bidBy, bidOf, joined, tablesOf, rowFaults, rowsFaults, sheetFaults, Content, tables, fault, contentBy, readSheet}
-use Rattle.sheet.proofs.Faults.{bids-at, RowSound, sound-row, sound-at, rows-none, rows-suc, first-row, counts-good, Headed, whole, Sound, sheet-sound}
+use Rattle.sheet.specs.Sheet.{number, guests, stations, hasBit, mapAt, bidsAt, nextAt, rowAt, askOf, baysOf, amountOf, bidBy, bidOf, joined, tablesOf, rowsFaults, sheetFaults, tables, fault, contentBy, readSheet}
+use Rattle.sheet.proofs.Faults.{bids-at, RowSound, sound-row, sound-at, rows-none, rows-suc, first-row, counts-good, whole, Sound, sheet-sound}
 use Rattle.sheet.proofs.Fields.{number-low}
 use Rattle.sheet.proofs.Holds.{pack-bit, pack-low, pack-bits}
 use Rattle.sheet.proofs.Stated.{n, m, Fields, row-suc, fields-layout, layout-fields}
@@ -46,8 +46,8 @@ only-low b x h = omega (arith, only-le b x x (λ e. omega arith))
 
 -- ---- rows rise, and end where the sheet does
 
-next-more : (s : List ℕ) (m p : ℕ) → bidsAt m p ≤ next s m p
-unfolding next
+next-more : (s : List ℕ) (m p : ℕ) → bidsAt m p ≤ nextAt s m p
+unfolding nextAt
 next-more s m p = omega arith
 
 rise : (s : List ℕ) (m n i : ℕ) → i ≤ n → rowAt s m i ≤ rowAt s m n
@@ -70,7 +70,7 @@ all-sound s m (suc n) h = rows-suc s m n (all-sound s m n (λ i l. h i (up l))) 
 module _ (s : List ℕ) (t : Tables) (set : ℕ → ℕ → Bool) (g : Fitting t) (f : Fields s t set) where
   row-is-sound : (i : ℕ) → i < n t → RowSound s (m t) (rowAt s (m t) i)
   row-is-sound i l =
-      let e : next s (m t) (rowAt s (m t) i) ≤ length s = omega (arith, row-suc s (m t) i, rise s (m t) (n t) (suc i) l, f .end) in
+      let e : nextAt s (m t) (rowAt s (m t) i) ≤ length s = omega (arith, row-suc s (m t) i, rise s (m t) (n t) (suc i) l, f .end) in
       record {
         map-in = omega (arith, next-more s (m t) (rowAt s (m t) i));
         no-stray = rw (f .map-is i l) (pack-low (m t) (set i));

@@ -3,9 +3,9 @@ use Prim.Native.Nat.{ℕ}
 use mathlib.Core.List.{List, [], _∷_, _++_, map}
 use mathlib.Core.Path.{_≡_}
 use lib.ListN.{length, take}
-use Rattle.auction.specs.declared.Refusal.the-variants.{SheetEnds, CountsOutOfRange, StrayBit, TrailingBytes, LentLengths}
 use Rattle.auction.specs.Market.{Tables}
-use Rattle.sheet.specs.Sheet.{joined, Content, tables, fault, readSheet, readInto}
+use Rattle.auction.specs.declared.Refusal.the-variants.{SheetEnds, CountsOutOfRange, StrayBit, TrailingBytes, LentLengths}
+use Rattle.sheet.specs.Sheet.{joined, tables, fault, readSheet, readInto}
 
 -- Table I
 unfoldable pub sheetA : List ℕ

@@ -7,7 +7,7 @@ use lib.ListN.{length, getD}
 use Rattle.auction.specs.Counting.{only}
 use Rattle.auction.specs.Limits.{maxGuests, maxStations}
 use Rattle.auction.specs.Market.{Tables}
-use Rattle.sheet.specs.Sheet.{width, joined, tables, readSheet}
+use Rattle.sheet.specs.Sheet.{mapWidth, joined, tables, readSheet}
 
 -- x in k bytes, lowest byte first
 unfoldable pub bytesOf : (k x : ℕ) → List ℕ
@@ -32,7 +32,7 @@ stated false x = []
 
 unfoldable pub row : Tables → (ℕ → ℕ → Bool) → ℕ → List ℕ
 row t set i = bytesOf 2 (getD (t .amounts) i 0)
-    ++ (bytesOf (width (length (t .asks))) (pack (length (t .asks)) (set i))
+    ++ (bytesOf (mapWidth (length (t .asks))) (pack (length (t .asks)) (set i))
     ++ joined (length (t .asks)) (λ j. stated (set i j) (bid t i j)))
 
 -- the sheet of t with the bits `set`

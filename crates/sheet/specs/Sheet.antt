@@ -6,15 +6,15 @@ use mathlib.Core.Bool.{Bool, not}
 use mathlib.Core.List.{List, [], _∷_, _++_}
 use mathlib.Core.Path.{_≡_}
 use lib.ListN.{length, getD, drop}
-use Rattle.auction.specs.declared.Refusal.{Refusal}
-use Rattle.auction.specs.declared.Refusal.the-variants.{SheetEnds, StrayBit, TrailingBytes, LentLengths}
 use Rattle.auction.specs.Counting.{_<?_, _=?_, _or_, only, count, list}
-use Rattle.auction.specs.Limits.{maxGuests, maxStations}
-use Rattle.auction.specs.Refusals.{Row, _gives_, Verdict, accepted, refused, firstFault}
-use Rattle.auction.specs.Market.{Tables}
 use Rattle.auction.specs.Faults.{counts}
-use Rattle.sheet.specs.declared.Reading.{Reading}
+use Rattle.auction.specs.Limits.{maxGuests, maxStations}
+use Rattle.auction.specs.Market.{Tables}
+use Rattle.auction.specs.Refusals.{Row, _gives_, Verdict, accepted, refused, firstFault}
+use Rattle.auction.specs.declared.Refusal.the-variants.{SheetEnds, StrayBit, TrailingBytes, LentLengths}
+use Rattle.auction.specs.declared.Refusal.{Refusal}
 use Rattle.sheet.specs.declared.Reading.the-variants.{Read, Refused}
+use Rattle.sheet.specs.declared.Reading.{Reading}
 
 -- ---- fields
 
@@ -31,8 +31,8 @@ unfoldable pub stations : List ℕ → ℕ
 stations s = number s 2 2
 
 -- the bytes of a bit map for m stations: ceil(m / 8)
-unfoldable pub width : ℕ → ℕ
-width m = (m + 7) / 8
+unfoldable pub mapWidth : ℕ → ℕ
+mapWidth m = (m + 7) / 8
 
 -- whether a map has the bit of station j set
 unfoldable pub hasBit : (map j : ℕ) → Bool
@@ -40,18 +40,18 @@ hasBit map j = map / 2 ^ j % 2 =? 1
 
 -- of the row that starts at p: its bit map, where its bids start, where the next row starts
 unfoldable pub mapAt : List ℕ → (m p : ℕ) → ℕ
-mapAt s m p = number s (p + 2) (width m)
+mapAt s m p = number s (p + 2) (mapWidth m)
 
 unfoldable pub bidsAt : (m p : ℕ) → ℕ
-bidsAt m p = p + 2 + width m
+bidsAt m p = p + 2 + mapWidth m
 
-unfoldable pub next : List ℕ → (m p : ℕ) → ℕ
-next s m p = bidsAt m p + 4 * count m (hasBit (mapAt s m p))
+unfoldable pub nextAt : List ℕ → (m p : ℕ) → ℕ
+nextAt s m p = bidsAt m p + 4 * count m (hasBit (mapAt s m p))
 
 -- where the row of guest i starts
 unfoldable pub rowAt : List ℕ → (m i : ℕ) → ℕ
 rowAt s m zero = 4 + 6 * m
-rowAt s m (suc i) = next s m (rowAt s m i)
+rowAt s m (suc i) = nextAt s m (rowAt s m i)
 
 unfoldable pub askOf : List ℕ → ℕ → ℕ
 askOf s j = number s (4 + 6 * j) 4
@@ -84,14 +84,14 @@ tablesOf s = record {
   width = stations s;
 }
 
--- ---- faults. Fields that follow each other with no other fault between them share a row: the stations, the bids of a guest
+-- ---- faults, in the order of the table. Fields with no other fault between them share a row: those of the stations, the bids of a guest
 
 unfoldable pub rowFaults : List ℕ → (m p : ℕ) → List Row
 rowFaults s m p =
     (length s <? p + 2 gives SheetEnds)
     ∷ (length s <? bidsAt m p gives SheetEnds)
     ∷ (0 <? mapAt s m p / 2 ^ m gives StrayBit)
-    ∷ (length s <? next s m p gives SheetEnds)
+    ∷ (length s <? nextAt s m p gives SheetEnds)
     ∷ []
 
 unfoldable pub rowsFaults : List ℕ → (m n : ℕ) → List Row
@@ -106,12 +106,13 @@ sheetFaults s =
     ++ ((rowAt s (stations s) (guests s) <? length s gives TrailingBytes) ∷ []))
 
 -- the lengths of the lent tables
-unfoldable pub lent : (amounts asks bays bids : ℕ) → Row
-lent amounts asks bays bids =
+unfoldable pub lentTables : (amounts asks bays bids : ℕ) → Row
+lentTables amounts asks bays bids =
     (not (amounts =? maxGuests) or not (asks =? maxStations) or not (bays =? maxStations) or not (bids =? maxGuests * maxStations)) gives LentLengths
 
 -- ---- the reading
 
+-- what bytes come to
 pub data Content : Type 0 where
   fault : Refusal → Content
   tables : Tables → Content
@@ -120,15 +121,16 @@ unfoldable pub contentBy : Verdict → Tables → Content
 contentBy accepted t = tables t
 contentBy (refused r) t = fault r
 
--- what a sheet holds
+-- what a sheet comes to
 unfoldable pub readSheet : List ℕ → Content
 readSheet s = contentBy (firstFault (sheetFaults s)) (tablesOf s)
 
 -- what a call of the reader finds: it looks at the lent tables first
 unfoldable pub readInto : (amounts asks bays bids : List ℕ) → List ℕ → Content
 readInto amounts asks bays bids s =
-    contentBy (firstFault (lent (length amounts) (length asks) (length bays) (length bids) ∷ sheetFaults s)) (tablesOf s)
+    contentBy (firstFault (lentTables (length amounts) (length asks) (length bays) (length bids) ∷ sheetFaults s)) (tablesOf s)
 
+-- the answer: n and m, or a refusal, whose number is that of `number` in auction
 unfoldable pub answerOf : Content → Reading
 answerOf (fault r) = Refused r
 answerOf (tables t) = Read (length (t .amounts)) (length (t .asks))

@@ -2,15 +2,22 @@
 ghost use Prim.Native.Nat.{_+_, _*_, _^_, _<_, _≤_};
 ghost use mathlib.Core.Path.{_≡_};
 ghost use lib.ListN.{length};
-ghost use Rattle.auction.specs.Counting.{_<?_, only, count, list};
+ghost use Rattle.auction.specs.Counting.{_<?_, only, count};
 ghost use Rattle.auction.specs.Faults.{counts};
+ghost use Rattle.auction.specs.Limits.{maxStations};
 ghost use Rattle.auction.specs.Refusals.{_gives_, accepted, firstFault};
 ghost use Rattle.auction.specs.declared.Refusal.the-variants.{CountsOutOfRange, LentLengths};
-ghost use Rattle.sheet.specs.Passes.{Taken, stepBy, placed};
-ghost use Rattle.sheet.specs.Sheet.{number, width, hasBit, next, rowAt, askOf, baysOf, amountOf, bidBy, bidOf, joined, rowFaults, rowsFaults, lent, readSheet, answerOf, over, Reads};
+ghost use Rattle.sheet.specs.Passes.{Taken, BidTaken, stepBy, StationsFilled, RowFilled, RowsFilled};
+ghost use Rattle.sheet.specs.Sheet.{number, mapWidth, hasBit, nextAt, rowAt, bidBy, rowFaults, rowsFaults, lentTables, readSheet, answerOf, Reads};
 use auction::MAX_GUESTS;
 use auction::MAX_STATIONS;
 use auction::Refusal;
+
+// What a sheet comes to: the counts of the market read, or the refusal.
+pub enum Reading {
+    Read { guests: usize, stations: usize },
+    Refused(Refusal),
+}
 
 // The place reached in a sheet.
 struct Cursor {
@@ -94,8 +101,8 @@ impl Cursor {
     }
 
     fn map(self, s: &[u8], stations: usize) -> Map
-        requires { ⌜ (stations ≤ 40) × (self .at + width stations ≤ length (now s)) ⌝ }
-        ensures { λ r. ⌜ Taken (now (s .entry)) (self .at) (width stations) (r .bits) (r .next) ⌝ }
+        requires { ⌜ (stations ≤ maxStations) × (self .at + mapWidth stations ≤ length (now s)) ⌝ }
+        ensures { λ r. ⌜ Taken (now (s .entry)) (self .at) (mapWidth stations) (r .bits) (r .next) ⌝ }
     {
         let at = self.at;
         let k = map_width(stations);
@@ -107,8 +114,8 @@ impl Cursor {
 }
 
 fn map_width(stations: usize) -> usize
-    requires { ⌜ stations ≤ 40 ⌝ }
-    ensures { λ r. ⌜ r ≡ width stations ⌝ }
+    requires { ⌜ stations ≤ maxStations ⌝ }
+    ensures { λ r. ⌜ r ≡ mapWidth stations ⌝ }
 {
     (stations + 7) / 8
 }
@@ -136,8 +143,8 @@ enum Step {
 }
 
 fn check_row(s: &[u8], c: Cursor, stations: usize) -> Step
-    requires { ⌜ (stations ≤ 40) × (c .at ≤ length (now s)) ⌝ }
-    ensures { λ r. ⌜ r ≡ stepBy (firstFault (rowFaults (now (s .entry)) stations (c .at))) (next (now (s .entry)) stations (c .at)) ⌝ }
+    requires { ⌜ (stations ≤ maxStations) × (c .at ≤ length (now s)) ⌝ }
+    ensures { λ r. ⌜ r ≡ stepBy (firstFault (rowFaults (now (s .entry)) stations (c .at))) (nextAt (now (s .entry)) stations (c .at)) ⌝ }
 {
     if c.ends(s, 2) {
         return Step::Fault(Refusal::SheetEnds);
@@ -159,7 +166,7 @@ fn check_row(s: &[u8], c: Cursor, stations: usize) -> Step
 }
 
 fn check_rows(s: &[u8], c: Cursor, guests: usize, stations: usize) -> Step
-    requires { ⌜ (stations ≤ 40) × (c .at ≤ length (now s)) × (c .at ≡ rowAt (now s) stations 0) ⌝ }
+    requires { ⌜ (stations ≤ maxStations) × (c .at ≤ length (now s)) × (c .at ≡ rowAt (now s) stations 0) ⌝ }
     ensures { λ r. ⌜ r ≡ stepBy (firstFault (rowsFaults (now (s .entry)) stations guests)) (rowAt (now (s .entry)) stations guests) ⌝ }
 {
     let mut d = c;
@@ -217,9 +224,7 @@ fn check(s: &[u8]) -> Reading
 
 fn fill_stations(s: &[u8], c: Cursor, stations: usize, asks: &mut [u32], bays: &mut [u16]) -> Cursor
     requires { ⌜ (c .at ≡ 4) × (4 + 6 * stations ≤ length (now s)) × (stations ≤ length (now asks)) × (stations ≤ length (now bays)) ⌝ }
-    ensures { λ r. ⌜ r .at ≡ 4 + 6 * stations ⌝ }
-    ensures { λ _. ⌜ now (asks .exit) ≡ over (list stations (askOf (now (s .entry)))) (now (asks .entry)) ⌝ }
-    ensures { λ _. ⌜ now (bays .exit) ≡ over (list stations (baysOf (now (s .entry)))) (now (bays .entry)) ⌝ }
+    ensures { λ r. ⌜ StationsFilled (now (s .entry)) stations (now (asks .entry)) (now (bays .entry)) r (now (asks .exit)) (now (bays .exit)) ⌝ }
 {
     let mut d = c;
     let mut j = 0;
@@ -237,7 +242,7 @@ fn fill_stations(s: &[u8], c: Cursor, stations: usize, asks: &mut [u32], bays: &
 // The bid of a station by its row's map, with c where its field stands if it has one.
 fn take_bid(s: &[u8], c: Cursor, bits: u64, station: usize) -> Long
     requires { ⌜ (station < 64) × (c .at + 4 * only (hasBit bits station) 1 ≤ length (now s)) ⌝ }
-    ensures { λ r. ⌜ (r .value ≡ only (hasBit bits station) (number (now (s .entry)) (c .at) 4)) × (r .next .at ≡ c .at + 4 * only (hasBit bits station) 1) ⌝ }
+    ensures { λ r. ⌜ BidTaken (now (s .entry)) (c .at) (hasBit bits station) (r .value) (r .next) ⌝ }
 {
     if has_bit(bits, station) {
         c.four(s)
@@ -255,9 +260,8 @@ fn fill_some(
     base: usize,
     bids: &mut [u32],
 ) -> Cursor
-    requires { ⌜ (stations ≤ 40) × (c .at + 4 * count stations (hasBit bits) ≤ length (now s)) × (base + stations ≤ length (now bids)) ⌝ }
-    ensures { λ r. ⌜ r .at ≡ c .at + 4 * count stations (hasBit bits) ⌝ }
-    ensures { λ _. ⌜ now (bids .exit) ≡ placed base stations (bidBy (now (s .entry)) bits (c .at)) (now (bids .entry)) ⌝ }
+    requires { ⌜ (stations ≤ maxStations) × (c .at + 4 * count stations (hasBit bits) ≤ length (now s)) × (base + stations ≤ length (now bids)) ⌝ }
+    ensures { λ r. ⌜ RowFilled (c .at + 4 * count stations (hasBit bits)) base stations (bidBy (now (s .entry)) bits (c .at)) (now (bids .entry)) r (now (bids .exit)) ⌝ }
 {
     let mut d = c;
     let mut j = 0;
@@ -273,15 +277,14 @@ fn fill_some(
 // The same where the bits of all stations are set.
 fn fill_all(s: &[u8], c: Cursor, stations: usize, base: usize, bids: &mut [u32]) -> Cursor
     requires { ⌜ (c .at + 4 * stations ≤ length (now s)) × (base + stations ≤ length (now bids)) ⌝ }
-    ensures { λ r. ⌜ r .at ≡ c .at + 4 * stations ⌝ }
-    ensures { λ _. ⌜ now (bids .exit) ≡ placed base stations (λ j. number (now (s .entry)) (c .at + 4 * j) 4) (now (bids .entry)) ⌝ }
+    ensures { λ r. ⌜ RowFilled (c .at + 4 * stations) base stations (λ j. number (now (s .entry)) (c .at + 4 * j) 4) (now (bids .entry)) r (now (bids .exit)) ⌝ }
 {
     let mut d = c;
     let mut j = 0;
     while j < stations {
-        let bid = d.four(s);
-        bids[base + j] = bid.value;
-        d = bid.next;
+        let field = d.four(s);
+        bids[base + j] = field.value;
+        d = field.next;
         j += 1;
     }
     d
@@ -295,9 +298,8 @@ fn fill_row(
     base: usize,
     bids: &mut [u32],
 ) -> Cursor
-    requires { ⌜ (stations ≤ 40) × (bits < 2 ^ stations) × (c .at + 4 * count stations (hasBit bits) ≤ length (now s)) × (base + stations ≤ length (now bids)) ⌝ }
-    ensures { λ r. ⌜ r .at ≡ c .at + 4 * count stations (hasBit bits) ⌝ }
-    ensures { λ _. ⌜ now (bids .exit) ≡ placed base stations (bidBy (now (s .entry)) bits (c .at)) (now (bids .entry)) ⌝ }
+    requires { ⌜ (stations ≤ maxStations) × (bits < 2 ^ stations) × (c .at + 4 * count stations (hasBit bits) ≤ length (now s)) × (base + stations ≤ length (now bids)) ⌝ }
+    ensures { λ r. ⌜ RowFilled (c .at + 4 * count stations (hasBit bits)) base stations (bidBy (now (s .entry)) bits (c .at)) (now (bids .entry)) r (now (bids .exit)) ⌝ }
 {
     if count_bits(bits) == stations {
         return fill_all(s, c, stations, base, bids);
@@ -313,9 +315,8 @@ fn fill_rows(
     amounts: &mut [u16],
     bids: &mut [u32],
 )
-    requires { ⌜ (stations ≤ 40) × (c .at ≡ rowAt (now s) stations 0) × (firstFault (rowsFaults (now s) stations guests) ≡ accepted) × (guests ≤ length (now amounts)) × (guests * stations ≤ length (now bids)) ⌝ }
-    ensures { λ _. ⌜ now (amounts .exit) ≡ over (list guests (amountOf (now (s .entry)) stations)) (now (amounts .entry)) ⌝ }
-    ensures { λ _. ⌜ now (bids .exit) ≡ over (joined guests (λ i. list stations (bidOf (now (s .entry)) stations i))) (now (bids .entry)) ⌝ }
+    requires { ⌜ (stations ≤ maxStations) × (c .at ≡ rowAt (now s) stations 0) × (firstFault (rowsFaults (now s) stations guests) ≡ accepted) × (guests ≤ length (now amounts)) × (guests * stations ≤ length (now bids)) ⌝ }
+    ensures { λ _. ⌜ RowsFilled (now (s .entry)) guests stations (now (amounts .entry)) (now (bids .entry)) (now (amounts .exit)) (now (bids .exit)) ⌝ }
 {
     let mut d = c;
     let mut i = 0;
@@ -328,14 +329,8 @@ fn fill_rows(
     }
 }
 
-// What a sheet comes to: the counts of the market read, or the refusal.
-pub enum Reading {
-    Read { guests: usize, stations: usize },
-    Refused(Refusal),
-}
-
 fn mislent(amounts: usize, asks: usize, bays: usize, bids: usize) -> bool
-    ensures { λ r. ⌜ lent amounts asks bays bids ≡ (r gives LentLengths) ⌝ }
+    ensures { λ r. ⌜ lentTables amounts asks bays bids ≡ (r gives LentLengths) ⌝ }
 {
     (amounts != MAX_GUESTS)
         | (asks != MAX_STATIONS)

@@ -1,15 +1,16 @@
-use borrow.Author.Needs.{needs}
-use Rattle.sheet.proofs.Tables.{answer-fault, answer-read}
-use Rattle.sheet.proofs.Faults.{Headed, headed, sheet-short, bad-counts, stations-end, bad-rows, trailing, whole, first-row, counted, told-next, told-fault}
-use Rattle.auction.proofs.Tests.{lt-yes, lt-no}
-use Rattle.auction.specs.declared.Refusal.the-variants.{CountsOutOfRange}
-use Rattle.auction.specs.Refusals.{_gives_}
-use Rattle.auction.specs.Faults.{counts}
-use mathlib.Core.Bool.{true, false}
-use mathlib.Core.Path.{_≡_, _∙_, sym, refl, ap}
-use lib.ListN.{length}
+-- Each return is a row of `sheetFaults`, in its order.
 use Prim.Native.Nat.{_+_, _*_, _≤_}
+use mathlib.Core.Bool.{false}
+use mathlib.Core.Path.{_≡_, _∙_, sym, ap}
+use borrow.Author.Needs.{needs}
 use native.Mathlib.Omega.{arith}
+use lib.ListN.{length}
+use Rattle.auction.specs.Faults.{counts}
+use Rattle.auction.specs.Refusals.{_gives_}
+use Rattle.auction.specs.declared.Refusal.the-variants.{CountsOutOfRange}
+use Rattle.auction.proofs.Tests.{lt-yes, lt-no}
+use Rattle.sheet.proofs.Faults.{Headed, headed, sheet-short, bad-counts, stations-end, bad-rows, trailing, whole, first-row, counted, told-next, told-fault}
+use Rattle.sheet.proofs.Tables.{answer-fault, answer-read}
 use Rattle.sheet.proofs.check.Statement.{statement}
 use Rattle.sheet.proofs.check.Tie as tie
 
@@ -53,7 +54,9 @@ ends-requires-2 : tie.Need-ends-requires-2
 ends-requires-2 c κs = omega (arith, head (c .before .before .before .before .before) .within, c .before .before .before .before .before .two2 .ensures .place, c .before .before .before .before .before .before .two .ensures .place)
 
 returns-3 : tie.Need-returns-3
-returns-3 c = answer-fault _ _ (stations-end (head (c .before .before .before .before .before .before .before)) (good (c .before .before .before)) (omega (arith, lt-yes _ _ (sym (c .before .ends2 .ensures) ∙ c .if3 .taken), c .before .before .before .before .before .before .before .two2 .ensures .place, c .before .before .before .before .before .before .before .before .two .ensures .place)))
+returns-3 c =
+    let h = lt-yes _ _ (sym (c .before .ends2 .ensures) ∙ c .if3 .taken) in
+    answer-fault _ _ (stations-end (head (c .before .before .before .before .before .before .before)) (good (c .before .before .before)) (omega (arith, h, c .before .before .before .before .before .before .before .two2 .ensures .place, c .before .before .before .before .before .before .before .before .two .ensures .place)))
 
 mul-skip : tie.Need-mul-skip
 mul-skip c = search needs
@@ -62,19 +65,27 @@ skip-requires : tie.Need-skip-requires
 skip-requires c κs = search needs
 
 check-rows-requires : tie.Need-check-rows-requires
-check-rows-requires c κs = (omega (arith, counted _ _ (good (c .before .before .before .before)) .2), omega (arith, c .skip .ensures, lt-no _ _ (sym (c .before .before .ends2 .ensures) ∙ c .before .if3 .left)), omega (arith, c .skip .ensures, first-row (c .before .before .before .before .before .before .before .before .before .before .before .before .before .args .s .now) (c .before .before .before .before .before .before .before .before .two2 .result .value), c .before .before .before .before .before .before .before .before .two2 .ensures .place, c .before .before .before .before .before .before .before .before .before .two .ensures .place))
+check-rows-requires c κs = (
+  omega (arith, counted _ _ (good (c .before .before .before .before)) .2),
+  omega (arith, c .skip .ensures, lt-no _ _ (sym (c .before .before .ends2 .ensures) ∙ c .before .if3 .left)),
+  omega (arith, c .skip .ensures, first-row (c .before .before .before .before .before .before .before .before .before .before .before .before .before .args .s .now) (c .before .before .before .before .before .before .before .before .two2 .result .value), c .before .before .before .before .before .before .before .before .two2 .ensures .place, c .before .before .before .before .before .before .before .before .before .two .ensures .place),
+)
 
 enum-known-end : tie.Need-enum-known-end
 enum-known-end c = search needs
 
 returns-4 : tie.Need-returns-4
-returns-4 c = let t = told-next _ _ _ _ (c .before .before .before .before .before .check-rows .ensures) (c .before .before .before .end .given .1) in answer-fault _ _ (trailing (head (c .before .before .before .before .before .before .before .before .before .before .before .before .before .before)) (good (c .before .before .before .before .before .before .before .before .before .before)) (enough (c .before .before .before .before .before .before .before)) (t .0) (omega (arith, t .1, c .if4 .taken)))
+returns-4 c =
+    let t = told-next _ _ _ _ (c .before .before .before .before .before .check-rows .ensures) (c .before .before .before .end .given .1) in
+    answer-fault _ _ (trailing (head (c .before .before .before .before .before .before .before .before .before .before .before .before .before .before)) (good (c .before .before .before .before .before .before .before .before .before .before)) (enough (c .before .before .before .before .before .before .before)) (t .0) (omega (arith, t .1, c .if4 .taken)))
 
 enum-known-r : tie.Need-enum-known-r
 enum-known-r c = search needs
 
 returns-5 : tie.Need-returns-5
-returns-5 c = let t = told-next _ _ _ _ (c .before .before .before .before .before .check-rows .ensures) (c .before .before .before .end .given .1) in answer-read _ _ _ (whole (head (c .before .before .before .before .before .before .before .before .before .before .before .before .before .before)) (good (c .before .before .before .before .before .before .before .before .before .before)) (enough (c .before .before .before .before .before .before .before)) (t .0) (omega (arith, t .1, c .if4 .left))) (head (c .before .before .before .before .before .before .before .before .before .before .before .before .before .before) .n-is) (head (c .before .before .before .before .before .before .before .before .before .before .before .before .before .before) .m-is)
+returns-5 c =
+    let t = told-next _ _ _ _ (c .before .before .before .before .before .check-rows .ensures) (c .before .before .before .end .given .1) in let h = head (c .before .before .before .before .before .before .before .before .before .before .before .before .before .before) in
+    answer-read _ _ _ (whole h (good (c .before .before .before .before .before .before .before .before .before .before)) (enough (c .before .before .before .before .before .before .before)) (t .0) (omega (arith, t .1, c .if4 .left))) (h .n-is) (h .m-is)
 
 returns-6 : tie.Need-returns-6
 returns-6 c = answer-fault _ _ (bad-rows (head (c .before .before .before .before .before .before .before .before .before .before .before .before)) (good (c .before .before .before .before .before .before .before .before)) (enough (c .before .before .before .before .before)) (told-fault _ _ _ _ (c .before .before .before .check-rows .ensures) (c .before .r .given .1)))

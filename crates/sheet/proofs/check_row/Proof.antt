@@ -1,10 +1,11 @@
+-- Each return is a row of `rowFaults`, in its order.
+use mathlib.Core.Path.{_∙_, sym}
 use borrow.Author.Needs.{needs}
+use native.Mathlib.Omega.{arith}
+use Rattle.auction.proofs.Tests.{lt-yes, lt-no}
+use Rattle.sheet.specs.Sheet.{hasBit}
 use Rattle.sheet.proofs.Faults.{MapTaken, map-taken, step-fault, step-next, amount-ends, map-ends, stray, bids-end, row-good, next-is, bids-at}
 use Rattle.sheet.proofs.Lists.{count-le}
-use Rattle.sheet.specs.Sheet.{hasBit}
-use Rattle.auction.proofs.Tests.{lt-yes, lt-no}
-use mathlib.Core.Path.{_∙_, sym}
-use native.Mathlib.Omega.{arith}
 use Rattle.sheet.proofs.check_row.Statement.{statement}
 use Rattle.sheet.proofs.check_row.Tie as tie
 
@@ -27,7 +28,10 @@ ends-requires-2 : tie.Need-ends-requires-2
 ends-requires-2 c κs = omega (arith, lt-no _ _ (sym (c .before .before .before .ends .ensures) ∙ c .before .before .if1 .left), c .before .skip .ensures)
 
 returns-2 : tie.Need-returns-2
-returns-2 c = step-fault _ _ _ (map-ends _ _ _ (lt-no _ _ (sym (c .before .before .before .before .before .ends .ensures) ∙ c .before .before .before .before .if1 .left)) (omega (arith, lt-yes _ _ (sym (c .before .ends2 .ensures) ∙ c .if2 .taken), c .before .before .before .skip .ensures, c .before .before .map-width .ensures, bids-at (c .before .before .before .before .before .before .before .args .stations) (c .before .before .before .before .before .before .before .args .c .at))))
+returns-2 c =
+    let h = lt-no _ _ (sym (c .before .before .before .before .before .ends .ensures) ∙ c .before .before .before .before .if1 .left) in
+    let g = lt-yes _ _ (sym (c .before .ends2 .ensures) ∙ c .if2 .taken) in
+    step-fault _ _ _ (map-ends _ _ _ h (omega (arith, g, c .before .before .before .skip .ensures, c .before .before .map-width .ensures, bids-at (c .before .before .before .before .before .before .before .args .stations) (c .before .before .before .before .before .before .before .args .c .at))))
 
 map-requires : tie.Need-map-requires
 map-requires c κs = (omega arith, omega (arith, lt-no _ _ (sym (c .before .ends2 .ensures) ∙ c .if2 .left), c .before .before .map-width .ensures))
@@ -48,13 +52,17 @@ ends-requires-3 : tie.Need-ends-requires-3
 ends-requires-3 c κs = omega (arith, taken (c .before .before .before .before) .to, taken (c .before .before .before .before) .within)
 
 returns-4 : tie.Need-returns-4
-returns-4 c = step-fault _ _ _ (bids-end (taken (c .before .before .before .before .before .before)) (omega arith) (c .before .before .before .before .if3 .left) (omega (arith, lt-yes _ _ (sym (c .before .ends3 .ensures) ∙ c .if4 .taken), c .before .before .before .count-bits .ensures)))
+returns-4 c =
+    let h = lt-yes _ _ (sym (c .before .ends3 .ensures) ∙ c .if4 .taken) in
+    step-fault _ _ _ (bids-end (taken (c .before .before .before .before .before .before)) (omega arith) (c .before .before .before .before .if3 .left) (omega (arith, h, c .before .before .before .count-bits .ensures)))
 
 skip-requires-2 : tie.Need-skip-requires-2
 skip-requires-2 c κs = omega (arith, lt-no _ _ (sym (c .before .ends3 .ensures) ∙ c .if4 .left))
 
 returns-5 : tie.Need-returns-5
-returns-5 c = let h = lt-no _ _ (sym (c .before .before .ends3 .ensures) ∙ c .before .if4 .left) in step-next _ _ _ (row-good (taken (c .before .before .before .before .before .before .before)) (omega arith) (c .before .before .before .before .before .if3 .left) (omega (arith, h, c .before .before .before .before .count-bits .ensures))) (omega (arith, c .skip2 .ensures, c .before .before .before .before .count-bits .ensures, next-is (taken (c .before .before .before .before .before .before .before)) (omega arith) (c .before .before .before .before .before .if3 .left)))
+returns-5 c =
+    let h = lt-no _ _ (sym (c .before .before .ends3 .ensures) ∙ c .before .if4 .left) in let n = c .before .before .before .before .count-bits .ensures in let t = taken (c .before .before .before .before .before .before .before) in
+    step-next _ _ _ (row-good t (omega arith) (c .before .before .before .before .before .if3 .left) (omega (arith, h, n))) (omega (arith, c .skip2 .ensures, n, next-is t (omega arith) (c .before .before .before .before .before .if3 .left)))
 
 pub check-row-spec : {M : Type 1} → statement M
 check-row-spec =

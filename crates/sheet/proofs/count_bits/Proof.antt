@@ -1,7 +1,7 @@
-use borrow.Author.Needs.{needs}
-use Rattle.sheet.proofs.Fields.{ones-count}
-use lib.Count.{ones-le}
+-- The processor's count of bits is the definition's.
 use native.Mathlib.Omega.{arith}
+use lib.Count.{ones-le}
+use Rattle.sheet.proofs.Fields.{ones-count}
 use Rattle.sheet.proofs.count_bits.Statement.{statement}
 use Rattle.sheet.proofs.count_bits.Tie as tie
 

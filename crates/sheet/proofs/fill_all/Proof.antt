@@ -1,14 +1,15 @@
-use borrow.Author.Needs.{needs}
-use Rattle.sheet.proofs.Fields.{moved}
-use Rattle.sheet.specs.Sheet.{number}
-use Rattle.sheet.proofs.Filled.{Filled, row-start, row-turn, row-end}
-use Rattle.auction.specs.Counting.{list}
-use native.Mathlib.Nat.{le-antisymm}
-use lib.ListN.{take}
+-- The loop: the first j places of the row hold the first j fields.
+use Prim.Native.Nat.{_≤_, _+_, _*_, _-_}
 use mathlib.Core.List.{_++_}
 use mathlib.Core.Path.{_≡_}
-use Prim.Native.Nat.{_≤_, _+_, _*_, _-_}
+use borrow.Author.Needs.{needs}
+use native.Mathlib.Nat.{le-antisymm}
 use native.Mathlib.Omega.{arith}
+use lib.ListN.{take}
+use Rattle.auction.specs.Counting.{list}
+use Rattle.sheet.specs.Sheet.{number}
+use Rattle.sheet.proofs.Fields.{moved}
+use Rattle.sheet.proofs.Filled.{Filled, row-start, row-turn, row-end}
 use Rattle.sheet.proofs.fill_all.Statement.{statement}
 use Rattle.sheet.proofs.fill_all.Tie as tie
 
@@ -40,13 +41,19 @@ loop-less : tie.Need-loop-less Inv-loop μ-loop
 loop-less c = search needs
 
 loop-again : tie.Need-loop-again Inv-loop μ-loop
-loop-again c = (search needs, omega (arith, c .before .four .ensures .place), row-turn _ _ _ _ _ _ (c .before .before .before .loop .inv .2) (omega arith) (moved _ 4 _ _ (c .before .four .ensures .value) (c .before .before .before .loop .inv .1)))
+loop-again c = (
+  search needs,
+  omega (arith, c .before .four .ensures .place),
+  row-turn _ _ _ _ _ _ (c .before .before .before .loop .inv .2) (omega arith) (moved _ 4 _ _ (c .before .four .ensures .value) (c .before .before .before .loop .inv .1)),
+)
 
 same-length : tie.Need-same-length Inv-loop μ-loop
 same-length c = c .before .loop .inv .2 .same
 
 returns : tie.Need-returns Inv-loop μ-loop
-returns c = let e = le-antisymm (c .before .loop .inv .0) (c .loop-test .left) in (omega arith, row-end _ _ _ _ _ _ (c .before .loop .inv .2) e)
+returns c =
+    let e = le-antisymm (c .before .loop .inv .0) (c .loop-test .left) in
+    record { place = omega arith; bids-are = row-end _ _ _ _ _ _ (c .before .loop .inv .2) e }
 
 pub fill-all-spec : {M : Type 1} → statement M
 fill-all-spec =

@@ -1,10 +1,11 @@
-use borrow.Author.Needs.{needs}
-use Rattle.sheet.proofs.Filled.{placed-cong}
-use Rattle.sheet.proofs.Fields.{count-narrow, bid-full}
-use Rattle.sheet.specs.Sheet.{hasBit}
-use Rattle.auction.specs.Counting.{count}
+-- Where as many bits are set as there are stations, all are.
 use mathlib.Core.Path.{_≡_, _∙_, sym}
+use borrow.Author.Needs.{needs}
 use native.Mathlib.Omega.{arith}
+use Rattle.auction.specs.Counting.{count}
+use Rattle.sheet.specs.Sheet.{hasBit}
+use Rattle.sheet.proofs.Fields.{count-narrow, bid-full}
+use Rattle.sheet.proofs.Filled.{placed-cong}
 use Rattle.sheet.proofs.fill_row.Statement.{statement}
 use Rattle.sheet.proofs.fill_row.Tie as tie
 
@@ -21,7 +22,10 @@ same-length : tie.Need-same-length
 same-length c = search needs
 
 returns : tie.Need-returns
-returns c = (omega (arith, c .before .before .fill-all .ensures .0, full (c .before .before .before .before)), c .before .before .fill-all .ensures .1 ∙ placed-cong _ _ _ _ _ (bid-full _ _ _ _ (full (c .before .before .before .before))))
+returns c = record {
+  place = omega (arith, c .before .before .fill-all .ensures .place, full (c .before .before .before .before));
+  bids-are = c .before .before .fill-all .ensures .bids-are ∙ placed-cong _ _ _ _ _ (bid-full _ _ _ _ (full (c .before .before .before .before)));
+}
 
 fill-some-requires : tie.Need-fill-some-requires
 fill-some-requires c κs = search needs

@@ -1,14 +1,15 @@
-use borrow.Author.Needs.{needs}
-use Rattle.sheet.proofs.Tables.{rows-start, rows-turn, rows-end, room}
-use Rattle.sheet.proofs.Filled.{Filled, filled-start, filled-turn, filled-end}
-use Rattle.sheet.proofs.Fields.{moved}
-use Rattle.sheet.proofs.Faults.{MapTaken, map-taken, RowSound, sound-at, bids-at, to-next, rows-to}
-use Rattle.sheet.specs.Sheet.{rowAt, amountOf, bidOf, joined}
-use Rattle.auction.specs.Counting.{list}
-use native.Mathlib.Nat.{le-antisymm}
+-- The loop: the tables hold the first i rows, and d is where the next one starts. No field ends early, for each row is sound.
+use Prim.Native.Nat.{_≤_, _-_}
 use mathlib.Core.Path.{_≡_, _∙_}
-use Prim.Native.Nat.{_≤_, _-_, _+_, _*_}
+use borrow.Author.Needs.{needs}
+use native.Mathlib.Nat.{le-antisymm}
 use native.Mathlib.Omega.{arith}
+use Rattle.auction.specs.Counting.{list}
+use Rattle.sheet.specs.Sheet.{rowAt, amountOf, bidOf, joined}
+use Rattle.sheet.proofs.Faults.{MapTaken, map-taken, RowSound, sound-at, bids-at, to-next, rows-to}
+use Rattle.sheet.proofs.Fields.{moved}
+use Rattle.sheet.proofs.Filled.{Filled, filled-start, filled-turn, filled-end}
+use Rattle.sheet.proofs.Tables.{rows-start, rows-turn, rows-end, room}
 use Rattle.sheet.proofs.fill_rows.Statement.{statement}
 use Rattle.sheet.proofs.fill_rows.Tie as tie
 
@@ -43,7 +44,13 @@ mul-fill-row : tie.Need-mul-fill-row Inv-loop μ-loop
 mul-fill-row c = omega (arith, room _ _ _ _ (c .before .before .loop-test .taken) (c .before .before .before .before .before .before .before .pre .4))
 
 fill-row-requires : tie.Need-fill-row-requires Inv-loop μ-loop
-fill-row-requires c κs = let t = taken (c .before) in let r = sound (c .before .before .before) in (omega arith, rw (t .map) (r .no-stray), omega (arith, to-next t, r .bids-in), omega (arith, c .before .before .before .before .loop .inv .3 .same, room _ _ _ _ (c .before .before .before .loop-test .taken) (c .before .before .before .before .before .before .before .before .pre .4)))
+fill-row-requires c κs =
+    let t = taken (c .before) in let r = sound (c .before .before .before) in (
+      omega arith,
+      rw (t .map) (r .no-stray),
+      omega (arith, to-next t, r .bids-in),
+      omega (arith, c .before .before .before .before .loop .inv .3 .same, room _ _ _ _ (c .before .before .before .loop-test .taken) (c .before .before .before .before .before .before .before .before .pre .4)),
+    )
 
 add-i : tie.Need-add-i Inv-loop μ-loop
 add-i c = search needs
@@ -53,7 +60,13 @@ loop-less c = search needs
 
 loop-again : tie.Need-loop-again Inv-loop μ-loop
 unfolding amountOf
-loop-again c = let t = taken (c .before .before .before .before) in (search needs, c .before .before .fill-row .ensures .0 ∙ to-next t ∙ rows-to _ _ _ _ (c .before .before .before .before .before .before .before .loop .inv .1), filled-turn _ _ _ _ _ (c .before .before .before .before .before .before .before .loop .inv .2) (omega arith) (moved _ 2 _ _ (c .before .before .before .before .before .two .ensures .value) (c .before .before .before .before .before .before .before .loop .inv .1)), rows-turn _ _ _ _ _ _ _ _ _ (c .before .before .before .before .before .before .before .loop .inv .3) (c .before .before .before .before .before .before .before .loop .inv .1) t (c .before .before .fill-row .kept .1 .1 .1 .1 .1 .0) (c .before .before .fill-row .ensures .1))
+loop-again c =
+    let t = taken (c .before .before .before .before) in let p = c .before .before .before .before .before .before .before .loop .inv .1 in (
+      search needs,
+      c .before .before .fill-row .ensures .place ∙ to-next t ∙ rows-to _ _ _ _ p,
+      filled-turn _ _ _ _ _ (c .before .before .before .before .before .before .before .loop .inv .2) (omega arith) (moved _ 2 _ _ (c .before .before .before .before .before .two .ensures .value) p),
+      rows-turn _ _ _ _ _ _ _ _ _ (c .before .before .before .before .before .before .before .loop .inv .3) p t (c .before .before .fill-row .kept .1 .1 .1 .1 .1 .0) (c .before .before .fill-row .ensures .bids-are),
+    )
 
 same-length : tie.Need-same-length Inv-loop μ-loop
 same-length c = c .before .loop .inv .2 .same
@@ -62,7 +75,9 @@ same-length-2 : tie.Need-same-length-2 Inv-loop μ-loop
 same-length-2 c = c .before .loop .inv .3 .same
 
 returns : tie.Need-returns Inv-loop μ-loop
-returns c = let e = le-antisymm (c .before .loop .inv .0) (c .loop-test .left) in (filled-end _ _ _ _ _ (c .before .loop .inv .2) e, rows-end _ _ _ _ _ _ (c .before .loop .inv .3) e)
+returns c =
+    let e = le-antisymm (c .before .loop .inv .0) (c .loop-test .left) in
+    record { amounts-are = filled-end _ _ _ _ _ (c .before .loop .inv .2) e; bids-are = rows-end _ _ _ _ _ _ (c .before .loop .inv .3) e }
 
 pub fill-rows-spec : {M : Type 1} → statement M
 fill-rows-spec =

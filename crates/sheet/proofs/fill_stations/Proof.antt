@@ -1,12 +1,14 @@
+-- The loop: the first j places hold the fields of the first j stations.
+use Prim.Native.Nat.{_≤_, _+_, _*_, _-_}
+use mathlib.Core.Path.{_≡_}
 use borrow.Author.Needs.{needs}
+use native.Mathlib.Nat.{le-antisymm}
+use native.Mathlib.Omega.{arith}
+use Rattle.auction.specs.Counting.{list}
+use Rattle.sheet.specs.Sheet.{askOf, baysOf}
+use Rattle.sheet.proofs.Faults.{first-row}
 use Rattle.sheet.proofs.Fields.{moved}
 use Rattle.sheet.proofs.Filled.{Filled, filled-start, filled-turn, filled-end}
-use Rattle.sheet.specs.Sheet.{askOf, baysOf}
-use Rattle.auction.specs.Counting.{list}
-use native.Mathlib.Nat.{le-antisymm}
-use mathlib.Core.Path.{_≡_}
-use Prim.Native.Nat.{_≤_, _+_, _*_, _-_}
-use native.Mathlib.Omega.{arith}
 use Rattle.sheet.proofs.fill_stations.Statement.{statement}
 use Rattle.sheet.proofs.fill_stations.Tie as tie
 
@@ -45,7 +47,13 @@ loop-less c = search needs
 
 loop-again : tie.Need-loop-again Inv-loop μ-loop
 unfolding askOf baysOf
-loop-again c = let a = c .before .before .four .ensures in let b = c .before .two .ensures in (search needs, omega (arith, a .place, b .place), filled-turn _ _ _ _ _ (c .before .before .before .before .loop .inv .2) (omega arith) (moved _ 4 _ _ (a .value) (c .before .before .before .before .loop .inv .1)), filled-turn _ _ _ _ _ (c .before .before .before .before .loop .inv .3) (omega arith) (moved _ 2 _ _ (b .value) (omega (arith, a .place))))
+loop-again c =
+    let a = c .before .before .four .ensures in let b = c .before .two .ensures in (
+      search needs,
+      omega (arith, a .place, b .place),
+      filled-turn _ _ _ _ _ (c .before .before .before .before .loop .inv .2) (omega arith) (moved _ 4 _ _ (a .value) (c .before .before .before .before .loop .inv .1)),
+      filled-turn _ _ _ _ _ (c .before .before .before .before .loop .inv .3) (omega arith) (moved _ 2 _ _ (b .value) (omega (arith, a .place))),
+    )
 
 same-length : tie.Need-same-length Inv-loop μ-loop
 same-length c = c .before .loop .inv .2 .same
@@ -54,7 +62,13 @@ same-length-2 : tie.Need-same-length-2 Inv-loop μ-loop
 same-length-2 c = c .before .loop .inv .3 .same
 
 returns : tie.Need-returns Inv-loop μ-loop
-returns c = let e = le-antisymm (c .before .loop .inv .0) (c .loop-test .left) in (omega arith, (filled-end _ _ _ _ _ (c .before .loop .inv .2) e, filled-end _ _ _ _ _ (c .before .loop .inv .3) e))
+returns c =
+    let e = le-antisymm (c .before .loop .inv .0) (c .loop-test .left) in
+    record {
+      place = omega (arith, first-row (c .before .before .before .before .before .args .s .now) (c .before .before .before .before .before .args .stations));
+      asks-are = filled-end _ _ _ _ _ (c .before .loop .inv .2) e;
+      bays-are = filled-end _ _ _ _ _ (c .before .loop .inv .3) e;
+    }
 
 pub fill-stations-spec : {M : Type 1} → statement M
 fill-stations-spec =

@@ -1,6 +1,7 @@
+-- The bit, by a shift.
 use borrow.Author.Needs.{needs}
-use Rattle.sheet.specs.Sheet.{hasBit}
 use Rattle.auction.specs.Counting.{_=?_}
+use Rattle.sheet.specs.Sheet.{hasBit}
 use Rattle.sheet.proofs.has_bit.Statement.{statement}
 use Rattle.sheet.proofs.has_bit.Tie as tie
 

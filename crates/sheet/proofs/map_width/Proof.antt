@@ -1,5 +1,6 @@
+-- The bytes of a map.
 use borrow.Author.Needs.{needs}
-use Rattle.sheet.specs.Sheet.{width}
+use Rattle.sheet.specs.Sheet.{mapWidth}
 use Rattle.sheet.proofs.map_width.Statement.{statement}
 use Rattle.sheet.proofs.map_width.Tie as tie
 
@@ -7,7 +8,7 @@ add-result : tie.Need-add-result
 add-result c = search needs
 
 returns : tie.Need-returns
-unfolding width
+unfolding mapWidth
 returns c = search needs
 
 pub map-width-spec : {M : Type 1} → statement M

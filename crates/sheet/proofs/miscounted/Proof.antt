@@ -1,7 +1,7 @@
-use borrow.Author.Needs.{needs}
-use Rattle.auction.specs.Faults.{counts}
-use Rattle.auction.specs.Counting.{_<?_, _=?_, _or_}
+-- The test is that of `counts`.
 use mathlib.Core.Path.{refl}
+use Rattle.auction.specs.Counting.{_<?_, _=?_, _or_}
+use Rattle.auction.specs.Faults.{counts}
 use Rattle.sheet.proofs.miscounted.Statement.{statement}
 use Rattle.sheet.proofs.miscounted.Tie as tie
 

@@ -1,7 +1,8 @@
-use borrow.Author.Needs.{needs}
-use Rattle.sheet.specs.Sheet.{lent}
-use Rattle.auction.specs.Counting.{_<?_, _=?_, _or_}
+-- The test is that of `lent`.
 use mathlib.Core.Path.{refl}
+use borrow.Author.Needs.{needs}
+use Rattle.auction.specs.Counting.{_=?_, _or_}
+use Rattle.sheet.specs.Sheet.{lentTables}
 use Rattle.sheet.proofs.mislent.Statement.{statement}
 use Rattle.sheet.proofs.mislent.Tie as tie
 
@@ -9,7 +10,7 @@ mul-result : tie.Need-mul-result
 mul-result c = search needs
 
 returns : tie.Need-returns
-unfolding lent _=?_ _or_
+unfolding lentTables _=?_ _or_
 returns c = refl
 
 pub mislent-spec : {M : Type 1} → statement M

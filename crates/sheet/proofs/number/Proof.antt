@@ -1,9 +1,10 @@
-use borrow.Author.Needs.{needs}
-use Rattle.sheet.proofs.Fields.{number-none, number-turn, number-four, number-end}
-use Rattle.sheet.specs.Sheet.{number}
-use mathlib.Core.Path.{_≡_}
+-- The loop goes down from the highest byte: x is the number that the bytes passed hold.
 use Prim.Native.Nat.{_≤_, _-_, _+_}
+use mathlib.Core.Path.{_≡_}
+use borrow.Author.Needs.{needs}
 use native.Mathlib.Omega.{arith}
+use Rattle.sheet.specs.Sheet.{number}
+use Rattle.sheet.proofs.Fields.{number-none, number-turn, number-four, number-end}
 use Rattle.sheet.proofs.number.Statement.{statement}
 use Rattle.sheet.proofs.number.Tie as tie
 
@@ -38,7 +39,8 @@ loop-less : tie.Need-loop-less Inv-loop μ-loop
 loop-less c = search needs
 
 loop-again : tie.Need-loop-again Inv-loop μ-loop
-loop-again c = (search needs, number-turn _ _ _ _ _ _ (c .before .before .loop-test .taken) (c .before .before .before .loop .inv .0) (c .before .before .before .loop .inv .1) (c .wide .ensures .0))
+loop-again c =
+    (search needs, number-turn _ _ _ _ _ _ (c .before .before .loop-test .taken) (c .before .before .before .loop .inv .0) (c .before .before .before .loop .inv .1) (c .wide .ensures .0))
 
 returns : tie.Need-returns Inv-loop μ-loop
 returns c = number-end _ _ _ _ _ (c .loop-test .left) (c .before .loop .inv .1)

@@ -1,3 +1,4 @@
+-- What is left of the sheet is short of k exactly where k more bytes end past it.
 use borrow.Author.Needs.{needs}
 use native.Mathlib.Omega.{arith}
 use Rattle.sheet.proofs.Fields.{ends-test}

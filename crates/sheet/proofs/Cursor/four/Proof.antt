@@ -1,6 +1,7 @@
+-- A field of 4 bytes is two of 2.
 use borrow.Author.Needs.{needs}
-use Rattle.sheet.proofs.Fields.{number-halves, moved}
 use native.Mathlib.Omega.{arith}
+use Rattle.sheet.proofs.Fields.{number-halves, moved}
 use Rattle.sheet.proofs.Cursor.four.Statement.{statement}
 use Rattle.sheet.proofs.Cursor.four.Tie as tie
 

@@ -1,7 +1,8 @@
-use borrow.Author.Needs.{needs}
-use Rattle.sheet.specs.Sheet.{number, width}
+-- A map is the number that its bytes hold.
 use mathlib.Core.Path.{_∙_, ap}
+use borrow.Author.Needs.{needs}
 use native.Mathlib.Omega.{arith}
+use Rattle.sheet.specs.Sheet.{number, mapWidth}
 use Rattle.sheet.proofs.Cursor.map.Statement.{statement}
 use Rattle.sheet.proofs.Cursor.map.Tie as tie
 
@@ -9,7 +10,7 @@ map-width-requires : tie.Need-map-width-requires
 map-width-requires c κs = search needs
 
 number-requires : tie.Need-number-requires
-unfolding width
+unfolding mapWidth
 number-requires c κs = let e = c .map-width .ensures in (omega arith, omega (arith, e))
 
 skip-requires : tie.Need-skip-requires

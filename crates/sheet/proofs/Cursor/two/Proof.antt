@@ -1,3 +1,4 @@
+-- Two bytes make the number.
 use borrow.Author.Needs.{needs}
 use Rattle.sheet.specs.Sheet.{number}
 use Rattle.sheet.proofs.Cursor.two.Statement.{statement}
