@@ -3,6 +3,7 @@ pub mod Fields
 pub mod Faults
 pub mod Filled
 pub mod Tables
+pub mod Callers
 pub mod Holds
 pub mod Stated
 pub mod Truth
