@@ -10,7 +10,7 @@ use native.Mathlib.Omega.{arith}
 use lib.Count.{ones, onesIn, ones-step}
 use lib.Dec.{ltb}
 use lib.ListN.{getD}
-use lib.Pow.{pow-mono}
+use lib.Pow.{pow-mono, pow-add}
 use Rattle.auction.specs.Counting.{_<?_, _=?_, only, count}
 use Rattle.auction.proofs.Counting.{count-start, count-cong}
 use Rattle.auction.proofs.Tests.{decide, lt-or-le, eq-yes, eq-no, only-yes, only-no}
@@ -43,17 +43,13 @@ unfolding number
 number-low s h p zero = omega arith
 number-low s h p (suc k) = omega (arith, number-low s h (p + 1) k, h p)
 
+pub bytes-pow : (k : ℕ) → 2 ^ (8 * k) ≡ 256 ^ k
+bytes-pow zero = refl
+bytes-pow (suc k) = let e : 8 * suc k ≡ 8 + 8 * k = omega arith in rw e (pow-add 2 8 (8 * k) ∙ omega (arith, bytes-pow k))
+
 -- what a 64-bit word holds of a map while it is read
 pub number-four : (s : List ℕ) → ((i : ℕ) → getD s i 0 < 256) → (p k : ℕ) → k ≤ 4 → number s p k < 4294967296
-number-four s h p k l = omega (arith, number-low s h p k, pow-mono′ k l)
-  where
-    pow-mono′ : (k : ℕ) → k ≤ 4 → 256 ^ k ≤ 4294967296
-    pow-mono′ zero l = omega arith
-    pow-mono′ (suc zero) l = omega arith
-    pow-mono′ (suc (suc zero)) l = omega arith
-    pow-mono′ (suc (suc (suc zero))) l = omega arith
-    pow-mono′ (suc (suc (suc (suc zero)))) l = omega arith
-    pow-mono′ (suc (suc (suc (suc (suc k))))) l = absurd (omega arith)
+number-four s h p k l = omega (arith, number-low s h p k, bytes-pow k, pow-mono {i = 8 * k} {j = 32} (omega arith))
 
 pub number-halves : (s : List ℕ) (p a b : ℕ) → a ≡ number s p 2 → b ≡ number s (p + 2) 2 → a + 65536 * b ≡ number s p 4
 unfolding number

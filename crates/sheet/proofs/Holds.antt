@@ -7,14 +7,14 @@ use mathlib.Core.Path.{_≡_, refl, ap, ap₂, _∙_}
 use native.Mathlib.Nat.{not-suc-le-zero, eq-or-lt-of-le, le-of-suc-le-suc}
 use native.Mathlib.Omega.{arith}
 use lib.ListN.{length, getD, length-append}
-use lib.Pow.{pow-mono, pow-add}
+use lib.Pow.{pow-mono}
 use lib.Seq.{ext-getD}
 use Rattle.auction.specs.Counting.{_=?_, only}
 use Rattle.auction.proofs.Counting.{up, here}
 use Rattle.auction.proofs.Tests.{is-eq, not-eq, only-le}
 use Rattle.sheet.specs.Layout.{bytesOf, pack, Bytes}
 use Rattle.sheet.specs.Sheet.{number, mapWidth, hasBit, joined}
-use Rattle.sheet.proofs.Fields.{first-bit, next-bit}
+use Rattle.sheet.proofs.Fields.{bytes-pow, first-bit, next-bit}
 
 -- xs stands at p in s
 abbrev pub Holds : List ℕ → ℕ → List ℕ → Type 0
@@ -147,10 +147,6 @@ unfolding pack
 pack-bits zero x h = omega arith
 pack-bits (suc m) x h =
     omega (arith, first-bit x, pack-same m (λ j. hasBit x (suc j)) (hasBit (x / 2)) (λ j. next-bit x j), pack-bits m (x / 2) (omega arith))
-
-bytes-pow : (k : ℕ) → 2 ^ (8 * k) ≡ 256 ^ k
-bytes-pow zero = refl
-bytes-pow (suc k) = let e : 8 * suc k ≡ 8 + 8 * k = omega arith in rw e (pow-add 2 8 (8 * k) ∙ omega (arith, bytes-pow k))
 
 pub pack-fits : (m : ℕ) (b : ℕ → Bool) → pack m b < 256 ^ mapWidth m
 unfolding mapWidth

@@ -24,7 +24,7 @@ struct Cursor {
     at: usize,
 }
 
-// A field of 2 bytes, of 4 bytes, a bit map: what was taken and the place after it.
+// What the cursor takes, with the place after it.
 struct Short {
     value: u16,
     next: Cursor,
@@ -40,6 +40,7 @@ struct Map {
     next: Cursor,
 }
 
+// A byte, wide enough to be added up.
 fn wide(x: u8) -> u64
     ensures { λ r. ⌜ (r ≡ x) × (r < 256) ⌝ }
 {
@@ -69,6 +70,7 @@ impl Cursor {
         s.len() - self.at < k
     }
 
+    // Past k bytes.
     fn skip(self, k: usize) -> Cursor
         requires { ⌜ self .at + k < 2 ^ 64 ⌝ }
         ensures { λ r. ⌜ r .at ≡ self .at + k ⌝ }
@@ -76,6 +78,7 @@ impl Cursor {
         Cursor { at: self.at + k }
     }
 
+    // A field of 2 bytes.
     fn two(self, s: &[u8]) -> Short
         requires { ⌜ self .at + 2 ≤ length (now s) ⌝ }
         ensures { λ r. ⌜ Taken (now (s .entry)) (self .at) 2 (r .value) (r .next) ⌝ }
@@ -87,6 +90,7 @@ impl Cursor {
         }
     }
 
+    // A field of 4 bytes.
     fn four(self, s: &[u8]) -> Long
         requires { ⌜ self .at + 4 ≤ length (now s) ⌝ }
         ensures { λ r. ⌜ Taken (now (s .entry)) (self .at) 4 (r .value) (r .next) ⌝ }
@@ -100,6 +104,7 @@ impl Cursor {
         }
     }
 
+    // A bit map.
     fn map(self, s: &[u8], stations: usize) -> Map
         requires { ⌜ (stations ≤ maxStations) × (self .at + mapWidth stations ≤ length (now s)) ⌝ }
         ensures { λ r. ⌜ Taken (now (s .entry)) (self .at) (mapWidth stations) (r .bits) (r .next) ⌝ }
@@ -113,6 +118,7 @@ impl Cursor {
     }
 }
 
+// The bytes of a bit map.
 fn map_width(stations: usize) -> usize
     requires { ⌜ stations ≤ maxStations ⌝ }
     ensures { λ r. ⌜ r ≡ mapWidth stations ⌝ }
@@ -137,11 +143,13 @@ fn count_bits(bits: u64) -> usize
 
 // ---- the checking pass
 
+// Where a row, or all rows, end, or their first fault.
 enum Step {
     Next(Cursor),
     Fault(Refusal),
 }
 
+// A stray bit is a fault before the bids are looked for.
 fn check_row(s: &[u8], c: Cursor, stations: usize) -> Step
     requires { ⌜ (stations ≤ maxStations) × (c .at ≤ length (now s)) ⌝ }
     ensures { λ r. ⌜ r ≡ stepBy (firstFault (rowFaults (now (s .entry)) stations (c .at))) (nextAt (now (s .entry)) stations (c .at)) ⌝ }
@@ -353,7 +361,8 @@ pub fn read(
     }
     match check(sheet) {
         Reading::Read { guests, stations } => {
-            let c = fill_stations(sheet, Cursor { at: 4 }, stations, asks, bays);
+            let after_header = Cursor { at: 4 };
+            let c = fill_stations(sheet, after_header, stations, asks, bays);
             fill_rows(sheet, c, guests, stations, amounts, bids);
             Reading::Read { guests, stations }
         }

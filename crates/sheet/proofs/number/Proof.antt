@@ -1,5 +1,5 @@
 -- The loop goes down from the highest byte: x is the number that the bytes passed hold.
-use Prim.Native.Nat.{_≤_, _-_, _+_}
+use Prim.Native.Nat.{_≤_, _<_, _-_, _+_}
 use mathlib.Core.Path.{_≡_}
 use borrow.Author.Needs.{needs}
 use native.Mathlib.Omega.{arith}
@@ -14,6 +14,10 @@ Inv-loop s at k x₀ left₀ x left = (left ≤ k) × (x ≡ number s (at + left
 abbrev μ-loop : tie.MeasureT-loop
 μ-loop s at k x₀ left₀ x left = left
 
+-- at most 4 bytes are passed before a turn
+low : (c : tie.In-loop Inv-loop μ-loop) → c .before .loop .x < 4294967296
+low c = omega (arith, number-four (c .before .before .before .args .s .now) (λ i. omega (arith, c .before .before .shared-slice-known .given i)) (c .before .before .before .args .at + c .before .loop .left) (c .before .before .before .args .k - c .before .loop .left) (omega arith))
+
 loop-holds : tie.Need-loop-holds Inv-loop μ-loop
 loop-holds c = (search needs, number-none _ _ _)
 
@@ -21,7 +25,7 @@ sub-left : tie.Need-sub-left Inv-loop μ-loop
 sub-left c = search needs
 
 mul-x : tie.Need-mul-x Inv-loop μ-loop
-mul-x c = omega (arith, number-four (c .before .before .before .args .s .now) (λ i. omega (arith, c .before .before .shared-slice-known .given i)) (c .before .before .before .args .at + c .before .loop .left) (c .before .before .before .args .k - c .before .loop .left) (omega arith))
+mul-x c = omega (arith, low c)
 
 add-wide : tie.Need-add-wide Inv-loop μ-loop
 add-wide c = search needs
@@ -33,7 +37,7 @@ wide-requires : tie.Need-wide-requires Inv-loop μ-loop
 wide-requires c κs = search needs
 
 add-x : tie.Need-add-x Inv-loop μ-loop
-add-x c = omega (arith, number-four (c .before .before .before .before .before .args .s .now) (λ i. omega (arith, c .before .before .before .before .shared-slice-known .given i)) (c .before .before .before .before .before .args .at + c .before .before .before .loop .left) (c .before .before .before .before .before .args .k - c .before .before .before .loop .left) (omega arith))
+add-x c = omega (arith, low (c .before .before))
 
 loop-less : tie.Need-loop-less Inv-loop μ-loop
 loop-less c = search needs
