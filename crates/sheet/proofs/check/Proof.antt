@@ -15,7 +15,9 @@ use Rattle.sheet.proofs.check.Statement.{statement}
 use Rattle.sheet.proofs.check.Tie as tie
 
 head : (c : tie.After-two2) → Headed (c .before .before .before .before .before .args .s .now) (c .before .two .result .value) (c .two2 .result .value)
-head c = headed (lt-no _ _ (sym (c .before .before .before .ends .ensures) ∙ c .before .before .if1 .left)) (c .before .two .ensures) (c .two2 .ensures)
+head c =
+    let h = lt-no _ _ (sym (c .before .before .before .ends .ensures) ∙ c .before .before .if1 .left) in
+    headed {s = c .before .before .before .before .before .args .s .now} (omega (arith, h)) (c .before .two .ensures) (c .two2 .ensures)
 
 good : (c : tie.Else2) → counts (c .before .before .before .before .before .two .result .value) (c .before .before .before .before .two2 .result .value) ≡ (false gives CountsOutOfRange)
 good c = c .before .miscounted .ensures ∙ ap (λ b. b gives CountsOutOfRange) (c .if2 .left)
@@ -27,7 +29,9 @@ ends-requires : tie.Need-ends-requires
 ends-requires c κs = search needs
 
 returns : tie.Need-returns
-returns c = answer-fault _ _ (sheet-short _ (lt-yes _ _ (sym (c .before .ends .ensures) ∙ c .if1 .taken)))
+returns c =
+    let h = lt-yes _ _ (sym (c .before .ends .ensures) ∙ c .if1 .taken) in
+    answer-fault _ _ (sheet-short (c .before .before .before .args .s .now) (omega (arith, h)))
 
 two-requires : tie.Need-two-requires
 two-requires c κs = omega (arith, lt-no _ _ (sym (c .before .ends .ensures) ∙ c .if1 .left))

@@ -40,7 +40,7 @@ shr-if3 : tie.Need-shr-if3
 shr-if3 c = search needs
 
 returns-3 : tie.Need-returns-3
-returns-3 c = step-fault _ _ _ (stray (taken (c .before .before)) (c .if3 .taken))
+returns-3 c = step-fault _ _ _ (stray (taken (c .before .before)) (omega (arith, c .if3 .taken)))
 
 count-bits-requires : tie.Need-count-bits-requires
 count-bits-requires c κs = search needs
