@@ -1,0 +1,10 @@
+pub mod Lists
+pub mod Fields
+pub mod Faults
+pub mod Filled
+pub mod Tables
+pub mod Callers
+pub mod Holds
+pub mod Stated
+pub mod Truth
+pub mod Cases

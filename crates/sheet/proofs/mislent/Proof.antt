@@ -1,0 +1,17 @@
+-- The test is that of `lent`.
+use mathlib.Core.Path.{refl}
+use borrow.Author.Needs.{needs}
+use Rattle.auction.specs.Counting.{_=?_, _or_}
+use Rattle.sheet.specs.Sheet.{lentTables}
+use Rattle.sheet.proofs.mislent.Statement.{statement}
+use Rattle.sheet.proofs.mislent.Tie as tie
+
+mul-result : tie.Need-mul-result
+mul-result c = search needs
+
+returns : tie.Need-returns
+unfolding lentTables _=?_ _or_
+returns c = refl
+
+pub mislent-spec : {M : Type 1} → statement M
+mislent-spec = tie.close (tie.spec mul-result returns)

@@ -1,0 +1,4 @@
+pub mod Sheet
+pub mod Layout
+pub mod Passes
+pub mod Cases
