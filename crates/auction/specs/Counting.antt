@@ -1,7 +1,7 @@
 -- Tests of numbers, and what is counted, summed or greatest over the indices below n.
 use Prim.Native.Nat.{ℕ, zero, suc, _+_, max}
 use mathlib.Core.Bool.{Bool, true, false}
-use mathlib.Core.List.{List, [], _∷_}
+use mathlib.Core.List.{List, [], _∷_, _++_}
 use lib.Dec.{leb, ltb, eqb}
 use lib.ListN.{getD, length}
 
@@ -53,7 +53,11 @@ some (suc n) f = some n f or f n
 unfoldable pub any : List ℕ → (ℕ → Bool) → Bool
 any xs f = some (length xs) (λ k. f (getD xs k 0))
 
--- the list f 0, .., f (n - 1)
+-- the list f 0, .., f (n - 1); the lists f 0, .., f (n - 1), one after the other
 unfoldable pub list : ℕ → (ℕ → ℕ) → List ℕ
 list zero f = []
 list (suc n) f = f 0 ∷ list n (λ k. f (suc k))
+
+unfoldable pub joined : ℕ → (ℕ → List ℕ) → List ℕ
+joined zero f = []
+joined (suc n) f = joined n f ++ f n
