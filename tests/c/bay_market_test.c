@@ -1,7 +1,11 @@
-/* Case E of document 01 and a refusal, through include/bay_market.h. */
+/* Case E of document 01, refusals and the header's limits, through include/bay_market.h. */
 #include "bay_market.h"
 
 #include <stdio.h>
+
+_Static_assert(BAY_MARKET_MAX_BIDS == BAY_MARKET_MAX_GUESTS * BAY_MARKET_MAX_STATIONS, "bids");
+_Static_assert(BAY_MARKET_MAX_SHEET == 4 + 6 * BAY_MARKET_MAX_STATIONS
+               + (2 + BAY_MARKET_MAX_STATIONS / 8) * BAY_MARKET_MAX_GUESTS + 4 * BAY_MARKET_MAX_BIDS, "sheet");
 
 static int failures = 0;
 
@@ -61,6 +65,47 @@ static void test_clear(void)
     expect(cut == 6 && margin == 6, "cut and margin");
 }
 
+/* Clears one guest at one station. */
+static uint8_t clear_one(uint32_t ask, uint16_t count, uint16_t amount, uint32_t bid)
+{
+    uint16_t station;
+    uint32_t charge, sold, cut;
+    uint64_t paid, margin;
+
+    return bay_market_clear(&ask, 1, &count, 1, &amount, 1, &bid, 1, 1, &station, 1, &charge, 1, &sold, 1, &paid, 1,
+                            &cut, &margin);
+}
+
+static void test_limits(void)
+{
+    const uint32_t price = BAY_MARKET_MAX_PRICE;
+
+    expect(clear_one(price, BAY_MARKET_MAX_BAYS, BAY_MARKET_MAX_AMOUNT, price) == BAY_MARKET_ACCEPTED, "at the limits");
+    expect(clear_one(price + 1, 1, 1, 1) == BAY_MARKET_ASK_OUT_OF_RANGE, "an ask beyond");
+    expect(clear_one(1, BAY_MARKET_MAX_BAYS + 1, 1, 1) == BAY_MARKET_BAYS_OUT_OF_RANGE, "bays beyond");
+    expect(clear_one(1, 0, 1, 1) == BAY_MARKET_BAYS_OUT_OF_RANGE, "no bays");
+    expect(clear_one(1, 1, BAY_MARKET_MAX_AMOUNT + 1, 1) == BAY_MARKET_AMOUNT_OUT_OF_RANGE, "an amount beyond");
+    expect(clear_one(1, 1, 0, 1) == BAY_MARKET_AMOUNT_OUT_OF_RANGE, "no amount");
+    expect(clear_one(1, 1, 1, price + 1) == BAY_MARKET_BID_OUT_OF_RANGE, "a bid beyond");
+}
+
+/* Posts case E as the next round to a ledger with the given accounts. */
+static uint8_t post_to(uint64_t house, uint32_t last)
+{
+    uint64_t guests[2] = {0};
+    struct bay_market_station_account stations[2] = {{0, 0}, {0, 0}};
+
+    return bay_market_post(asks, m, bays, m, amounts, n, bids, 4, m, last + 1, guests, 2, stations, 2, &house, &last);
+}
+
+static void test_ledger_limits(void)
+{
+    expect(post_to(BAY_MARKET_MAX_ACCOUNT - 6, 0) == BAY_MARKET_ACCEPTED, "an account at its limit");
+    expect(post_to(BAY_MARKET_MAX_ACCOUNT - 5, 0) == BAY_MARKET_ACCOUNT_OVER_LIMIT, "an account beyond");
+    expect(post_to(0, BAY_MARKET_MAX_ROUND - 1) == BAY_MARKET_ACCEPTED, "the last round");
+    expect(post_to(0, BAY_MARKET_MAX_ROUND) == BAY_MARKET_ROUND_OUT_OF_TURN, "no round is left");
+}
+
 static void test_post(void)
 {
     uint64_t guests[3] = {0};
@@ -83,6 +128,8 @@ int main(void)
     test_read();
     test_clear();
     test_post();
+    test_limits();
+    test_ledger_limits();
     if (failures == 0) {
         puts("C test: all as expected");
     }

@@ -2,6 +2,7 @@
 
 use crate::StationAccount;
 
+#[rustfmt::skip] // pointer and length on one line
 unsafe extern "C" {
     pub fn bay_market_read(
         sheet: *const u8, sheet_len: usize,

@@ -113,6 +113,7 @@ impl Refusal {
 }
 
 /// Reads a sheet into the first places of the tables.
+#[rustfmt::skip] // pointer and length on one line
 pub fn read(sheet: &[u8], tables: &mut Tables) -> Result<Counts, Refusal> {
     let mut counts = Counts { guests: 0, stations: 0 };
     // SAFETY: every pointer and length is that of a live slice or number, and borrows keep the written ones apart.
@@ -130,6 +131,7 @@ pub fn read(sheet: &[u8], tables: &mut Tables) -> Result<Counts, Refusal> {
 }
 
 /// Clears a market.
+#[rustfmt::skip] // pointer and length on one line
 pub fn clear(market: &Market, results: &mut Results) -> Result<Cleared, Refusal> {
     let mut cleared = Cleared { cut: 0, margin: 0 };
     // SAFETY: as in `read`.
@@ -151,6 +153,7 @@ pub fn clear(market: &Market, results: &mut Results) -> Result<Cleared, Refusal>
 }
 
 /// Clears a market and posts it to the ledger as a round.
+#[rustfmt::skip] // pointer and length on one line
 pub fn post(market: &Market, round: u32, ledger: &mut Ledger) -> Result<(), Refusal> {
     // SAFETY: as in `read`; StationAccount has the header's layout.
     Refusal::check(unsafe {
@@ -171,9 +174,7 @@ pub fn post(market: &Market, round: u32, ledger: &mut Ledger) -> Result<(), Refu
 mod tests {
     use super::*;
 
-    const SHEET_E: [u8; 30] = [
-        2, 0, 2, 0, 2, 0, 0, 0, 1, 0, 6, 0, 0, 0, 1, 0, 3, 0, 1, 8, 0, 0, 0, 3, 0, 1, 8, 0, 0, 0,
-    ];
+    const SHEET_E: [u8; 30] = [2, 0, 2, 0, 2, 0, 0, 0, 1, 0, 6, 0, 0, 0, 1, 0, 3, 0, 1, 8, 0, 0, 0, 3, 0, 1, 8, 0, 0, 0];
     const CASE_E: Market = Market { asks: &[2, 6], bays: &[1, 1], amounts: &[3, 3], bids: &[8, 0, 8, 0], width: 2 };
 
     #[test]
@@ -194,6 +195,15 @@ mod tests {
         assert_eq!(clear(&Market { amounts: &[3, 0], ..CASE_E }, &mut results), Err(Refusal::AmountOutOfRange));
         assert_eq!(clear(&Market { width: 1, ..CASE_E }, &mut results), Err(Refusal::LengthsDiffer));
         assert_eq!((stations, charges, sold, paid), ([1, 0], [24, 0], [3, 0], [18, 0]));
+    }
+
+    #[test]
+    fn clears_a_market_without_guests() {
+        let (mut sold, mut paid) = ([9], [9]);
+        let mut results = Results { stations: &mut [], charges: &mut [], sold: &mut sold, paid: &mut paid };
+        let market = Market { asks: &[5], bays: &[1], amounts: &[], bids: &[], width: 1 };
+        assert_eq!(clear(&market, &mut results), Ok(Cleared { cut: 5, margin: 0 }));
+        assert_eq!((sold, paid), ([0], [0]));
     }
 
     #[test]

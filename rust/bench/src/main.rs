@@ -70,19 +70,6 @@ fn lend(market: &Market) -> bay_market::Market<'_> {
     }
 }
 
-/// 200 guests and 40 stations, numbers anywhere within their limits.
-fn full() -> Shape {
-    Shape {
-        guests: 200..=200,
-        stations: 40..=40,
-        asks: 0..=1_000_000,
-        bays: 1..=200,
-        amounts: 1..=1_000,
-        bids: 0..=1_000_000,
-        empty: 0,
-    }
-}
-
 type Clear = fn(&bay_market::Market, &mut Results) -> Result<Cleared, u8>;
 
 const CLEARINGS: [Clear; 3] = [
@@ -110,7 +97,7 @@ fn verify_clearing(market: &Market) {
 }
 
 fn clearings(random: &mut Random) {
-    let full = full();
+    let full = Shape::full();
     let candidates = Shape { asks: 0..=500_000, bids: 500_000..=1_000_000, bays: 1..=10, ..full.clone() };
     let shapes = [
         ("200 by 40, bays 1 to 200", full.clone()),
@@ -175,24 +162,27 @@ const READINGS: [ReadSheet; 2] =
 fn readings(random: &mut Random) {
     println!("\n| reading | engine µs | two walks µs | engine / two walks |");
     println!("|---|---|---|---|");
-    for (name, empty) in [("largest sheet, 33,644 bytes", 0), ("200 by 40, two bids in five", 60), ("200 by 40, one bid in ten", 90)] {
-        let shape = Shape { bids: 1..=1_000_000, empty, ..full() };
+    for (name, empty) in
+        [("largest sheet, 33,644 bytes", 0), ("200 by 40, two bids in five", 60), ("200 by 40, one bid in ten", 90)]
+    {
+        let shape = Shape { bids: 1..=1_000_000, empty, ..Shape::full() };
         let sheets: Vec<Vec<u8>> = (0..MARKETS).map(|_| sheet::write(&shape.market(random), |_, _| false)).collect();
         let mut tables = [Read::new(), Read::new()];
         for sheet in &sheets {
             for (read, tables) in READINGS.iter().zip(&mut tables) {
                 let counts = read(sheet, &mut tables.lend()).expect("a sheet");
-                assert!(Ok(tables.market(counts)) == sheet::read(sheet, sheet::GREATEST), "a contender differs from the reference");
+                assert!(
+                    Ok(tables.market(counts)) == sheet::read(sheet, sheet::GREATEST),
+                    "a contender differs from the reference"
+                );
             }
         }
         let [engine, walks] = &mut tables;
         let run = |read: ReadSheet, sheet: &[u8], tables: &mut Read| {
             black_box(read(sheet, &mut tables.lend())).expect("a sheet");
         };
-        let medians = medians(
-            &sheets,
-            &mut [&mut |sheet| run(READINGS[0], sheet, engine), &mut |sheet| run(READINGS[1], sheet, walks)],
-        );
+        let medians =
+            medians(&sheets, &mut [&mut |sheet| run(READINGS[0], sheet, engine), &mut |sheet| run(READINGS[1], sheet, walks)]);
         print_row(name, &medians);
     }
 }
@@ -235,7 +225,7 @@ fn postings(random: &mut Random) {
     println!("\n| posting | engine µs | select µs | engine / select |");
     println!("|---|---|---|---|");
     for (name, guests, stations) in [("200 by 40, bays 1 to 10", 200, 40), ("100 by 10, bays 1 to 10", 100, 10)] {
-        let shape = Shape { guests: guests..=guests, stations: stations..=stations, bays: 1..=10, ..full() };
+        let shape = Shape { guests: guests..=guests, stations: stations..=stations, bays: 1..=10, ..Shape::full() };
         let markets: Vec<Market> = (0..MARKETS).map(|_| shape.market(random)).collect();
         let mut accounts = [Accounts::new(), Accounts::new()];
         let mut plain = ledger::Ledger::empty(MAX_GUESTS, MAX_STATIONS);

@@ -44,6 +44,7 @@ fn require_answer<T>(answer: u8, expected: &Result<T, u8>) -> Result<(), String>
 }
 
 /// Reads a sheet and holds answer and memory to what is expected.
+#[rustfmt::skip] // pointer and length on one line
 pub fn read(random: &mut Random, sheet: &[u8], lengths: TableLengths, expected: &Result<Market, u8>) -> Result<(), String> {
     let mut sheet: Lent<u8> = Lent::holding(random, sheet);
     let mut amounts: Lent<u16> = Lent::noise(random, lengths.amounts);
@@ -78,6 +79,7 @@ pub fn read(random: &mut Random, sheet: &[u8], lengths: TableLengths, expected: 
 }
 
 /// Clears a market and holds answer and memory to what is expected.
+#[rustfmt::skip] // pointer and length on one line
 pub fn clear(random: &mut Random, market: &Market, lists: ListLengths, expected: &Result<Outcome, u8>) -> Result<(), String> {
     let mut tables = Tables::of(random, market);
     let mut stations: Lent<u16> = Lent::noise(random, lists.stations);
@@ -114,6 +116,7 @@ pub fn clear(random: &mut Random, market: &Market, lists: ListLengths, expected:
 }
 
 /// Posts a market to a ledger as it is before and holds answer and memory to the ledger as it is to be after.
+#[rustfmt::skip] // pointer and length on one line
 pub fn post(
     random: &mut Random, market: &Market, round: u32, before: &Ledger, expected: &Result<(), u8>, after: &Ledger,
 ) -> Result<(), String> {

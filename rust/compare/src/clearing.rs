@@ -2,7 +2,7 @@
 
 use crate::Tally;
 use crate::call;
-use crate::markets::{accepted, changes, full, middling, shapes, show, small, tied};
+use crate::markets::{accepted, changes, middling, shapes, show, small, tied};
 use reference::clearing::clear;
 use reference::faults::{ListLengths, clearing_fault};
 use reference::market::Market;
@@ -29,7 +29,7 @@ pub fn run(random: &mut Random, tally: &mut Tally, cases: usize) -> Result<(), S
     }
     // each change alone and each two together, in small markets; each alone in the largest
     let some = |shape: Shape| Shape { guests: 3..=6, stations: 2..=5, ..shape };
-    for shape in [some(small()), some(tied()), some(middling()), full()] {
+    for shape in [some(small()), some(tied()), some(middling()), Shape::full()] {
         let market = shape.market(random);
         let changes = changes(market.guests(), market.stations());
         for first in &changes {

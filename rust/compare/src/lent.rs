@@ -82,3 +82,31 @@ impl<T: Noise + Copy + PartialEq> Lent<T> {
         self.now == expected
     }
 }
+
+#[cfg(test)]
+mod tests {
+    use super::*;
+
+    fn write<T>(lent: &mut Lent<T>, place: usize, element: T) {
+        lent.now[place] = element;
+    }
+
+    #[test]
+    fn every_written_place_is_seen() {
+        for place in 0..3 + 2 * GUARD {
+            let mut lent = Lent::holding(&mut Random::new(1), &[5u64, 6, 7]);
+            assert!(lent.untouched() && lent.holds([5, 6]));
+            write(&mut lent, place, 9);
+            assert!(!lent.untouched());
+            assert_eq!(lent.holds([9]), place == GUARD);
+            assert_eq!(lent.holds([5, 6, 9]), place == GUARD + 2);
+        }
+    }
+
+    #[test]
+    fn a_result_that_was_not_written_is_seen() {
+        let lent: Lent<u32> = Lent::noise(&mut Random::new(1), 2);
+        assert!(lent.holds([]));
+        assert!(!lent.holds([0, 0]));
+    }
+}

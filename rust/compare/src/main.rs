@@ -67,3 +67,17 @@ fn main() -> ExitCode {
     }
     ExitCode::SUCCESS
 }
+
+#[cfg(test)]
+mod tests {
+    use super::*;
+
+    #[test]
+    fn an_answer_that_was_not_met_is_missed() {
+        let mut tally = Tally::default();
+        tally.count::<()>(&Ok(()));
+        tally.count::<()>(&Err(7));
+        assert_eq!(tally.require(&[0, 7]), Ok(()));
+        assert!(tally.require(&[0, 6, 7]).is_err());
+    }
+}

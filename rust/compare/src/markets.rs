@@ -18,42 +18,30 @@ pub fn middling() -> Shape {
     Shape { guests: 0..=40, stations: 1..=12, asks: 0..=1_000, bays: 1..=10, amounts: 1..=1_000, bids: 0..=2_000, empty: 30 }
 }
 
-/// Anything within the limits.
-fn whole() -> Shape {
-    let price = 0..=u64::from(MAX_PRICE);
-    Shape {
-        guests: 0..=MAX_GUESTS as u64,
-        stations: 1..=MAX_STATIONS as u64,
-        asks: price.clone(),
-        bays: 1..=u64::from(MAX_BAYS),
-        amounts: 1..=u64::from(MAX_AMOUNT),
-        bids: price,
-        empty: 20,
-    }
-}
-
-/// As many guests and stations as there may be.
-pub fn full() -> Shape {
-    Shape { guests: 200..=200, stations: 40..=40, ..whole() }
-}
-
 /// Ranges of accepted markets, from small numbers to the limits.
 pub fn shapes() -> Vec<Shape> {
     vec![
         small(),
         tied(),
         middling(),
-        whole(),
-        full(),
-        Shape { bays: 1..=10, ..full() },
+        Shape { empty: 20, ..Shape::whole() },
+        Shape::full(),
+        Shape { bays: 1..=10, empty: 50, ..Shape::full() },
         // everyone equal
         Shape { guests: 5..=40, stations: 3..=9, asks: 0..=1, amounts: 7..=7, bids: 9..=9, ..small() },
         // bids close to the cut
         Shape { guests: 0..=30, stations: 1..=9, asks: 99..=102, bids: 98..=103, amounts: 1..=2, ..small() },
         // all are candidates at every open station
-        Shape { guests: 1..=200, stations: 2..=40, asks: 0..=500, bids: 500..=900, bays: 1..=20, empty: 0, ..whole() },
+        Shape { guests: 1..=200, stations: 2..=40, asks: 0..=500, bids: 500..=900, bays: 1..=20, ..Shape::whole() },
         // totals and charges at their greatest
-        Shape { guests: 0..=20, asks: 999_990..=1_000_000, bids: 999_990..=1_000_000, amounts: 990..=1_000, bays: 1..=9, ..whole() },
+        Shape {
+            guests: 0..=20,
+            asks: 999_990..=1_000_000,
+            bids: 999_990..=1_000_000,
+            amounts: 990..=1_000,
+            bays: 1..=9,
+            ..Shape::whole()
+        },
     ]
 }
 

@@ -1,9 +1,9 @@
 //! The clearing program, target/bin/clear or the one that BAY_MARKET_PROGRAM names, against the reference's text.
 
 use crate::Tally;
-use crate::markets::{accepted, full, hex, shapes};
+use crate::markets::{accepted, hex, shapes};
 use crate::reading::{any_sheet, damaged};
-use reference::random::Random;
+use reference::random::{Random, Shape};
 use reference::report::printed;
 use reference::sheet::write;
 use std::io::Write;
@@ -49,8 +49,8 @@ pub fn run(random: &mut Random, tally: &mut Tally, cases: usize) -> Result<(), S
         }
         match case % 40 {
             // the largest sheet, and one byte more
-            1 => sheet = write(&full().market(random), |_, _| true),
-            5 => sheet = [write(&full().market(random), |_, _| true), vec![0]].concat(),
+            1 => sheet = write(&Shape::full().market(random), |_, _| true),
+            5 => sheet = [write(&Shape::full().market(random), |_, _| true), vec![0]].concat(),
             // more than a pipe holds
             9 => sheet.resize(200_000, 0),
             _ => {}

@@ -2,7 +2,7 @@
 
 use crate::Tally;
 use crate::call;
-use crate::markets::{full, hex, middling, shapes};
+use crate::markets::{hex, middling, shapes};
 use reference::random::{Random, Shape};
 use reference::sheet::{GREATEST, TableLengths, read, write};
 
@@ -110,7 +110,7 @@ pub fn run(random: &mut Random, tally: &mut Tally, cases: usize) -> Result<(), S
         }
     }
     // the largest sheet, cut at random places
-    let largest = write(&Shape { bids: 1..=9, empty: 0, ..full() }.market(random), |_, _| true);
+    let largest = write(&Shape { bids: 1..=9, empty: 0, ..Shape::full() }.market(random), |_, _| true);
     for _ in 0..300 {
         let length = random.below(largest.len() + 1);
         check(random, tally, &largest[..length], GREATEST)?;

@@ -72,7 +72,9 @@ fn within_limits(market: &Market, outcome: &Outcome, margin: u64) -> Result<(), 
 fn guest_gain(market: &Market, outcome: &Outcome, guest: usize, worths: &[u32]) -> i128 {
     match usize::from(outcome.stations[guest - 1]) {
         0 => 0,
-        station => i128::from(worths[station - 1]) * i128::from(market.amounts[guest - 1]) - i128::from(outcome.charges[guest - 1]),
+        station => {
+            i128::from(worths[station - 1]) * i128::from(market.amounts[guest - 1]) - i128::from(outcome.charges[guest - 1])
+        }
     }
 }
 

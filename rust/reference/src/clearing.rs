@@ -64,14 +64,7 @@ pub fn clear(market: &Market) -> Outcome {
         }
     }
 
-    let mut outcome = Outcome {
-        cut,
-        stations: vec![0; n],
-        charges: vec![0; n],
-        sold: vec![0; m],
-        paid: vec![0; m],
-        margin: 0,
-    };
+    let mut outcome = Outcome { cut, stations: vec![0; n], charges: vec![0; n], sold: vec![0; m], paid: vec![0; m], margin: 0 };
     for guest in 1..=n {
         // 7. the place with the greatest total less charge, of equal ones at the lower station
         let held = &mut places[guest - 1];

@@ -40,7 +40,7 @@ impl ListLengths {
 }
 
 pub fn counts_in_range(n: usize, m: usize) -> bool {
-    n <= MAX_GUESTS && m >= 1 && m <= MAX_STATIONS
+    n <= MAX_GUESTS && (1..=MAX_STATIONS).contains(&m)
 }
 
 /// The first fault of a clearing, by its number.

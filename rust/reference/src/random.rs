@@ -1,5 +1,6 @@
 //! Seeded random numbers and markets.
 
+use crate::faults::{MAX_AMOUNT, MAX_BAYS, MAX_GUESTS, MAX_PRICE, MAX_STATIONS};
 use crate::market::Market;
 use std::ops::RangeInclusive;
 
@@ -50,15 +51,33 @@ pub struct Shape {
 }
 
 impl Shape {
+    /// Anything within the limits.
+    pub fn whole() -> Shape {
+        let price = 0..=u64::from(MAX_PRICE);
+        Shape {
+            guests: 0..=MAX_GUESTS as u64,
+            stations: 1..=MAX_STATIONS as u64,
+            asks: price.clone(),
+            bays: 1..=u64::from(MAX_BAYS),
+            amounts: 1..=u64::from(MAX_AMOUNT),
+            bids: price,
+            empty: 0,
+        }
+    }
+
+    /// As many guests and stations as there may be.
+    pub fn full() -> Shape {
+        Shape { guests: 200..=200, stations: 40..=40, ..Shape::whole() }
+    }
+
     pub fn market(&self, random: &mut Random) -> Market {
         let n = random.within(self.guests.clone());
         let m = random.within(self.stations.clone());
         let asks: Vec<u32> = (0..m).map(|_| random.within(self.asks.clone()) as u32).collect();
         let bays: Vec<u16> = (0..m).map(|_| random.within(self.bays.clone()) as u16).collect();
         let amounts: Vec<u16> = (0..n).map(|_| random.within(self.amounts.clone()) as u16).collect();
-        let bids: Vec<u32> = (0..n * m)
-            .map(|_| if random.chance(self.empty) { 0 } else { random.within(self.bids.clone()) as u32 })
-            .collect();
+        let bids: Vec<u32> =
+            (0..n * m).map(|_| if random.chance(self.empty) { 0 } else { random.within(self.bids.clone()) as u32 }).collect();
         Market::new(&asks, &bays, &amounts, &bids)
     }
 }

@@ -27,15 +27,8 @@ pub fn case_e() -> Market {
 
 /// 200 guests and 40 stations, in mills as a city might have them.
 pub fn full() -> Market {
-    let shape = Shape {
-        guests: 200..=200,
-        stations: 40..=40,
-        asks: 90..=450,
-        bays: 1..=12,
-        amounts: 5..=80,
-        bids: 100..=900,
-        empty: 60,
-    };
+    let shape =
+        Shape { guests: 200..=200, stations: 40..=40, asks: 90..=450, bays: 1..=12, amounts: 5..=80, bids: 100..=900, empty: 60 };
     shape.market(&mut Random::new(8))
 }
 
