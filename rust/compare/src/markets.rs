@@ -139,9 +139,10 @@ pub fn changes(n: usize, m: usize) -> Vec<Change> {
     for other in other_lengths(m).into_iter().chain([usize::MAX, 1 << 32 | m, 1 << 63 | m]) {
         changes.push(Change::Width(other));
     }
-    let price = [0, MAX_PRICE, MAX_PRICE + 1, 1 << 31, u32::MAX];
-    let bays = [0, 1, u32::from(MAX_BAYS), u32::from(MAX_BAYS) + 1, 256, 1 << 15, u32::from(u16::MAX)];
-    let amount = [0, 1, u32::from(MAX_AMOUNT), u32::from(MAX_AMOUNT) + 1, 1 << 15, u32::from(u16::MAX)];
+    // among them values whose low bits alone are in range
+    let price = [0, MAX_PRICE, MAX_PRICE + 1, 1 << 24 | 1, 1 << 31 | 1, u32::MAX];
+    let bays = [0, 1, u32::from(MAX_BAYS), u32::from(MAX_BAYS) + 1, 1 << 8 | 1, 1 << 15 | 1, u32::from(u16::MAX)];
+    let amount = [0, 1, u32::from(MAX_AMOUNT), u32::from(MAX_AMOUNT) + 1, 1 << 10 | 1, 1 << 15 | 1, u32::from(u16::MAX)];
     for place in [Place::First, Place::Last, Place::Any] {
         changes.extend(price.map(|value| Change::Value(Table::Asks, place, value)));
         changes.extend(bays.map(|value| Change::Value(Table::Bays, place, value)));
