@@ -1,5 +1,6 @@
-//! Runs the static library and the clearing program against the reference on seeded random cases: `compare [SEED [PART]]`, where a part is
-//! read, clear, post, truth or print. A failing case prints itself and ends the run.
+//! Runs the static library and the clearing program against the reference on seeded random cases:
+//! `compare [SEED [PART]]`, where a part is read, clear, post, truth or print. A failing case prints itself and ends the
+//! run.
 
 mod call;
 mod clearing;

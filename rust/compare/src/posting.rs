@@ -3,8 +3,7 @@
 use crate::Tally;
 use crate::call;
 use crate::markets::{accepted, changes, shapes, show};
-use reference::clearing::clear;
-use reference::faults::{ListLengths, MAX_GUESTS, MAX_STATIONS, market_fault};
+use reference::faults::{ListLengths, MAX_GUESTS, MAX_STATIONS};
 use reference::ledger::{Ledger, MAX_ACCOUNT, MAX_ROUND};
 use reference::market::Market;
 use reference::random::{Random, Shape};
@@ -42,32 +41,31 @@ fn round(random: &mut Random, last: u128) -> u32 {
 
 /// Moves one account next to the limit, so that what the market adds to it decides.
 fn to_the_limit(random: &mut Random, ledger: &mut Ledger, market: &Market) {
-    let outcome = market_fault(market).map(|()| clear(market)).ok();
-    let outcome = outcome.as_ref();
-    let of_guest = |i: usize| outcome.and_then(|outcome| outcome.charges.get(i)).copied().unwrap_or(0);
-    let of_station = |list: Option<&Vec<u128>>, j: usize| list.and_then(|list| list.get(j)).copied().unwrap_or(0);
-    // a seated guest or a station that sells, where there is one
-    let seated = outcome.and_then(|outcome| outcome.charges.iter().position(|&charge| charge > 0));
-    let selling = outcome.and_then(|outcome| outcome.sold.iter().position(|&sold| sold > 0));
-    let (i, j) = (random.below(ledger.guests.len().max(1)), random.below(ledger.stations.len().max(1)));
-    let i = seated.filter(|_| random.chance(70)).unwrap_or(i);
-    let j = selling.filter(|_| random.chance(70)).unwrap_or(j);
-    let (account, added) = match random.below(4) {
-        0 if i < ledger.guests.len() => (&mut ledger.guests[i], of_guest(i)),
-        1 if j < ledger.stations.len() => (&mut ledger.stations[j].sold, of_station(outcome.map(|outcome| &outcome.sold), j)),
-        2 if j < ledger.stations.len() => (&mut ledger.stations[j].paid, of_station(outcome.map(|outcome| &outcome.paid), j)),
-        _ => (&mut ledger.house, outcome.map_or(0, |outcome| outcome.margin)),
-    };
-    *account = match random.below(12) {
+    // what the market adds to each account: nothing where it is refused
+    let mut added = Ledger::empty(ledger.guests.len(), ledger.stations.len());
+    let _ = added.post(market, 1);
+    let mut accounts: Vec<(&mut u128, u128)> = ledger.guests.iter_mut().zip(added.guests).collect();
+    for (account, added) in ledger.stations.iter_mut().zip(added.stations) {
+        accounts.push((&mut account.sold, added.sold));
+        accounts.push((&mut account.paid, added.paid));
+    }
+    accounts.push((&mut ledger.house, added.house));
+    if random.chance(70) && accounts.iter().any(|(_, added)| *added > 0) {
+        accounts.retain(|(_, added)| *added > 0);
+    }
+    let which = random.below(accounts.len());
+    let (account, added) = &mut accounts[which];
+    let greatest = u128::from(u64::MAX);
+    **account = match random.below(12) {
         0 => MAX_ACCOUNT,
         1 => MAX_ACCOUNT + 1,
-        2 => u128::from(u64::MAX),
-        3 => u128::from(u64::MAX) - added + 1,
-        4..6 => MAX_ACCOUNT - added + 1,
-        6 => (MAX_ACCOUNT - added).saturating_sub(1),
-        _ => MAX_ACCOUNT - added,
-    }
-    .min(u128::from(u64::MAX));
+        2 => greatest,
+        // a 64-bit sum would come out as 0
+        3 => greatest.min(greatest + 1 - *added),
+        4..6 => MAX_ACCOUNT - *added + 1,
+        6 => MAX_ACCOUNT - *added - 1,
+        _ => MAX_ACCOUNT - *added,
+    };
 }
 
 /// A list of postings to one ledger. Where `moved`, accounts are moved to their limit in between; otherwise the ledger
