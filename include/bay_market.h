@@ -1,0 +1,118 @@
+/*
+ * The bay market: reading a market sheet, clearing a market, posting it to a ledger.
+ *
+ * Link the archives that archives.txt names, in its order; each is target/staticlib/lib<name>.a
+ * after `rt staticlib <name>`, for x86-64. Nothing else is needed, and nothing is allocated.
+ *
+ * Every function answers 0, or the number of the first fault found (enum bay_market_refusal). A call
+ * that is refused has changed no lent memory. Any lengths and values may be lent; every call returns.
+ *
+ * The caller owes what a C function cannot test: a pointer is aligned, is not null (also where the
+ * length is 0) and has that many elements; what a call may write overlaps nothing else that it is lent.
+ * Calls share no state, so threads may call at the same time on different memory.
+ *
+ * Prices are in mills (thousandths of the currency unit) per kWh, charges and payments in mills,
+ * amounts in whole kWh. Guests and stations are numbered from 1; element 0 of a table is number 1.
+ */
+#ifndef BAY_MARKET_H
+#define BAY_MARKET_H
+
+#include <stddef.h>
+#include <stdint.h>
+
+#ifdef __cplusplus
+extern "C" {
+#endif
+
+/* Limits. Amounts and bays are at least 1, and so is the number of stations. */
+#define BAY_MARKET_MAX_GUESTS 200
+#define BAY_MARKET_MAX_STATIONS 40
+#define BAY_MARKET_MAX_BIDS 8000                      /* guests times stations */
+#define BAY_MARKET_MAX_PRICE 1000000                  /* of an ask and of a bid */
+#define BAY_MARKET_MAX_AMOUNT 1000
+#define BAY_MARKET_MAX_BAYS 200
+#define BAY_MARKET_MAX_SHEET 33644                    /* bytes of the largest sheet */
+#define BAY_MARKET_MAX_ACCOUNT UINT64_C(1000000000000000)
+#define BAY_MARKET_MAX_ROUND UINT32_C(4294967295)
+
+enum bay_market_refusal {
+    BAY_MARKET_ACCEPTED = 0,
+    BAY_MARKET_SHEET_ENDS = 1,           /* the sheet ends inside a field */
+    BAY_MARKET_COUNTS_OUT_OF_RANGE = 2,  /* over 200 guests, no station or over 40 */
+    BAY_MARKET_STRAY_BIT = 3,            /* a bit map has a bit beyond the last station */
+    BAY_MARKET_TRAILING_BYTES = 4,       /* bytes follow the last row */
+    BAY_MARKET_LENGTHS_DIFFER = 5,       /* bays, bids or row width do not fit the counts */
+    BAY_MARKET_ASK_OUT_OF_RANGE = 6,
+    BAY_MARKET_BAYS_OUT_OF_RANGE = 7,
+    BAY_MARKET_AMOUNT_OUT_OF_RANGE = 8,
+    BAY_MARKET_BID_OUT_OF_RANGE = 9,
+    BAY_MARKET_LENT_LENGTHS = 10,        /* the reader's tables or a result list have another length */
+    BAY_MARKET_ROUND_OUT_OF_TURN = 11,   /* not the last round plus 1, or no round is left */
+    BAY_MARKET_ACCOUNT_OVER_LIMIT = 12,  /* an account is above its limit, or would be */
+    BAY_MARKET_BOOK_SIZE = 13            /* accounts beyond the limits, or fewer than the market needs */
+};
+
+/* A station's account in the ledger. */
+struct bay_market_station_account {
+    uint64_t sold; /* kWh */
+    uint64_t paid; /* mills */
+};
+
+/*
+ * Reads a sheet into tables of the greatest size: 200 amounts, 40 asks, 40 bays, 8,000 bids.
+ * Fills the first n amounts, m asks, m bays and n times m bids, row after row, and leaves the rest;
+ * *n is the number of guests and *m of stations. Whether values are in range is the clearing's business.
+ *
+ * Refusals in this order: 10 for another table length; 1 for fewer than 4 bytes; 2 for the counts;
+ * then, field by field, 1 where the sheet ends and, after a bit map, 3; at the end 4.
+ */
+uint8_t bay_market_read(const uint8_t *sheet, size_t sheet_len,
+                        uint16_t *amounts, size_t amounts_len,
+                        uint32_t *asks, size_t asks_len,
+                        uint16_t *bays, size_t bays_len,
+                        uint32_t *bids, size_t bids_len,
+                        uint16_t *n, uint16_t *m);
+
+/*
+ * Clears a market. n is amounts_len and m is asks_len; guest i's bid at station j, both from 0, is
+ * bids[i * width + j], and 0 is no bid. Result lists: for each guest its station (0 for none) and its
+ * charge (0 for none), for each station the kWh sold and its payment. *cut is the threshold price per kWh.
+ *
+ * Refusals in this order: 2 for n or m; 5 where bays_len or width is not m or bids_len is not n times m;
+ * 10 for a result list that is not n or m long; then 6 for any ask, 7 for any bays, 8 for any amount,
+ * 9 for any bid out of range.
+ */
+uint8_t bay_market_clear(const uint32_t *asks, size_t asks_len,
+                         const uint16_t *bays, size_t bays_len,
+                         const uint16_t *amounts, size_t amounts_len,
+                         const uint32_t *bids, size_t bids_len,
+                         size_t width,
+                         uint16_t *stations, size_t stations_len,
+                         uint32_t *charges, size_t charges_len,
+                         uint32_t *sold, size_t sold_len,
+                         uint64_t *paid, size_t paid_len,
+                         uint32_t *cut, uint64_t *margin);
+
+/*
+ * Clears a market as bay_market_clear does and posts it to the ledger as the given round: charges to the
+ * guests' accounts, sales and payments to the stations', the margin to *house, the round to *last.
+ * Accounts beyond the market's guests and stations stay. An empty ledger is all zeros; round 1 is first.
+ *
+ * Refusals in this order: 2, 5 and 6 to 9 as in clearing; 13 for a ledger over 200 guests or 40 stations
+ * or smaller than the market; 11 where round is not *last + 1, and always after 4,294,967,295;
+ * 12 where any account is above 10^15 before the posting or would be after it.
+ */
+uint8_t bay_market_post(const uint32_t *asks, size_t asks_len,
+                        const uint16_t *bays, size_t bays_len,
+                        const uint16_t *amounts, size_t amounts_len,
+                        const uint32_t *bids, size_t bids_len,
+                        size_t width, uint32_t round,
+                        uint64_t *guests, size_t guests_len,
+                        struct bay_market_station_account *stations, size_t stations_len,
+                        uint64_t *house, uint32_t *last);
+
+#ifdef __cplusplus
+}
+#endif
+
+#endif

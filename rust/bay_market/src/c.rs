@@ -1,0 +1,39 @@
+//! The functions of include/bay_market.h, where each is documented.
+
+use crate::StationAccount;
+
+#[rustfmt::skip] // pointer and length on one line
+unsafe extern "C" {
+    pub fn bay_market_read(
+        sheet: *const u8, sheet_len: usize,
+        amounts: *mut u16, amounts_len: usize,
+        asks: *mut u32, asks_len: usize,
+        bays: *mut u16, bays_len: usize,
+        bids: *mut u32, bids_len: usize,
+        n: *mut u16, m: *mut u16,
+    ) -> u8;
+
+    pub fn bay_market_clear(
+        asks: *const u32, asks_len: usize,
+        bays: *const u16, bays_len: usize,
+        amounts: *const u16, amounts_len: usize,
+        bids: *const u32, bids_len: usize,
+        width: usize,
+        stations: *mut u16, stations_len: usize,
+        charges: *mut u32, charges_len: usize,
+        sold: *mut u32, sold_len: usize,
+        paid: *mut u64, paid_len: usize,
+        cut: *mut u32, margin: *mut u64,
+    ) -> u8;
+
+    pub fn bay_market_post(
+        asks: *const u32, asks_len: usize,
+        bays: *const u16, bays_len: usize,
+        amounts: *const u16, amounts_len: usize,
+        bids: *const u32, bids_len: usize,
+        width: usize, round: u32,
+        guests: *mut u64, guests_len: usize,
+        stations: *mut StationAccount, stations_len: usize,
+        house: *mut u64, last: *mut u32,
+    ) -> u8;
+}

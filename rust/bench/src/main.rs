@@ -1,0 +1,259 @@
+//! Times the engine against baselines in one process, in turns, and prints medians and ratios as Markdown.
+
+mod baseline;
+
+use bay_market::{Cleared, Counts, Ledger, MAX_BIDS, MAX_GUESTS, MAX_STATIONS, Results, StationAccount, Tables};
+use reference::market::Market;
+use reference::random::{Random, Shape};
+use reference::{clearing, ledger, sheet};
+use std::hint::black_box;
+use std::time::Instant;
+
+const ROUNDS: usize = 301;
+const MARKETS: usize = 12;
+
+/// Lets each contender run in turn, `ROUNDS` times over all inputs; the median time of one call of each, in µs.
+fn medians<T>(inputs: &[T], contenders: &mut [&mut dyn FnMut(&T)]) -> Vec<f64> {
+    let mut times = vec![Vec::new(); contenders.len()];
+    for round in 0..ROUNDS {
+        for turn in 0..contenders.len() {
+            let which = (round + turn) % contenders.len();
+            let start = Instant::now();
+            for input in inputs {
+                contenders[which](black_box(input));
+            }
+            times[which].push(start.elapsed().as_secs_f64() * 1e6 / inputs.len() as f64);
+        }
+    }
+    for times in &mut times {
+        times.sort_by(f64::total_cmp);
+    }
+    times.iter().map(|times| times[ROUNDS / 2]).collect()
+}
+
+/// A row of a table: the engine's time, then each baseline's with the engine's share of it.
+fn print_row(name: &str, medians: &[f64]) {
+    print!("| {name} | {:.2} |", medians[0]);
+    for baseline in &medians[1..] {
+        print!(" {baseline:.2} | {:.2} |", medians[0] / baseline);
+    }
+    println!();
+}
+
+/// Owned result lists.
+#[derive(Clone, PartialEq, Eq)]
+struct Lists {
+    stations: Vec<u16>,
+    charges: Vec<u32>,
+    sold: Vec<u32>,
+    paid: Vec<u64>,
+}
+
+impl Lists {
+    fn new(market: &Market) -> Lists {
+        let (n, m) = (market.guests(), market.stations());
+        Lists { stations: vec![0; n], charges: vec![0; n], sold: vec![0; m], paid: vec![0; m] }
+    }
+
+    fn lend(&mut self) -> Results<'_> {
+        Results { stations: &mut self.stations, charges: &mut self.charges, sold: &mut self.sold, paid: &mut self.paid }
+    }
+}
+
+fn lend(market: &Market) -> bay_market::Market<'_> {
+    bay_market::Market {
+        asks: &market.asks,
+        bays: &market.bays,
+        amounts: &market.amounts,
+        bids: &market.bids,
+        width: market.width,
+    }
+}
+
+type Clear = fn(&bay_market::Market, &mut Results) -> Result<Cleared, u8>;
+
+const CLEARINGS: [Clear; 3] = [
+    |market, results| bay_market::clear(market, results).map_err(|refusal| refusal.number()),
+    |market, results| baseline::clear(market, results, baseline::select),
+    |market, results| baseline::clear(market, results, baseline::sort),
+];
+
+/// Every contender's outcome is the reference's.
+fn verify_clearing(market: &Market) {
+    let expected = clearing::clear(market);
+    for clear in CLEARINGS {
+        let mut lists = Lists::new(market);
+        let cleared = clear(&lend(market), &mut lists.lend()).expect("an accepted market");
+        let outcome = clearing::Outcome {
+            cut: cleared.cut.into(),
+            stations: lists.stations.iter().map(|&station| station.into()).collect(),
+            charges: lists.charges.iter().map(|&charge| charge.into()).collect(),
+            sold: lists.sold.iter().map(|&sold| sold.into()).collect(),
+            paid: lists.paid.iter().map(|&paid| paid.into()).collect(),
+            margin: cleared.margin.into(),
+        };
+        assert!(outcome == expected, "a contender differs from the reference");
+    }
+}
+
+fn clearings(random: &mut Random) {
+    let full = Shape::full();
+    let candidates = Shape { asks: 0..=500_000, bids: 500_000..=1_000_000, bays: 1..=10, ..full.clone() };
+    let shapes = [
+        ("200 by 40, bays 1 to 200", full.clone()),
+        ("200 by 40, bays 1 to 10", Shape { bays: 1..=10, ..full.clone() }),
+        ("200 by 40, bays 1", Shape { bays: 1..=1, ..full.clone() }),
+        ("200 by 40, bays 200", Shape { bays: 200..=200, ..full.clone() }),
+        ("200 by 40, all candidates, bays 1 to 10", candidates.clone()),
+        ("200 by 40, all candidates, bays 1 to 200", Shape { bays: 1..=200, ..candidates.clone() }),
+        ("200 by 40, all totals tied, bays 1 to 10", Shape { bids: 700_000..=700_000, amounts: 50..=50, ..candidates }),
+        ("100 by 10, bays 1 to 10", Shape { guests: 100..=100, stations: 10..=10, bays: 1..=10, ..full }),
+    ];
+    println!("| clearing | engine µs | select µs | engine / select | sort µs | engine / sort |");
+    println!("|---|---|---|---|---|---|");
+    for (name, shape) in shapes {
+        let markets: Vec<Market> = (0..MARKETS).map(|_| shape.market(random)).collect();
+        markets.iter().for_each(verify_clearing);
+        let mut lists = [Lists::new(&markets[0]), Lists::new(&markets[0]), Lists::new(&markets[0])];
+        let [engine, select, sort] = &mut lists;
+        let run = |clear: Clear, market: &Market, lists: &mut Lists| {
+            black_box(clear(&lend(market), &mut lists.lend())).expect("an accepted market");
+        };
+        let medians = medians(
+            &markets,
+            &mut [
+                &mut |market| run(CLEARINGS[0], market, engine),
+                &mut |market| run(CLEARINGS[1], market, select),
+                &mut |market| run(CLEARINGS[2], market, sort),
+            ],
+        );
+        print_row(name, &medians);
+    }
+}
+
+/// Owned tables of the reader.
+struct Read {
+    amounts: Vec<u16>,
+    asks: Vec<u32>,
+    bays: Vec<u16>,
+    bids: Vec<u32>,
+}
+
+impl Read {
+    fn new() -> Read {
+        Read { amounts: vec![0; MAX_GUESTS], asks: vec![0; MAX_STATIONS], bays: vec![0; MAX_STATIONS], bids: vec![0; MAX_BIDS] }
+    }
+
+    fn lend(&mut self) -> Tables<'_> {
+        Tables { amounts: &mut self.amounts, asks: &mut self.asks, bays: &mut self.bays, bids: &mut self.bids }
+    }
+
+    fn market(&self, counts: Counts) -> Market {
+        let (n, m) = (usize::from(counts.guests), usize::from(counts.stations));
+        Market::new(&self.asks[..m], &self.bays[..m], &self.amounts[..n], &self.bids[..n * m])
+    }
+}
+
+type ReadSheet = fn(&[u8], &mut Tables) -> Result<Counts, u8>;
+
+const READINGS: [ReadSheet; 2] =
+    [|sheet, tables| bay_market::read(sheet, tables).map_err(|refusal| refusal.number()), baseline::read];
+
+fn readings(random: &mut Random) {
+    println!("\n| reading | engine µs | two walks µs | engine / two walks |");
+    println!("|---|---|---|---|");
+    for (name, empty) in
+        [("largest sheet, 33,644 bytes", 0), ("200 by 40, two bids in five", 60), ("200 by 40, one bid in ten", 90)]
+    {
+        let shape = Shape { bids: 1..=1_000_000, empty, ..Shape::full() };
+        let sheets: Vec<Vec<u8>> = (0..MARKETS).map(|_| sheet::write(&shape.market(random), |_, _| false)).collect();
+        let mut tables = [Read::new(), Read::new()];
+        for sheet in &sheets {
+            for (read, tables) in READINGS.iter().zip(&mut tables) {
+                let counts = read(sheet, &mut tables.lend()).expect("a sheet");
+                assert!(
+                    Ok(tables.market(counts)) == sheet::read(sheet, sheet::GREATEST),
+                    "a contender differs from the reference"
+                );
+            }
+        }
+        let [engine, walks] = &mut tables;
+        let run = |read: ReadSheet, sheet: &[u8], tables: &mut Read| {
+            black_box(read(sheet, &mut tables.lend())).expect("a sheet");
+        };
+        let medians =
+            medians(&sheets, &mut [&mut |sheet| run(READINGS[0], sheet, engine), &mut |sheet| run(READINGS[1], sheet, walks)]);
+        print_row(name, &medians);
+    }
+}
+
+/// An owned ledger.
+#[derive(PartialEq, Eq)]
+struct Accounts {
+    guests: Vec<u64>,
+    stations: Vec<StationAccount>,
+    house: u64,
+    last: u32,
+}
+
+impl Accounts {
+    fn new() -> Accounts {
+        Accounts { guests: vec![0; MAX_GUESTS], stations: vec![StationAccount::default(); MAX_STATIONS], house: 0, last: 0 }
+    }
+
+    fn lend(&mut self) -> Ledger<'_> {
+        Ledger { guests: &mut self.guests, stations: &mut self.stations, house: &mut self.house, last: &mut self.last }
+    }
+
+    fn plain(&self) -> ledger::Ledger {
+        let account = |account: &StationAccount| ledger::StationAccount { sold: account.sold.into(), paid: account.paid.into() };
+        ledger::Ledger {
+            guests: self.guests.iter().map(|&account| account.into()).collect(),
+            stations: self.stations.iter().map(account).collect(),
+            house: self.house.into(),
+            last: self.last.into(),
+        }
+    }
+}
+
+type Post = fn(&bay_market::Market, u32, &mut Ledger) -> Result<(), u8>;
+
+const POSTINGS: [Post; 2] =
+    [|market, round, ledger| bay_market::post(market, round, ledger).map_err(|refusal| refusal.number()), baseline::post];
+
+fn postings(random: &mut Random) {
+    println!("\n| posting | engine µs | select µs | engine / select |");
+    println!("|---|---|---|---|");
+    for (name, guests, stations) in [("200 by 40, bays 1 to 10", 200, 40), ("100 by 10, bays 1 to 10", 100, 10)] {
+        let shape = Shape { guests: guests..=guests, stations: stations..=stations, bays: 1..=10, ..Shape::full() };
+        let markets: Vec<Market> = (0..MARKETS).map(|_| shape.market(random)).collect();
+        let mut accounts = [Accounts::new(), Accounts::new()];
+        let mut plain = ledger::Ledger::empty(MAX_GUESTS, MAX_STATIONS);
+        let run = |post: Post, market: &Market, accounts: &mut Accounts| {
+            let round = accounts.last + 1;
+            black_box(post(&lend(market), round, &mut accounts.lend())).expect("an accepted posting");
+        };
+        for market in &markets {
+            plain.post(market, accounts[0].last + 1).expect("an accepted posting");
+            for (post, accounts) in POSTINGS.iter().zip(&mut accounts) {
+                run(*post, market, accounts);
+                assert!(accounts.plain() == plain, "a contender differs from the reference");
+            }
+        }
+        let [engine, select] = &mut accounts;
+        let medians = medians(
+            &markets,
+            &mut [&mut |market| run(POSTINGS[0], market, engine), &mut |market| run(POSTINGS[1], market, select)],
+        );
+        assert!(engine == select, "the ledgers differ");
+        print_row(name, &medians);
+    }
+}
+
+fn main() {
+    println!("Medians of {ROUNDS} rounds over {MARKETS} random inputs, the contenders in turns.\n");
+    let mut random = Random::new(8);
+    clearings(&mut random);
+    readings(&mut random);
+    postings(&mut random);
+}

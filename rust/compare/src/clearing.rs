@@ -1,0 +1,49 @@
+//! Clearing against the reference.
+
+use crate::Tally;
+use crate::call;
+use crate::markets::{accepted, changes, middling, shapes, show, small, tied};
+use reference::clearing::clear;
+use reference::faults::{ListLengths, clearing_fault};
+use reference::market::Market;
+use reference::random::{Random, Shape};
+
+fn check(random: &mut Random, tally: &mut Tally, market: &Market, lists: ListLengths) -> Result<(), String> {
+    let expected = clearing_fault(market, lists).map(|()| clear(market));
+    tally.count(&expected);
+    call::clear(random, market, lists, &expected).map_err(|what| format!("{what}\n{lists:?}\n{}", show(market)))
+}
+
+pub fn run(random: &mut Random, tally: &mut Tally, cases: usize) -> Result<(), String> {
+    let shapes = shapes();
+    for _ in 0..cases {
+        let mut market = accepted(random, &shapes);
+        let mut lists = ListLengths::of(&market);
+        if random.chance(40) {
+            let changes = changes(market.guests(), market.stations());
+            for _ in 0..random.within(1..=4) {
+                random.pick(&changes).apply(random, &mut market, &mut lists);
+            }
+        }
+        check(random, tally, &market, lists)?;
+    }
+    // each change alone and each two together, in small markets; each alone in the largest
+    let some = |shape: Shape| Shape { guests: 3..=6, stations: 2..=5, ..shape };
+    for shape in [some(small()), some(tied()), some(middling()), Shape::full()] {
+        let market = shape.market(random);
+        let changes = changes(market.guests(), market.stations());
+        for first in &changes {
+            let mut with_one = market.clone();
+            let mut lists = ListLengths::of(&market);
+            first.apply(random, &mut with_one, &mut lists);
+            check(random, tally, &with_one, lists)?;
+            for second in changes.iter().filter(|_| market.bids.len() < 1_000) {
+                let mut with_two = with_one.clone();
+                let mut lists = lists;
+                second.apply(random, &mut with_two, &mut lists);
+                check(random, tally, &with_two, lists)?;
+            }
+        }
+    }
+    tally.require(&[0, 2, 5, 6, 7, 8, 9, 10])
+}

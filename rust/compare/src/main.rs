@@ -1,0 +1,84 @@
+//! Runs the static library and the clearing program against the reference on seeded random cases:
+//! `compare [SEED [PART]]`, where a part is read, clear, post, truth or print. A failing case prints itself and ends the
+//! run.
+
+mod call;
+mod clearing;
+mod lent;
+mod markets;
+mod posting;
+mod printing;
+mod reading;
+mod truth;
+
+use reference::random::Random;
+use std::collections::BTreeMap;
+use std::process::ExitCode;
+use std::time::Instant;
+
+const SEED: u64 = 20_261_115;
+
+/// How often each answer was expected.
+#[derive(Default)]
+pub struct Tally(BTreeMap<u8, usize>);
+
+impl Tally {
+    pub fn count<T>(&mut self, expected: &Result<T, u8>) {
+        *self.0.entry(expected.as_ref().err().copied().unwrap_or(0)).or_default() += 1;
+    }
+
+    /// Each of the answers was met.
+    pub fn require(&self, answers: &[u8]) -> Result<(), String> {
+        match answers.iter().find(|answer| !self.0.contains_key(answer)) {
+            Some(answer) => Err(format!("no case has the answer {answer}")),
+            None => Ok(()),
+        }
+    }
+}
+
+type Part = fn(&mut Random, &mut Tally, usize) -> Result<(), String>;
+
+const PARTS: [(&str, Part, usize); 5] = [
+    ("read", reading::run, 6_000),
+    ("clear", clearing::run, 20_000),
+    ("post", posting::run, 4_000),
+    ("truth", truth::run, 3_000),
+    ("print", printing::run, 400),
+];
+
+fn main() -> ExitCode {
+    let mut args = std::env::args().skip(1);
+    let seed = args.next().map_or(SEED, |seed| seed.parse().expect("a seed is a number"));
+    let only = args.next();
+    println!("seed {seed}");
+    for (name, run, cases) in PARTS {
+        if only.as_ref().is_some_and(|only| only != name) {
+            continue;
+        }
+        let start = Instant::now();
+        let mut tally = Tally::default();
+        let result = run(&mut Random::new(seed), &mut tally, cases);
+        let calls: usize = tally.0.values().sum();
+        if let Err(case) = result {
+            println!("{name}: differs at call {calls} of seed {seed}: {case}");
+            return ExitCode::FAILURE;
+        }
+        let answers: Vec<String> = tally.0.iter().map(|(answer, times)| format!("{answer}: {times}")).collect();
+        println!("{name}: {calls} calls agree in {:.1} s; answers {}", start.elapsed().as_secs_f64(), answers.join(", "));
+    }
+    ExitCode::SUCCESS
+}
+
+#[cfg(test)]
+mod tests {
+    use super::*;
+
+    #[test]
+    fn an_answer_that_was_not_met_is_missed() {
+        let mut tally = Tally::default();
+        tally.count::<()>(&Ok(()));
+        tally.count::<()>(&Err(7));
+        assert_eq!(tally.require(&[0, 7]), Ok(()));
+        assert!(tally.require(&[0, 6, 7]).is_err());
+    }
+}

@@ -1,0 +1,226 @@
+//! Random markets, and faults to put into them.
+
+use reference::faults::{ListLengths, MAX_AMOUNT, MAX_BAYS, MAX_GUESTS, MAX_PRICE, MAX_STATIONS};
+use reference::market::Market;
+use reference::random::{Random, Shape};
+
+/// A handful of guests and stations, and small numbers.
+pub fn small() -> Shape {
+    Shape { guests: 0..=6, stations: 1..=6, asks: 0..=5, bays: 1..=3, amounts: 1..=4, bids: 0..=8, empty: 10 }
+}
+
+/// Many ties in totals and gains.
+pub fn tied() -> Shape {
+    Shape { guests: 2..=12, stations: 2..=8, asks: 0..=2, amounts: 1..=3, bids: 1..=6, ..small() }
+}
+
+pub fn middling() -> Shape {
+    Shape { guests: 0..=40, stations: 1..=12, asks: 0..=1_000, bays: 1..=10, amounts: 1..=1_000, bids: 0..=2_000, empty: 30 }
+}
+
+/// Ranges of accepted markets, from small numbers to the limits.
+pub fn shapes() -> Vec<Shape> {
+    vec![
+        small(),
+        tied(),
+        middling(),
+        Shape { empty: 20, ..Shape::whole() },
+        Shape::full(),
+        Shape { bays: 1..=10, empty: 50, ..Shape::full() },
+        // everyone equal
+        Shape { guests: 5..=40, stations: 3..=9, asks: 0..=1, amounts: 7..=7, bids: 9..=9, ..small() },
+        // bids close to the cut
+        Shape { guests: 0..=30, stations: 1..=9, asks: 99..=102, bids: 98..=103, amounts: 1..=2, ..small() },
+        // all are candidates at every open station
+        Shape { guests: 1..=200, stations: 2..=40, asks: 0..=500, bids: 500..=900, bays: 1..=20, ..Shape::whole() },
+        // totals and charges at their greatest
+        Shape {
+            guests: 0..=20,
+            asks: 999_990..=1_000_000,
+            bids: 999_990..=1_000_000,
+            amounts: 990..=1_000,
+            bays: 1..=9,
+            ..Shape::whole()
+        },
+    ]
+}
+
+/// An accepted market.
+pub fn accepted(random: &mut Random, shapes: &[Shape]) -> Market {
+    let mut market = random.pick(shapes).market(random);
+    match random.below(8) {
+        0 => at_the_ends(random, &mut market),
+        1 => equal_totals(random, &mut market),
+        _ => {}
+    }
+    market
+}
+
+/// Moves every number to an end of its range or next to it.
+fn at_the_ends(random: &mut Random, market: &mut Market) {
+    for ask in &mut market.asks {
+        *ask = *random.pick(&[0, 1, MAX_PRICE - 1, MAX_PRICE]);
+    }
+    for bays in &mut market.bays {
+        *bays = *random.pick(&[1, 2, MAX_BAYS - 1, MAX_BAYS]);
+    }
+    for amount in &mut market.amounts {
+        *amount = *random.pick(&[1, 2, MAX_AMOUNT - 1, MAX_AMOUNT]);
+    }
+    for bid in &mut market.bids {
+        *bid = *random.pick(&[0, 1, MAX_PRICE - 1, MAX_PRICE]);
+    }
+}
+
+/// Gives every bid the same total, or one next to it.
+fn equal_totals(random: &mut Random, market: &mut Market) {
+    let (m, total) = (market.stations(), 840 * random.within(1..=20) as u32);
+    for amount in &mut market.amounts {
+        *amount = *random.pick(&[1, 2, 3, 4, 5, 6, 7, 8, 10, 12]);
+    }
+    for (place, bid) in market.bids.iter_mut().enumerate() {
+        *bid = total / u32::from(market.amounts[place / m]) + u32::from(random.chance(10));
+    }
+    for ask in &mut market.asks {
+        *ask = random.within(0..=70) as u32;
+    }
+}
+
+#[derive(Clone, Copy, Debug, PartialEq, Eq)]
+pub enum Table {
+    Asks,
+    Bays,
+    Amounts,
+    Bids,
+}
+
+#[derive(Clone, Copy, Debug, PartialEq, Eq)]
+pub enum List {
+    Stations,
+    Charges,
+    Sold,
+    Paid,
+}
+
+#[derive(Clone, Copy, Debug)]
+pub enum Place {
+    First,
+    Last,
+    Any,
+}
+
+/// One number of a call made wrong, or moved to its limit.
+#[derive(Clone, Copy, Debug)]
+pub enum Change {
+    /// A table gets another length; the others stay.
+    Length(Table, usize),
+    Value(Table, Place, u32),
+    Width(usize),
+    List(List, usize),
+    /// The market gets so many guests, with a row of bids for each.
+    Guests(usize),
+    /// The market gets so many stations, with bays and bids for each.
+    Stations(usize),
+}
+
+/// Every change that is tried, for a market with n guests and m stations.
+pub fn changes(n: usize, m: usize) -> Vec<Change> {
+    let mut changes = Vec::new();
+    for (table, length) in [(Table::Asks, m), (Table::Bays, m), (Table::Amounts, n), (Table::Bids, n * m)] {
+        for other in other_lengths(length) {
+            changes.push(Change::Length(table, other));
+        }
+    }
+    for (list, length) in [(List::Stations, n), (List::Charges, n), (List::Sold, m), (List::Paid, m)] {
+        for other in other_lengths(length) {
+            changes.push(Change::List(list, other));
+        }
+    }
+    for other in other_lengths(m).into_iter().chain([usize::MAX, 1 << 32 | m, 1 << 63 | m]) {
+        changes.push(Change::Width(other));
+    }
+    // among them values whose low bits alone are in range
+    let price = [0, MAX_PRICE, MAX_PRICE + 1, 1 << 24 | 1, 1 << 31 | 1, u32::MAX];
+    let bays = [0, 1, u32::from(MAX_BAYS), u32::from(MAX_BAYS) + 1, 1 << 8 | 1, 1 << 15 | 1, u32::from(u16::MAX)];
+    let amount = [0, 1, u32::from(MAX_AMOUNT), u32::from(MAX_AMOUNT) + 1, 1 << 10 | 1, 1 << 15 | 1, u32::from(u16::MAX)];
+    for place in [Place::First, Place::Last, Place::Any] {
+        changes.extend(price.map(|value| Change::Value(Table::Asks, place, value)));
+        changes.extend(bays.map(|value| Change::Value(Table::Bays, place, value)));
+        changes.extend(amount.map(|value| Change::Value(Table::Amounts, place, value)));
+        changes.extend(price.map(|value| Change::Value(Table::Bids, place, value)));
+    }
+    changes.extend([0, MAX_GUESTS, MAX_GUESTS + 1].map(Change::Guests));
+    changes.extend([0, MAX_STATIONS, MAX_STATIONS + 1].map(Change::Stations));
+    changes
+}
+
+fn other_lengths(length: usize) -> Vec<usize> {
+    [0, length.saturating_sub(1), length + 1, 2 * length].into_iter().filter(|&other| other != length).collect()
+}
+
+impl Change {
+    pub fn apply(self, random: &mut Random, market: &mut Market, lists: &mut ListLengths) {
+        match self {
+            Change::Length(Table::Asks, length) => market.asks.resize(length, 1),
+            Change::Length(Table::Bays, length) => market.bays.resize(length, 1),
+            Change::Length(Table::Amounts, length) => market.amounts.resize(length, 1),
+            Change::Length(Table::Bids, length) => market.bids.resize(length, 1),
+            Change::Value(Table::Asks, place, value) => set(random, &mut market.asks, place, value),
+            Change::Value(Table::Bays, place, value) => set(random, &mut market.bays, place, value as u16),
+            Change::Value(Table::Amounts, place, value) => set(random, &mut market.amounts, place, value as u16),
+            Change::Value(Table::Bids, place, value) => set(random, &mut market.bids, place, value),
+            Change::Width(width) => market.width = width,
+            Change::List(List::Stations, length) => lists.stations = length,
+            Change::List(List::Charges, length) => lists.charges = length,
+            Change::List(List::Sold, length) => lists.sold = length,
+            Change::List(List::Paid, length) => lists.paid = length,
+            Change::Guests(guests) => {
+                market.amounts.resize(guests, 1);
+                fit(market, lists);
+            }
+            Change::Stations(stations) => {
+                market.asks.resize(stations, 1);
+                fit(market, lists);
+            }
+        }
+    }
+}
+
+fn set<T>(random: &mut Random, table: &mut [T], place: Place, value: T) {
+    if table.is_empty() {
+        return;
+    }
+    let at = match place {
+        Place::First => 0,
+        Place::Last => table.len() - 1,
+        Place::Any => random.below(table.len()),
+    };
+    table[at] = value;
+}
+
+/// Gives bays, bids, width and result lists the lengths that the counts want.
+fn fit(market: &mut Market, lists: &mut ListLengths) {
+    let (n, m) = (market.guests(), market.stations());
+    market.bays.resize(m, 1);
+    market.bids.resize(n * m, 1);
+    market.width = m;
+    *lists = ListLengths::of(market);
+}
+
+/// A market for a failing case's message: as numbers, and as a sheet where one states it.
+pub fn show(market: &Market) -> String {
+    let (n, m) = (market.guests(), market.stations());
+    let sheet = if market.bays.len() == m && market.bids.len() == n * m {
+        hex(&reference::sheet::write(market, |_, _| false))
+    } else {
+        "none: the lengths do not fit".to_string()
+    };
+    format!(
+        "asks {:?}\nbays {:?}\namounts {:?}\nbids {:?}\nwidth {}\nsheet {sheet}",
+        market.asks, market.bays, market.amounts, market.bids, market.width
+    )
+}
+
+pub fn hex(bytes: &[u8]) -> String {
+    bytes.iter().map(|byte| format!("{byte:02x}")).collect::<Vec<_>>().join(" ")
+}

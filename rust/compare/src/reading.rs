@@ -1,0 +1,125 @@
+//! Reading against the reference: sheets as they should be and damaged ones.
+
+use crate::Tally;
+use crate::call;
+use crate::markets::{hex, middling, shapes};
+use reference::random::{Random, Shape};
+use reference::sheet::{GREATEST, TableLengths, read, write};
+
+fn check(random: &mut Random, tally: &mut Tally, sheet: &[u8], lengths: TableLengths) -> Result<(), String> {
+    let expected = read(sheet, lengths);
+    tally.count(&expected);
+    call::read(random, sheet, lengths, &expected).map_err(|what| {
+        let stated = expected.map_or_else(|number| format!("refused {number}"), |market| format!("{market:?}"));
+        format!("{what}\n{lengths:?}\nexpected {stated}\nsheet {}", hex(sheet))
+    })
+}
+
+/// A sheet of random values, in range or not, with some set bits for bids of 0.
+pub fn any_sheet(random: &mut Random, shape: &Shape) -> Vec<u8> {
+    let mut market = shape.market(random);
+    if random.chance(50) {
+        market.asks.fill_with(|| random.bits() as u32);
+        market.bays.fill_with(|| random.bits() as u16);
+        market.amounts.fill_with(|| random.bits() as u16);
+        for bid in market.bids.iter_mut().filter(|bid| **bid != 0) {
+            *bid = random.bits() as u32;
+        }
+    }
+    let percent = *random.pick(&[0, 10, 100]);
+    write(&market, |_, _| random.chance(percent))
+}
+
+/// Every truncation, every flipped bit and some trailing bytes.
+fn every_damage(random: &mut Random, tally: &mut Tally, sheet: &[u8]) -> Result<(), String> {
+    for length in 0..sheet.len() {
+        check(random, tally, &sheet[..length], GREATEST)?;
+    }
+    for place in 0..8 * sheet.len() {
+        let mut flipped = sheet.to_vec();
+        flipped[place / 8] ^= 1 << (place % 8);
+        check(random, tally, &flipped, GREATEST)?;
+    }
+    for _ in 0..4 {
+        let mut longer = sheet.to_vec();
+        longer.extend((0..random.within(1..=40)).map(|_| random.bits() as u8));
+        check(random, tally, &longer, GREATEST)?;
+    }
+    Ok(())
+}
+
+/// One to three damages at random places.
+pub fn damaged(random: &mut Random, sheet: &[u8]) -> Vec<u8> {
+    let mut sheet = sheet.to_vec();
+    for _ in 0..random.within(1..=3) {
+        let at = random.below(sheet.len() + 1);
+        match random.below(5) {
+            0 => sheet.truncate(at),
+            1 => sheet.insert(at, random.bits() as u8),
+            2 => sheet.extend((0..random.within(1..=9)).map(|_| random.bits() as u8)),
+            _ if at < sheet.len() => sheet[at] ^= 1 << random.below(8),
+            _ => sheet.push(0),
+        }
+    }
+    sheet
+}
+
+/// Lent tables of other lengths: one table or several.
+fn other_lengths(random: &mut Random) -> TableLengths {
+    let mut lengths = GREATEST;
+    for _ in 0..random.within(1..=2) {
+        let length = match random.below(4) {
+            0 => &mut lengths.amounts,
+            1 => &mut lengths.asks,
+            2 => &mut lengths.bays,
+            _ => &mut lengths.bids,
+        };
+        *length = *random.pick(&[0, 1, length.saturating_sub(1), *length + 1, 2 * *length]);
+    }
+    lengths
+}
+
+pub fn run(random: &mut Random, tally: &mut Tally, cases: usize) -> Result<(), String> {
+    let shapes = shapes();
+    for _ in 0..cases {
+        let shape = random.pick(&shapes);
+        let mut sheet = any_sheet(random, shape);
+        if random.chance(40) {
+            sheet = damaged(random, &sheet);
+        }
+        let lengths = if random.chance(10) { other_lengths(random) } else { GREATEST };
+        check(random, tally, &sheet, lengths)?;
+    }
+    // all damage to small sheets, with maps of 1, 2 and 5 bytes, full and not
+    for stations in [1, 2, 7, 8, 9, 16, 17, 39, 40] {
+        for guests in 0..=2 {
+            let shape = Shape { guests: guests..=guests, stations: stations..=stations, empty: 60, ..middling() };
+            let sheet = any_sheet(random, &shape);
+            every_damage(random, tally, &sheet)?;
+        }
+    }
+    // every header up to a little past the limits, alone and with zeros for what follows
+    for n in (0..=3).chain(198..=203).chain([255, 256, 257, 65_535]) {
+        for m in (0..=42).chain([255, 256, 257, 296, 65_535]) {
+            let header = [u16::to_le_bytes(n), u16::to_le_bytes(m)].concat();
+            check(random, tally, &header, GREATEST)?;
+            let length = 6 * usize::from(m) + usize::from(n) * (2 + usize::from(m).div_ceil(8));
+            if length <= 40_000 {
+                check(random, tally, &[header, vec![0; length]].concat(), GREATEST)?;
+            }
+        }
+    }
+    // the largest sheet, cut at random places
+    let largest = write(&Shape { bids: 1..=9, empty: 0, ..Shape::full() }.market(random), |_, _| true);
+    for _ in 0..300 {
+        let length = random.below(largest.len() + 1);
+        check(random, tally, &largest[..length], GREATEST)?;
+    }
+    check(random, tally, &largest, GREATEST)?;
+    // bytes of no meaning
+    for _ in 0..2_000 {
+        let noise: Vec<u8> = (0..random.within(0..=60)).map(|_| random.bits() as u8 & 0x13).collect();
+        check(random, tally, &noise, GREATEST)?;
+    }
+    tally.require(&[0, 1, 2, 3, 4, 10])
+}

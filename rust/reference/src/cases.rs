@@ -1,0 +1,181 @@
+//! Document 01's cases and limits, each market also through its sheet.
+
+use crate::clearing::clear;
+use crate::faults::{ListLengths, clearing_fault, market_fault};
+use crate::ledger::{Ledger, MAX_ACCOUNT, StationAccount};
+use crate::market::Market;
+use crate::sheet::{GREATEST, TableLengths, read, write};
+use crate::{report, samples};
+
+/// A market with one bay at each station.
+fn one_bay(asks: &[u32], amounts: &[u16], bids: &[u32]) -> Market {
+    Market::new(asks, &vec![1; asks.len()], amounts, bids)
+}
+
+/// A market is accepted, is what its sheet states, and clears to the given cut, stations, charges, (sold, paid), margin.
+fn clears(market: &Market, cut: u128, stations: &[usize], charges: &[u128], sales: &[(u128, u128)], margin: u128) {
+    assert_eq!(read(&write(market, |_, _| false), GREATEST).as_ref(), Ok(market));
+    assert_eq!(read(&write(market, |_, _| true), GREATEST).as_ref(), Ok(market));
+    assert_eq!(market_fault(market), Ok(()));
+    let outcome = clear(market);
+    assert_eq!(outcome.cut, cut);
+    assert_eq!(outcome.stations, stations);
+    assert_eq!(outcome.charges, charges);
+    assert_eq!(outcome.sold.iter().copied().zip(outcome.paid).collect::<Vec<_>>(), sales);
+    assert_eq!(outcome.margin, margin);
+}
+
+#[test]
+fn cases_a_to_j() {
+    let none = (0, 0);
+    clears(&samples::table_i(), 3, &[4, 0, 2, 0, 0], &[15, 0, 18, 0, 0], &[none, (6, 18), none, (5, 15), none], 0);
+    clears(&one_bay(&[5], &[1], &[9]), 5, &[0], &[0], &[none], 0);
+    clears(&one_bay(&[2, 6], &[1], &[6, 0]), 6, &[1], &[6], &[(1, 6), none], 0);
+    clears(&one_bay(&[2, 6], &[1], &[5, 0]), 6, &[0], &[0], &[none, none], 0);
+    clears(&samples::case_e(), 6, &[1, 0], &[24, 0], &[(3, 18), none], 6);
+    clears(&one_bay(&[2, 6], &[10, 2], &[7, 0, 20, 0]), 6, &[1, 0], &[60, 0], &[(10, 60), none], 0);
+    clears(&one_bay(&[2, 6], &[3, 2], &[9, 0, 10, 0]), 6, &[1, 0], &[20, 0], &[(3, 18), none], 2);
+    clears(&one_bay(&[4, 4], &[1], &[9, 9]), 4, &[0], &[0], &[none, none], 0);
+    clears(&one_bay(&[2, 6], &[], &[]), 6, &[], &[], &[none, none], 0);
+    clears(&one_bay(&[1, 1, 6, 6], &[1], &[8, 8, 0, 0]), 6, &[1], &[6], &[(1, 6), none, none, none], 0);
+}
+
+#[test]
+fn a_guest_seated_elsewhere_still_sets_the_floor() {
+    // guest 1 holds station 2's place, and is the first candidate without a place at station 1
+    let market = one_bay(&[1, 1, 2, 2], &[1, 1], &[5, 9, 0, 0, 7, 0, 0, 0]);
+    clears(&market, 2, &[2, 1], &[2, 5], &[(1, 2), (1, 2), (0, 0), (0, 0)], 3);
+}
+
+#[test]
+fn limits() {
+    assert_eq!(market_fault(&one_bay(&[1_000_000], &[1], &[0])), Ok(()));
+    assert_eq!(market_fault(&one_bay(&[1_000_001], &[1], &[0])), Err(6));
+    assert_eq!(market_fault(&one_bay(&[1], &[1; 200], &[0; 200])), Ok(()));
+    assert_eq!(market_fault(&one_bay(&[1], &[1; 201], &[0; 201])), Err(2));
+    assert_eq!(market_fault(&one_bay(&[1; 40], &[1], &[0; 40])), Ok(()));
+    assert_eq!(market_fault(&one_bay(&[1; 41], &[1], &[0; 41])), Err(2));
+    assert_eq!(market_fault(&one_bay(&[], &[1], &[])), Err(2));
+    assert_eq!(market_fault(&Market::new(&[1], &[200], &[1], &[0])), Ok(()));
+    assert_eq!(market_fault(&Market::new(&[1], &[201], &[1], &[0])), Err(7));
+    assert_eq!(market_fault(&Market::new(&[1], &[0], &[1], &[0])), Err(7));
+    assert_eq!(market_fault(&one_bay(&[1], &[1_000], &[0])), Ok(()));
+    assert_eq!(market_fault(&one_bay(&[1], &[1_001], &[0])), Err(8));
+    assert_eq!(market_fault(&one_bay(&[1], &[0], &[0])), Err(8));
+    assert_eq!(market_fault(&one_bay(&[1], &[1], &[1_000_000])), Ok(()));
+    assert_eq!(market_fault(&one_bay(&[1], &[1], &[1_000_001])), Err(9));
+}
+
+#[test]
+fn clearing_refuses_in_the_tables_order() {
+    // every fault at once, mended one after the other
+    let mut market = Market { width: 1, ..Market::new(&[1_000_001; 41], &[0; 40], &[0; 2], &[1_000_001; 80]) };
+    let mut lists = ListLengths { stations: 2, charges: 2, sold: 40, paid: 41 };
+    assert_eq!(clearing_fault(&market, lists), Err(2));
+    market.asks.pop();
+    assert_eq!(clearing_fault(&market, lists), Err(5));
+    market.width = 40;
+    assert_eq!(clearing_fault(&market, lists), Err(10));
+    lists.paid = 40;
+    assert_eq!(clearing_fault(&market, lists), Err(6));
+    market.asks = vec![1; 40];
+    assert_eq!(clearing_fault(&market, lists), Err(7));
+    market.bays = vec![1; 40];
+    assert_eq!(clearing_fault(&market, lists), Err(8));
+    market.amounts = vec![1; 2];
+    assert_eq!(clearing_fault(&market, lists), Err(9));
+    market.bids = vec![1; 80];
+    assert_eq!(clearing_fault(&market, lists), Ok(()));
+}
+
+const SHEET_E: [u8; 30] = [
+    0x02, 0x00, 0x02, 0x00, 0x02, 0x00, 0x00, 0x00, 0x01, 0x00, 0x06, 0x00, 0x00, 0x00, 0x01, 0x00, //
+    0x03, 0x00, 0x01, 0x08, 0x00, 0x00, 0x00, 0x03, 0x00, 0x01, 0x08, 0x00, 0x00, 0x00,
+];
+
+#[test]
+fn sheet_e_and_its_text() {
+    assert_eq!(write(&samples::case_e(), |_, _| false), SHEET_E);
+    let text = "cut 6\nguest 1 station 1 charge 24\nguest 2 station 0 charge 0\n\
+        station 1 sold 3 paid 18\nstation 2 sold 0 paid 0\nmargin 6\n";
+    assert_eq!(report::printed(&SHEET_E), text);
+    assert_eq!(report::printed(&SHEET_E[..3]), "refused 1\n");
+}
+
+#[test]
+fn reading_refuses_in_the_tables_order() {
+    let refusal = |sheet: &[u8]| read(sheet, GREATEST).unwrap_err();
+    assert_eq!(read(&[], TableLengths { bids: 7_999, ..GREATEST }), Err(10));
+    assert_eq!(refusal(&[201, 0, 0]), 1);
+    assert_eq!(refusal(&[201, 0, 1, 0]), 2);
+    assert_eq!(refusal(&[0, 0, 0, 0]), 2);
+    assert_eq!(refusal(&[0, 0, 41, 0]), 2);
+    // one guest, nine stations: 6 bytes for each station, amount, map
+    let mut sheet = [vec![1, 0, 9, 0], vec![0; 54], vec![0, 0, 1, 2]].concat();
+    assert_eq!(refusal(&sheet[..61]), 1);
+    assert_eq!(refusal(&sheet), 3);
+    sheet[61] = 0;
+    assert_eq!(refusal(&sheet), 1);
+    sheet.extend([0; 5]);
+    assert_eq!(refusal(&sheet), 4);
+    sheet.pop();
+    assert!(read(&sheet, GREATEST).is_ok());
+}
+
+#[test]
+fn the_largest_sheet_has_33_644_bytes() {
+    let market = Market::new(&[1; 40], &[1; 40], &[1; 200], &[1; 8_000]);
+    assert_eq!(write(&market, |_, _| false).len(), 33_644);
+}
+
+#[test]
+fn case_e_posts_once_as_round_1() {
+    let mut ledger = Ledger::empty(3, 2);
+    assert_eq!(ledger.post(&samples::case_e(), 1), Ok(()));
+    let posted = Ledger {
+        guests: vec![24, 0, 0],
+        stations: vec![StationAccount { sold: 3, paid: 18 }, StationAccount::default()],
+        house: 6,
+        last: 1,
+    };
+    assert_eq!(ledger, posted);
+    assert!(ledger.balances());
+    assert_eq!(ledger.post(&samples::case_e(), 1), Err(11));
+    assert_eq!(ledger, posted);
+}
+
+#[test]
+fn posting_refuses_in_the_tables_order() {
+    let case_e = samples::case_e();
+    let over = Ledger { house: MAX_ACCOUNT + 1, ..Ledger::empty(201, 2) };
+    assert_eq!(over.clone().post(&samples::refused(), 2), Err(6));
+    assert_eq!(over.clone().post(&case_e, 2), Err(13));
+    for (guests, stations, answer) in [(200, 40, Ok(())), (2, 2, Ok(())), (1, 2, Err(13)), (2, 1, Err(13)), (2, 41, Err(13))] {
+        assert_eq!(Ledger::empty(guests, stations).post(&case_e, 1), answer);
+    }
+    let mut over = Ledger { guests: vec![0; 2], ..over };
+    assert_eq!(over.post(&case_e, 2), Err(11));
+    assert_eq!(over.post(&case_e, 1), Err(12));
+    over.house = MAX_ACCOUNT;
+    assert_eq!(over.post(&case_e, 1), Err(12));
+    over.house -= 6;
+    assert_eq!(over.post(&case_e, 1), Ok(()));
+}
+
+#[test]
+fn no_round_follows_the_last() {
+    let mut ledger = Ledger { last: 4_294_967_294, ..Ledger::empty(2, 2) };
+    assert_eq!(ledger.post(&samples::case_e(), u32::MAX), Ok(()));
+    for round in [0, 1, u32::MAX] {
+        assert_eq!(ledger.post(&samples::case_e(), round), Err(11));
+    }
+}
+
+#[test]
+fn the_sample_files_are_current() {
+    let folder = std::path::Path::new(env!("CARGO_MANIFEST_DIR")).join("../../examples");
+    for (name, sheet) in samples::sheets() {
+        assert_eq!(std::fs::read(folder.join(format!("{name}.sheet"))).unwrap(), sheet, "{name}");
+        assert_eq!(std::fs::read_to_string(folder.join(format!("{name}.txt"))).unwrap(), report::printed(&sheet), "{name}");
+    }
+}

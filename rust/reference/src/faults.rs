@@ -1,0 +1,76 @@
+//! Document 01, 'Refusals by place': the clearing's rows. The reader's and the posting's stand with those.
+
+use crate::market::Market;
+
+pub const SHEET_ENDS: u8 = 1;
+pub const COUNTS_OUT_OF_RANGE: u8 = 2;
+pub const STRAY_BIT: u8 = 3;
+pub const TRAILING_BYTES: u8 = 4;
+pub const LENGTHS_DIFFER: u8 = 5;
+pub const ASK_OUT_OF_RANGE: u8 = 6;
+pub const BAYS_OUT_OF_RANGE: u8 = 7;
+pub const AMOUNT_OUT_OF_RANGE: u8 = 8;
+pub const BID_OUT_OF_RANGE: u8 = 9;
+pub const LENT_LENGTHS: u8 = 10;
+pub const ROUND_OUT_OF_TURN: u8 = 11;
+pub const ACCOUNT_OVER_LIMIT: u8 = 12;
+pub const BOOK_SIZE: u8 = 13;
+
+pub const MAX_GUESTS: usize = 200;
+pub const MAX_STATIONS: usize = 40;
+pub const MAX_PRICE: u32 = 1_000_000;
+pub const MAX_AMOUNT: u16 = 1_000;
+pub const MAX_BAYS: u16 = 200;
+
+/// How long the result lists are that a clearing is lent.
+#[derive(Clone, Copy, Debug, PartialEq, Eq)]
+pub struct ListLengths {
+    pub stations: usize,
+    pub charges: usize,
+    pub sold: usize,
+    pub paid: usize,
+}
+
+impl ListLengths {
+    /// The lengths that a market's results have.
+    pub fn of(market: &Market) -> ListLengths {
+        let (n, m) = (market.guests(), market.stations());
+        ListLengths { stations: n, charges: n, sold: m, paid: m }
+    }
+}
+
+pub fn counts_in_range(n: usize, m: usize) -> bool {
+    n <= MAX_GUESTS && (1..=MAX_STATIONS).contains(&m)
+}
+
+/// The first fault of a clearing, by its number.
+pub fn clearing_fault(market: &Market, lists: ListLengths) -> Result<(), u8> {
+    let (n, m) = (market.guests(), market.stations());
+    if !counts_in_range(n, m) {
+        return Err(COUNTS_OUT_OF_RANGE);
+    }
+    if market.bays.len() != m || market.bids.len() != n * m || market.width != m {
+        return Err(LENGTHS_DIFFER);
+    }
+    if lists != ListLengths::of(market) {
+        return Err(LENT_LENGTHS);
+    }
+    if market.asks.iter().any(|&ask| ask > MAX_PRICE) {
+        return Err(ASK_OUT_OF_RANGE);
+    }
+    if market.bays.iter().any(|&bays| bays == 0 || bays > MAX_BAYS) {
+        return Err(BAYS_OUT_OF_RANGE);
+    }
+    if market.amounts.iter().any(|&amount| amount == 0 || amount > MAX_AMOUNT) {
+        return Err(AMOUNT_OUT_OF_RANGE);
+    }
+    if market.bids.iter().any(|&bid| bid > MAX_PRICE) {
+        return Err(BID_OUT_OF_RANGE);
+    }
+    Ok(())
+}
+
+/// The first fault of a market: the clearing's, the row on result lists aside.
+pub fn market_fault(market: &Market) -> Result<(), u8> {
+    clearing_fault(market, ListLengths::of(market))
+}

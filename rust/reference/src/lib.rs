@@ -1,0 +1,14 @@
+//! The bay market in plain Rust, written from document 01 alone: candidates and asks are sorted, numbers are 128 bits
+//! wide, and every rule stands where the page has it. The engine is compared with this.
+
+pub mod clearing;
+pub mod faults;
+pub mod ledger;
+pub mod market;
+pub mod random;
+pub mod report;
+pub mod samples;
+pub mod sheet;
+
+#[cfg(test)]
+mod cases;

@@ -1,0 +1,83 @@
+//! Seeded random numbers and markets.
+
+use crate::faults::{MAX_AMOUNT, MAX_BAYS, MAX_GUESTS, MAX_PRICE, MAX_STATIONS};
+use crate::market::Market;
+use std::ops::RangeInclusive;
+
+/// The splitmix64 generator.
+pub struct Random(u64);
+
+impl Random {
+    pub fn new(seed: u64) -> Random {
+        Random(seed)
+    }
+
+    pub fn bits(&mut self) -> u64 {
+        self.0 = self.0.wrapping_add(0x9E37_79B9_7F4A_7C15);
+        let mut z = self.0;
+        z = (z ^ (z >> 30)).wrapping_mul(0xBF58_476D_1CE4_E5B9);
+        z = (z ^ (z >> 27)).wrapping_mul(0x94D0_49BB_1331_11EB);
+        z ^ (z >> 31)
+    }
+
+    pub fn within(&mut self, range: RangeInclusive<u64>) -> u64 {
+        range.start() + self.bits() % (range.end() - range.start() + 1)
+    }
+
+    pub fn below(&mut self, bound: usize) -> usize {
+        self.within(0..=bound as u64 - 1) as usize
+    }
+
+    pub fn chance(&mut self, percent: u64) -> bool {
+        self.within(1..=100) <= percent
+    }
+
+    pub fn pick<'a, T>(&mut self, from: &'a [T]) -> &'a T {
+        &from[self.below(from.len())]
+    }
+}
+
+/// The ranges that a random market's numbers come from.
+#[derive(Clone)]
+pub struct Shape {
+    pub guests: RangeInclusive<u64>,
+    pub stations: RangeInclusive<u64>,
+    pub asks: RangeInclusive<u64>,
+    pub bays: RangeInclusive<u64>,
+    pub amounts: RangeInclusive<u64>,
+    pub bids: RangeInclusive<u64>,
+    /// Of a hundred bids, how many are 0.
+    pub empty: u64,
+}
+
+impl Shape {
+    /// Anything within the limits.
+    pub fn whole() -> Shape {
+        let price = 0..=u64::from(MAX_PRICE);
+        Shape {
+            guests: 0..=MAX_GUESTS as u64,
+            stations: 1..=MAX_STATIONS as u64,
+            asks: price.clone(),
+            bays: 1..=u64::from(MAX_BAYS),
+            amounts: 1..=u64::from(MAX_AMOUNT),
+            bids: price,
+            empty: 0,
+        }
+    }
+
+    /// As many guests and stations as there may be.
+    pub fn full() -> Shape {
+        Shape { guests: 200..=200, stations: 40..=40, ..Shape::whole() }
+    }
+
+    pub fn market(&self, random: &mut Random) -> Market {
+        let n = random.within(self.guests.clone());
+        let m = random.within(self.stations.clone());
+        let asks: Vec<u32> = (0..m).map(|_| random.within(self.asks.clone()) as u32).collect();
+        let bays: Vec<u16> = (0..m).map(|_| random.within(self.bays.clone()) as u16).collect();
+        let amounts: Vec<u16> = (0..n).map(|_| random.within(self.amounts.clone()) as u16).collect();
+        let bids: Vec<u32> =
+            (0..n * m).map(|_| if random.chance(self.empty) { 0 } else { random.within(self.bids.clone()) as u32 }).collect();
+        Market::new(&asks, &bays, &amounts, &bids)
+    }
+}

@@ -1,0 +1,27 @@
+//! What the clearing program prints.
+
+use crate::clearing::{Outcome, clear};
+use crate::faults::market_fault;
+use crate::sheet::{GREATEST, read};
+use std::fmt::Write;
+
+pub fn outcome(outcome: &Outcome) -> String {
+    let mut text = format!("cut {}\n", outcome.cut);
+    for (i, (station, charge)) in outcome.stations.iter().zip(&outcome.charges).enumerate() {
+        writeln!(text, "guest {} station {station} charge {charge}", i + 1).unwrap();
+    }
+    for (j, (sold, paid)) in outcome.sold.iter().zip(&outcome.paid).enumerate() {
+        writeln!(text, "station {} sold {sold} paid {paid}", j + 1).unwrap();
+    }
+    writeln!(text, "margin {}", outcome.margin).unwrap();
+    text
+}
+
+/// What the program prints for a sheet.
+pub fn printed(sheet: &[u8]) -> String {
+    let cleared = read(sheet, GREATEST).and_then(|market| market_fault(&market).map(|()| clear(&market)));
+    match cleared {
+        Ok(cleared) => outcome(&cleared),
+        Err(number) => format!("refused {number}\n"),
+    }
+}

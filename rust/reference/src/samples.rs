@@ -1,0 +1,48 @@
+//! The sheets of examples/.
+
+use crate::market::Market;
+use crate::random::{Random, Shape};
+use crate::sheet::write;
+
+/// Table I of document 000.
+pub fn table_i() -> Market {
+    Market::new(
+        &[4, 1, 3, 2, 5],
+        &[1, 2, 4, 2, 3],
+        &[5, 2, 6, 4, 3],
+        &[
+            0, 4, 0, 5, 2, //
+            2, 0, 5, 1, 0, //
+            7, 5, 0, 4, 0, //
+            6, 4, 0, 3, 0, //
+            0, 0, 2, 3, 5,
+        ],
+    )
+}
+
+/// Case E of document 01.
+pub fn case_e() -> Market {
+    Market::new(&[2, 6], &[1, 1], &[3, 3], &[8, 0, 8, 0])
+}
+
+/// 200 guests and 40 stations, in mills as a city might have them.
+pub fn full() -> Market {
+    let shape =
+        Shape { guests: 200..=200, stations: 40..=40, asks: 90..=450, bays: 1..=12, amounts: 5..=80, bids: 100..=900, empty: 60 };
+    shape.market(&mut Random::new(8))
+}
+
+/// Case E with an ask one above the limit.
+pub fn refused() -> Market {
+    let mut market = case_e();
+    market.asks[1] = 1_000_001;
+    market
+}
+
+/// Each sample's name and sheet.
+pub fn sheets() -> Vec<(&'static str, Vec<u8>)> {
+    [("table_i", table_i()), ("case_e", case_e()), ("full", full()), ("refused", refused())]
+        .into_iter()
+        .map(|(name, market)| (name, write(&market, |_, _| false)))
+        .collect()
+}

@@ -1,0 +1,137 @@
+/* Case E of document 01, refusals and the header's limits, through include/bay_market.h. */
+#include "bay_market.h"
+
+#include <stdio.h>
+
+_Static_assert(BAY_MARKET_MAX_BIDS == BAY_MARKET_MAX_GUESTS * BAY_MARKET_MAX_STATIONS, "bids");
+_Static_assert(BAY_MARKET_MAX_SHEET == 4 + 6 * BAY_MARKET_MAX_STATIONS
+               + (2 + BAY_MARKET_MAX_STATIONS / 8) * BAY_MARKET_MAX_GUESTS + 4 * BAY_MARKET_MAX_BIDS, "sheet");
+
+static int failures = 0;
+
+static void expect(int holds, const char *what)
+{
+    if (!holds) {
+        fprintf(stderr, "failed: %s\n", what);
+        failures++;
+    }
+}
+
+static const uint8_t sheet[] = {
+    0x02, 0x00, 0x02, 0x00, 0x02, 0x00, 0x00, 0x00, 0x01, 0x00, 0x06, 0x00, 0x00, 0x00, 0x01, 0x00,
+    0x03, 0x00, 0x01, 0x08, 0x00, 0x00, 0x00, 0x03, 0x00, 0x01, 0x08, 0x00, 0x00, 0x00,
+};
+
+static uint16_t amounts[BAY_MARKET_MAX_GUESTS];
+static uint32_t asks[BAY_MARKET_MAX_STATIONS];
+static uint16_t bays[BAY_MARKET_MAX_STATIONS];
+static uint32_t bids[BAY_MARKET_MAX_BIDS];
+static uint16_t n = 77, m = 77;
+
+static uint8_t read_sheet(size_t length)
+{
+    return bay_market_read(sheet, length, amounts, BAY_MARKET_MAX_GUESTS, asks, BAY_MARKET_MAX_STATIONS,
+                           bays, BAY_MARKET_MAX_STATIONS, bids, BAY_MARKET_MAX_BIDS, &n, &m);
+}
+
+static void test_read(void)
+{
+    expect(read_sheet(sizeof sheet - 1) == BAY_MARKET_SHEET_ENDS, "a cut sheet is refused");
+    expect(n == 77 && m == 77 && asks[0] == 0 && amounts[0] == 0, "a refused sheet is not read");
+    expect(read_sheet(sizeof sheet) == BAY_MARKET_ACCEPTED, "case E is read");
+    expect(n == 2 && m == 2, "counts");
+    expect(asks[0] == 2 && asks[1] == 6 && bays[0] == 1 && bays[1] == 1, "asks and bays");
+    expect(amounts[0] == 3 && amounts[1] == 3, "amounts");
+    expect(bids[0] == 8 && bids[1] == 0 && bids[2] == 8 && bids[3] == 0, "bids");
+}
+
+static void test_clear(void)
+{
+    uint16_t stations[2] = {77, 77};
+    uint32_t charges[2] = {77, 77};
+    uint32_t sold[2] = {77, 77};
+    uint64_t paid[2] = {77, 77};
+    uint32_t cut = 77;
+    uint64_t margin = 77;
+
+    expect(bay_market_clear(asks, m, bays, m, amounts, n, bids, 4, 1, stations, n, charges, n, sold, m, paid, m,
+                            &cut, &margin) == BAY_MARKET_LENGTHS_DIFFER, "another row width is refused");
+    expect(stations[0] == 77 && charges[0] == 77 && sold[0] == 77 && paid[0] == 77 && cut == 77 && margin == 77,
+           "a refused clearing writes nothing");
+    expect(bay_market_clear(asks, m, bays, m, amounts, n, bids, 4, m, stations, n, charges, n, sold, m, paid, m,
+                            &cut, &margin) == BAY_MARKET_ACCEPTED, "case E is cleared");
+    expect(stations[0] == 1 && stations[1] == 0 && charges[0] == 24 && charges[1] == 0, "guests");
+    expect(sold[0] == 3 && sold[1] == 0 && paid[0] == 18 && paid[1] == 0, "stations");
+    expect(cut == 6 && margin == 6, "cut and margin");
+}
+
+/* Clears one guest at one station. */
+static uint8_t clear_one(uint32_t ask, uint16_t count, uint16_t amount, uint32_t bid)
+{
+    uint16_t station;
+    uint32_t charge, sold, cut;
+    uint64_t paid, margin;
+
+    return bay_market_clear(&ask, 1, &count, 1, &amount, 1, &bid, 1, 1, &station, 1, &charge, 1, &sold, 1, &paid, 1,
+                            &cut, &margin);
+}
+
+static void test_limits(void)
+{
+    const uint32_t price = BAY_MARKET_MAX_PRICE;
+
+    expect(clear_one(price, BAY_MARKET_MAX_BAYS, BAY_MARKET_MAX_AMOUNT, price) == BAY_MARKET_ACCEPTED, "at the limits");
+    expect(clear_one(price + 1, 1, 1, 1) == BAY_MARKET_ASK_OUT_OF_RANGE, "an ask beyond");
+    expect(clear_one(1, BAY_MARKET_MAX_BAYS + 1, 1, 1) == BAY_MARKET_BAYS_OUT_OF_RANGE, "bays beyond");
+    expect(clear_one(1, 0, 1, 1) == BAY_MARKET_BAYS_OUT_OF_RANGE, "no bays");
+    expect(clear_one(1, 1, BAY_MARKET_MAX_AMOUNT + 1, 1) == BAY_MARKET_AMOUNT_OUT_OF_RANGE, "an amount beyond");
+    expect(clear_one(1, 1, 0, 1) == BAY_MARKET_AMOUNT_OUT_OF_RANGE, "no amount");
+    expect(clear_one(1, 1, 1, price + 1) == BAY_MARKET_BID_OUT_OF_RANGE, "a bid beyond");
+}
+
+/* Posts case E as the next round to a ledger with the given accounts. */
+static uint8_t post_to(uint64_t house, uint32_t last)
+{
+    uint64_t guests[2] = {0};
+    struct bay_market_station_account stations[2] = {{0, 0}, {0, 0}};
+
+    return bay_market_post(asks, m, bays, m, amounts, n, bids, 4, m, last + 1, guests, 2, stations, 2, &house, &last);
+}
+
+static void test_ledger_limits(void)
+{
+    expect(post_to(BAY_MARKET_MAX_ACCOUNT - 6, 0) == BAY_MARKET_ACCEPTED, "an account at its limit");
+    expect(post_to(BAY_MARKET_MAX_ACCOUNT - 5, 0) == BAY_MARKET_ACCOUNT_OVER_LIMIT, "an account beyond");
+    expect(post_to(0, BAY_MARKET_MAX_ROUND - 1) == BAY_MARKET_ACCEPTED, "the last round");
+    expect(post_to(0, BAY_MARKET_MAX_ROUND) == BAY_MARKET_ROUND_OUT_OF_TURN, "no round is left");
+}
+
+static void test_post(void)
+{
+    uint64_t guests[3] = {0};
+    struct bay_market_station_account stations[2] = {{0, 0}, {0, 0}};
+    uint64_t house = 0;
+    uint32_t last = 0;
+
+    for (int posting = 0; posting < 2; posting++) {
+        uint8_t answer = bay_market_post(asks, m, bays, m, amounts, n, bids, 4, m, 1, guests, 3, stations, 2, &house, &last);
+        expect(answer == (posting == 0 ? BAY_MARKET_ACCEPTED : BAY_MARKET_ROUND_OUT_OF_TURN), "round 1 is posted once");
+        expect(guests[0] == 24 && guests[1] == 0 && guests[2] == 0, "guest accounts");
+        expect(stations[0].sold == 3 && stations[0].paid == 18 && stations[1].sold == 0 && stations[1].paid == 0,
+               "station accounts");
+        expect(house == 6 && last == 1, "house and last round");
+    }
+}
+
+int main(void)
+{
+    test_read();
+    test_clear();
+    test_post();
+    test_limits();
+    test_ledger_limits();
+    if (failures == 0) {
+        puts("C test: all as expected");
+    }
+    return failures != 0;
+}
