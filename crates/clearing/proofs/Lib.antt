@@ -2,3 +2,4 @@ pub mod Winners
 pub mod Turns
 pub mod Answers
 pub mod Rows
+pub mod Callers

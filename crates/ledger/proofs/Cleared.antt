@@ -1,35 +1,32 @@
 -- A call of `clear` on lists of the right lengths, and the round that it comes to.
 use Prim.Native.Nat.{ℕ, _+_, _-_, _<_, _≤_}
-use mathlib.Core.Bool.{Bool, true, false, not}
-use mathlib.Core.List.{List, _∷_, _++_}
+use mathlib.Core.Bool.{true, not}
+use mathlib.Core.List.{List, _++_}
 use mathlib.Core.Logic.{⊎-elim}
-use mathlib.Core.Path.{_≡_, refl, sym, ap, _∙_}
+use mathlib.Core.Path.{_≡_, sym, ap, _∙_}
 use native.Mathlib.Omega.{arith}
-use lib.ListN.{getD, length, take, drop, replicate, length-replicate, length-append, length-take, length-drop, getD-replicate, List·getD-append}
+use lib.ListN.{getD, length, drop, replicate, length-replicate, length-append, length-drop, getD-replicate, List·getD-append}
 use lib.Seq.{getD-append-add, getD-drop}
 use Rattle.auction.specs.Counting.{_<?_, _=?_, _or_, only, list}
 use Rattle.auction.specs.Limits.{maxGuests, maxStations}
 use Rattle.auction.specs.declared.Refusal.{Refusal}
 use Rattle.auction.specs.declared.Refusal.the-variants.{CountsOutOfRange}
-use Rattle.auction.specs.Refusals.{Row, _gives_, Verdict, accepted, refused, firstFault}
+use Rattle.auction.specs.Refusals.{accepted, refused, firstFault}
 use Rattle.auction.specs.Market.{Tables, market, marketBy, screen}
 use Rattle.auction.specs.Mechanism.{charged, sold, paid}
 use Rattle.auction.specs.Outcome.{Results, settle, seen, decided, outcome}
-use Rattle.auction.specs.Faults.{counts, lengths, lent, marketFaults, verdict, clearingFaults}
-use Rattle.auction.proofs.Tests.{or-left, or-right, neither, is-lt, is-eq, lt-or-le, only-yes, only-no, not-lt}
+use Rattle.auction.specs.Faults.{counts, lengths, marketFaults, verdict}
+use Rattle.auction.proofs.Tests.{or-left, or-right, is-lt, lt-or-le, only-yes, only-no, not-lt}
 use Rattle.auction.proofs.Counting.{length-list, getD-list}
 use Rattle.clearing.specs.declared.Clearing.{Clearing}
 use Rattle.clearing.specs.declared.Clearing.the-variants as clearing
-use Rattle.clearing.specs.Clears.{tables, results, answerTo, resultsOf, Clears}
+use Rattle.clearing.specs.Clears.{tables, results, Clears}
+use Rattle.clearing.proofs.Callers.{RightLengths, clear-refused, clear-cleared}
 use Rattle.kernels.proofs.Loops.{is-list}
 use Rattle.ledger.specs.PlainBook.{posting, toGuest, toSold, toPaid, toHouse}
 use Rattle.ledger.specs.Round.{posted, adding, refusing, roundBy}
 use Rattle.ledger.specs.declared.Reply.the-variants as reply
 use Rattle.ledger.specs.declared.Round.{Round}
-
--- the first n of an array of zeros
-pub zeros-long : (size n : ℕ) → n ≤ size → n ≡ length (take n (replicate {A = ℕ} size 0))
-zeros-long size n h = omega (arith, length-take n (replicate {A = ℕ} size 0), length-replicate {A = ℕ} size 0)
 
 -- a list of n in front of an array of zeros
 filled : (size n : ℕ) (f : ℕ → ℕ) → n ≤ size → list n f ++ drop n (replicate size 0) ≡ list size (λ k. only (k <? n) (f k))
@@ -47,23 +44,6 @@ filled size n f h = is-list size _ _ long at
         ap (λ x. getD (list n f ++ drop n (replicate size 0)) x 0) j ∙ getD-append-add (list n f) (drop n (replicate size 0)) (k - n) 0
         ∙ getD-drop n (replicate size 0) (k - n) 0 ∙ getD-replicate {A = ℕ} size (n + (k - n)) 0 0 (omega arith) ∙ sym (only-no _ _ (not-lt k n c)))
         (lt-or-le k n)
-
--- ---- the verdict
-
-without-third : (a b : Row) (x : Bool) (r : Refusal) (rows : List Row) → x ≡ false → firstFault (a ∷ b ∷ (x gives r) ∷ rows) ≡ firstFault (a ∷ b ∷ rows)
-unfolding firstFault
-without-third (true gives _) b x r rows e = refl
-without-third (false gives _) (true gives _) x r rows e = refl
-without-third (false gives _) (false gives _) x r rows e = rw e
-
--- result lists of the right lengths are no fault
-same-verdict : (t : Tables) (r : Results) → length (r .stations) ≡ length (t .amounts) → length (r .charges) ≡ length (t .amounts) → length (r .sold) ≡ length (t .asks) → length (r .paid) ≡ length (t .asks)
-    → firstFault (clearingFaults t r) ≡ verdict t
-unfolding clearingFaults verdict marketFaults lent
-same-verdict t r a b c d = without-third _ _ _ _ _ (neither (neither (neither (same _ _ a) (same _ _ b)) (same _ _ c)) (same _ _ d))
-  where
-    same : (x y : ℕ) → x ≡ y → not (x =? y) ≡ false
-    same x y e = ap not (is-eq x y e)
 
 module _ (asks bays amounts bids : List ℕ) (width : ℕ) where
   abbrev t : Tables
@@ -95,33 +75,15 @@ module _ (asks bays amounts bids : List ℕ) (width : ℕ) where
   }
 
   -- the call, on lists of the right lengths
-  module _ (entry exit : Results) (answer : Clearing) (c : Clears t entry answer exit)
-      (a : length (entry .stations) ≡ length amounts) (b : length (entry .charges) ≡ length amounts) (d : length (entry .sold) ≡ length asks) (e : length (entry .paid) ≡ length asks) where
-    said : answer ≡ answerTo (verdict t) (outcome t)
-    said = c .answered ∙ ap (λ v. answerTo v (outcome t)) (same-verdict t entry a b d e)
-
-    left : exit ≡ resultsOf (verdict t) (outcome t) entry
-    left = c .left ∙ ap (λ v. resultsOf v (outcome t) entry) (same-verdict t entry a b d e)
-
-    refused-is : (x : Refusal) (v : Verdict) → answerTo v (outcome t) ≡ clearing.Refused x → v ≡ refused x
-    unfolding answerTo
-    refused-is x accepted q = absurd (let z : _≡_ {A = ℕ} 0 1 = cc in omega arith)
-    refused-is x (refused y) q = cc
-
-    pub clear-refused : (x : Refusal) (r : Round) → answer ≡ clearing.Refused x → r ≡ refusing x → r ≡ roundBy (verdict t) (posting t 0)
+  module _ (entry exit : Results) (answer : Clearing) (c : Clears t entry answer exit) (l : RightLengths t entry) where
+    pub clear-refuses : (x : Refusal) (r : Round) → answer ≡ clearing.Refused x → r ≡ refusing x → r ≡ roundBy (verdict t) (posting t 0)
     unfolding roundBy
-    clear-refused x r q p = rw (refused-is x (verdict t) (sym said ∙ q)) p
+    clear-refuses x r q p = rw (clear-refused t entry exit answer c l x q) p
 
-    accepted-is : (k m : ℕ) (v : Verdict) → answerTo v (outcome t) ≡ clearing.Cleared k m → (v ≡ accepted) × (m ≡ (outcome t) .margin)
-    unfolding answerTo
-    accepted-is k m accepted q = (refl, cc)
-    accepted-is k m (refused y) q = absurd (let z : _≡_ {A = ℕ} 0 1 = cc in omega arith)
-
-    pub clear-posted : (k m : ℕ) (r : Round) → length amounts ≤ maxGuests → length asks ≤ maxStations → answer ≡ clearing.Cleared k m
+    pub clear-posts : (k m : ℕ) (r : Round) → length amounts ≤ maxGuests → length asks ≤ maxStations → answer ≡ clearing.Cleared k m
         → r ≡ posted (exit .charges ++ drop (length amounts) (replicate maxGuests 0)) (exit .sold ++ drop (length asks) (replicate maxStations 0)) (exit .paid ++ drop (length asks) (replicate maxStations 0)) m
         → r ≡ roundBy (verdict t) (posting t 0)
-    unfolding resultsOf
-    clear-posted k m r n s q p =
-        let (v, mm) = accepted-is k m (verdict t) (sym said ∙ q) in
-        let x : exit ≡ resultsOf accepted (outcome t) entry = left ∙ ap (λ v. resultsOf v (outcome t) entry) v in
-        p ∙ full-round (exit .charges) (exit .sold) (exit .paid) m n s mm (ap (λ r. r .charges) x) (ap (λ r. r .sold) x) (ap (λ r. r .paid) x) ∙ ap (λ v. roundBy v (posting t 0)) (sym v)
+    clear-posts k m r n s q p =
+        let d = clear-cleared t entry exit answer c l k m q in
+        let x = d .results-are in
+        p ∙ full-round (exit .charges) (exit .sold) (exit .paid) m n s (d .margin-is) (ap (λ r. r .charges) x) (ap (λ r. r .sold) x) (ap (λ r. r .paid) x) ∙ ap (λ v. roundBy v (posting t 0)) (sym (d .is-accepted))

@@ -1,23 +1,23 @@
 -- Lines: what they are made of, and how long they are at most.
 use Prim.Native.Nat.{ℕ, zero, suc, _+_, _*_, _^_, _<_, _≤_}
-use mathlib.Core.List.{List, [], _∷_, _++_, append-assoc}
-use mathlib.Core.Path.{_≡_, refl, ap, _∙_}
+use mathlib.Core.List.{List, _++_}
+use mathlib.Core.Path.{ap}
 use native.Mathlib.Nat.{le-antisymm}
 use native.Mathlib.Numerals.{add-one}
 use native.Mathlib.Omega.{arith}
-use lib.ListN.{getD, length, length-append}
+use lib.ListN.{length, length-append}
 use Rattle.auction.specs.Counting.{joined}
 use Rattle.report.specs.Text.{digits, decimal, field, guestWord, atStationWord, chargeWord, stationWord, soldWord, paidWord, lineEnd, guestLine, stationLine, guestLines, stationLines}
 use Rattle.report.specs.Writing.{Wrote}
 use Rattle.report.proofs.Decimal.{length-decimal, word-digits}
-use Rattle.report.proofs.Writing.{wrote-none, wrote-then}
+use Rattle.report.proofs.Writing.{wrote-then}
 
 -- a word and then a number of 64 bits
 pub wrote-field : {l l′ l″ w : List ℕ} {p q r : ℕ} (x : ℕ) → x < 18446744073709551616 → Wrote l p w l′ q → ((k : ℕ) → x < 10 ^ (k + 1) → Wrote l′ q (digits (k + 1) x) l″ r) → Wrote l p (field w x) l″ r
 unfolding field decimal
 wrote-field x b a f = wrote-then a (f 19 (word-digits x b))
 
-length-field : (w : List ℕ) (x : ℕ) → length (field w x) ≤ length w + 20
+pub length-field : (w : List ℕ) (x : ℕ) → length (field w x) ≤ length w + 20
 unfolding field
 length-field w x = omega (arith, length-append w (decimal x), length-decimal x)
 
@@ -55,11 +55,17 @@ station-short : (j s p : ℕ) → length (stationLine j s p) ≤ 81
 unfolding stationLine
 station-short j s p = length-line stationWord soldWord paidWord j s p
 
+pub length-guest-lines : (stations charges : List ℕ) (n : ℕ) → length (guestLines stations charges n) ≤ 84 * n
+unfolding guestLines
+length-guest-lines stations charges n = length-joined _ 84 (λ k. guest-short _ _ _) n
+
+pub length-station-lines : (sold paid : List ℕ) (m : ℕ) → length (stationLines sold paid m) ≤ 81 * m
+unfolding stationLines
+length-station-lines sold paid m = length-joined _ 81 (λ k. station-short _ _ _) m
+
 -- where n lines end at the most
 pub guest-lines-end : {l l′ : List ℕ} (stations charges : List ℕ) {p q : ℕ} (n : ℕ) → Wrote l p (guestLines stations charges n) l′ q → q ≤ p + 84 * n
-unfolding guestLines
-guest-lines-end stations charges n a = omega (arith, a .next, length-joined (λ k. guestLine (k + 1) (getD stations k 0) (getD charges k 0)) 84 (λ k. guest-short _ _ _) n)
+guest-lines-end stations charges n a = omega (arith, a .next, length-guest-lines stations charges n)
 
 pub station-lines-end : {l l′ : List ℕ} (sold paid : List ℕ) {p q : ℕ} (m : ℕ) → Wrote l p (stationLines sold paid m) l′ q → q ≤ p + 81 * m
-unfolding stationLines
-station-lines-end sold paid m a = omega (arith, a .next, length-joined (λ k. stationLine (k + 1) (getD sold k 0) (getD paid k 0)) 81 (λ k. station-short _ _ _) m)
+station-lines-end sold paid m a = omega (arith, a .next, length-station-lines sold paid m)

@@ -4,9 +4,12 @@ use mathlib.Core.Bool.{Bool, true, false}
 use mathlib.Core.List.{List, [], _∷_, _++_}
 use lib.ListN.{getD, length}
 use Rattle.auction.specs.Counting.{_<?_, joined}
-use Rattle.auction.specs.Refusals.{number}
+use Rattle.auction.specs.Refusals.{number, Verdict, accepted, refused}
 use Rattle.auction.specs.declared.Refusal.{Refusal}
-use Rattle.auction.specs.Outcome.{Outcome}
+use Rattle.auction.specs.Market.{Tables}
+use Rattle.auction.specs.Outcome.{Outcome, outcome}
+use Rattle.auction.specs.Faults.{verdict}
+use Rattle.sheet.specs.Sheet.{Content, fault, tables, readSheet}
 
 -- x in decimal, the highest digit first: digit d is byte 48 + d, and a number below 10 is one digit. A 64-bit number has at most 20
 unfoldable pub higher : Bool → List ℕ → List ℕ
@@ -77,3 +80,18 @@ text o = field cutWord (o .cut) ++ lineEnd
 
 unfoldable pub refusalText : Refusal → List ℕ
 refusalText r = field refusedWord (number r) ++ lineEnd
+
+-- what the clearing program prints: of a market, and of a sheet
+unfoldable pub marketText : Verdict → Tables → List ℕ
+marketText accepted t = text (outcome t)
+marketText (refused r) t = refusalText r
+
+unfoldable pub marketTextOf : Tables → List ℕ
+marketTextOf t = marketText (verdict t) t
+
+unfoldable pub sheetText : Content → List ℕ
+sheetText (fault r) = refusalText r
+sheetText (tables t) = marketTextOf t
+
+unfoldable pub printed : (sheet : List ℕ) → List ℕ
+printed s = sheetText (readSheet s)

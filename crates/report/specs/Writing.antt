@@ -20,3 +20,13 @@ pub record Wrote (l : List ℕ) (p : ℕ) (t : List ℕ) (l′ : List ℕ) (q : 
 -- an outcome from its numbers and lists
 abbrev pub outcomeOf : (cut margin : ℕ) (stations charges sold paid : List ℕ) → Outcome
 outcomeOf cut margin stations charges sold paid = record { cut = cut; margin = margin; results = record { stations = stations; charges = charges; sold = sold; paid = paid } }
+
+-- the greatest length of a printed text: the cut, 200 guests, 40 stations and the margin, each number of at most 20 digits
+abbrev pub maxText : ℕ
+maxText = 20_093
+
+-- the contract of `print_clearing`: the buffer holds the text as far as it reaches, and the answer is the text's length
+pub record Prints (t out : List ℕ) (r : ℕ) (out′ : List ℕ) : Type 0 where
+  pub buffer-is : out′ ≡ overlaid t out
+  pub length-is : r ≡ length t
+  pub fits : r ≤ maxText

@@ -1,6 +1,6 @@
-use mathlib.Core.Path.{sym}
 use Rattle.auction.specs.Limits.{maxGuests, maxStations}
-use Rattle.ledger.proofs.Cleared.{zeros-long, many-guests, many-stations, clear-refused, clear-posted}
+use Rattle.clearing.proofs.Callers.{zeros-long, lengths}
+use Rattle.ledger.proofs.Cleared.{many-guests, many-stations, clear-refuses, clear-posts}
 use borrow.Author.Needs.{needs}
 use Rattle.ledger.proofs.clear_round.Statement.{statement}
 use Rattle.ledger.proofs.clear_round.Tie as tie
@@ -57,10 +57,10 @@ cleared-round-requires : tie.Need-cleared-round-requires
 cleared-round-requires c κs = search needs
 
 returns-3 : tie.Need-returns-3
-returns-3 c = clear-refused _ _ _ _ _ _ _ _ (c .before .before .before .before .before .before .before .before .clear .ensures) (sym (zeros-long maxGuests _ (c .before .before .before .before .before .before .before .before .before .before .before .before .before .before .if1 .left))) (sym (zeros-long maxGuests _ (c .before .before .before .before .before .before .before .before .before .before .before .before .before .before .if1 .left))) (sym (zeros-long maxStations _ (c .before .before .before .before .before .before .before .before .before .before .before .before .before .if2 .left))) (sym (zeros-long maxStations _ (c .before .before .before .before .before .before .before .before .before .before .before .before .before .if2 .left))) _ _ (c .before .before .answer .given .1) (c .refusing3 .ensures)
+returns-3 c = clear-refuses _ _ _ _ _ _ _ _ (c .before .before .before .before .before .before .before .before .clear .ensures) (lengths _ (c .before .before .before .before .before .before .before .before .before .before .before .before .before .before .if1 .left) (c .before .before .before .before .before .before .before .before .before .before .before .before .before .if2 .left)) _ _ (c .before .before .answer .given .1) (c .refusing3 .ensures)
 
 returns-4 : tie.Need-returns-4
-returns-4 c = clear-posted _ _ _ _ _ _ _ _ (c .before .before .before .before .before .before .before .before .clear .ensures) (sym (zeros-long maxGuests _ (c .before .before .before .before .before .before .before .before .before .before .before .before .before .before .if1 .left))) (sym (zeros-long maxGuests _ (c .before .before .before .before .before .before .before .before .before .before .before .before .before .before .if1 .left))) (sym (zeros-long maxStations _ (c .before .before .before .before .before .before .before .before .before .before .before .before .before .if2 .left))) (sym (zeros-long maxStations _ (c .before .before .before .before .before .before .before .before .before .before .before .before .before .if2 .left))) _ _ _ (c .before .before .before .before .before .before .before .before .before .before .before .before .before .before .if1 .left) (c .before .before .before .before .before .before .before .before .before .before .before .before .before .if2 .left) (c .before .before .answer2 .given .1) (c .cleared-round .ensures)
+returns-4 c = clear-posts _ _ _ _ _ _ _ _ (c .before .before .before .before .before .before .before .before .clear .ensures) (lengths _ (c .before .before .before .before .before .before .before .before .before .before .before .before .before .before .if1 .left) (c .before .before .before .before .before .before .before .before .before .before .before .before .before .if2 .left)) _ _ _ (c .before .before .before .before .before .before .before .before .before .before .before .before .before .before .if1 .left) (c .before .before .before .before .before .before .before .before .before .before .before .before .before .if2 .left) (c .before .before .answer2 .given .1) (c .cleared-round .ensures)
 
 pub clear-round-spec : {M : Type 1} → statement M
 clear-round-spec =

@@ -1,5 +1,5 @@
 use native.Mathlib.Omega.{arith}
-use Rattle.report.specs.Text.{guestLine, stationLine}
+use Rattle.report.specs.Text.{guestLine}
 use Rattle.report.proofs.Lines.{field-end, wrote-line}
 use borrow.Author.Needs.{needs}
 use Rattle.report.proofs.guest_line.Statement.{statement}

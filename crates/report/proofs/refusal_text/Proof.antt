@@ -1,4 +1,3 @@
-use mathlib.Core.Path.{subst}
 use native.Mathlib.Omega.{arith}
 use Rattle.report.specs.Text.{refusalText}
 use Rattle.report.proofs.Lines.{field-end}
