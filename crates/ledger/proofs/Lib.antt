@@ -1,5 +1,7 @@
 pub mod Accounts
-pub mod Ledger
 pub mod Loops
+pub mod Stations
+pub mod Ledger
 pub mod Settling
+pub mod Planning
 pub mod Posting
