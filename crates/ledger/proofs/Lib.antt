@@ -5,3 +5,4 @@ pub mod Ledger
 pub mod Settling
 pub mod Planning
 pub mod Posting
+pub mod Example

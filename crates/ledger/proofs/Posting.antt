@@ -1,12 +1,11 @@
 -- One posting: the planned round, the settled one and the accounts after it are the plain book's step.
-use Prim.Native.Nat.{ℕ, _+_, _≤_, _<_, _^_}
-use mathlib.Core.Bool.{Bool, true, false, _||_}
+use Prim.Native.Nat.{ℕ, _+_, _≤_, _<_}
+use mathlib.Core.Bool.{Bool, true, false}
 use mathlib.Core.List.{List, [], _∷_, _++_, append-assoc}
 use mathlib.Core.Logic.{⊎-elim}
-use mathlib.Core.Path.{_≡_, refl, sym, ap, ap₂, subst, _∙_}
+use mathlib.Core.Path.{_≡_, refl, sym, ap, subst, _∙_}
 use native.Mathlib.Omega.{arith}
 use lib.ListN.{getD, length, replicate, length-replicate, List·getD-eq-default, getD-replicate}
-use lib.Seq.{ext-getD}
 use Rattle.auction.specs.Counting.{_<?_, _or_, only, some, any, list}
 use Rattle.auction.specs.Limits.{maxGuests, maxStations, maxAccount}
 use Rattle.auction.specs.Market.{Tables}
@@ -14,10 +13,10 @@ use Rattle.auction.specs.Mechanism.{charged, sold, paid, margin}
 use Rattle.auction.specs.Outcome.{seen, decided}
 use Rattle.auction.specs.Refusals.{Row, _gives_, Verdict, accepted, refused, firstFault}
 use Rattle.auction.specs.declared.Refusal.{Refusal}
-use Rattle.auction.specs.declared.Refusal.the-variants.{AccountOverLimit, BookSize, RoundOutOfTurn}
+use Rattle.auction.specs.declared.Refusal.the-variants.{AccountOverLimit}
 use Rattle.auction.specs.Faults.{Book, raised, entered, overLimit, bookSize, outOfTurn, marketFaults, verdict, postingFaults}
 use Rattle.auction.proofs.Tests.{decide, same-test, or-cases, or-left, or-right, or-no, lt-yes, is-lt, lt-or-le}
-use Rattle.auction.proofs.Counting.{some-cong, some-mono, length-list, getD-list, list-cong}
+use Rattle.auction.proofs.Counting.{some-cong, some-mono, getD-list, list-cong}
 use Rattle.auction.proofs.Acceptance.{clear-of, clear-of-both, first-refuses, first-accepts, inside}
 use Rattle.ledger.specs.declared.Reply.the-variants as reply
 use Rattle.ledger.specs.declared.Round.{Round}
@@ -36,11 +35,6 @@ use Rattle.ledger.proofs.Planning.{replied}
 -- nothing is added past the end of adds, nor by zeros
 zeros-at : (n k : ℕ) → _≡_ {A = ℕ} (getD (replicate n 0) k 0) 0
 zeros-at n k = ⊎-elim (λ (l : k < n). getD-replicate {A = ℕ} n k 0 0 l) (λ (l : n ≤ k). List·getD-eq-default (replicate n 0) 0 (rw length-replicate l)) (lt-or-le k n)
-
-plus-zeros : (xs : List ℕ) (n : ℕ) → plus xs (replicate n 0) ≡ xs
-unfolding plus
-plus-zeros xs n = ext-getD 0 _ _ (length-list (length xs) _) (λ k l. let lk : k < length xs = omega (arith, length-list (length xs) (λ k. getD xs k 0 + getD (replicate n 0) k 0)) in
-    getD-list (length xs) _ k lk ∙ omega (arith, zeros-at n k))
 
 -- a list of accounts no longer than what is added
 module _ (n : ℕ) (f : ℕ → ℕ) (xs : List ℕ) (size : ℕ) (small : length xs ≤ size) where
@@ -216,7 +210,7 @@ module _ (p : Posting) (L : LentBook) where
           (q, λ x. record { guests = guests-are x; sold = sold-is x; paid = paid-is x; house = house-is x; last = h .last-is x })
       left-by (refused x) e h =
           let stations-are : stations′ ≡ L .stations = es ∙ ap (λ r. creditedTo r (length (L .stations)) (L .stations)) (h .round-is)
-            ∙ credited-nothing (refusing x) (L .stations) (zeros-at maxStations) (zeros-at maxStations) in
+          ∙ credited-nothing (refusing x) (L .stations) (zeros-at maxStations) (zeros-at maxStations) in
           (h .round-is, λ y. record { guests = h .guests-are y; sold = soldOf (stations-are y); paid = paidOf (stations-are y); house = h .house-is y; last = h .last-is y })
 
       pub posts : Posted L p (verdictOf (s .reply)) exit

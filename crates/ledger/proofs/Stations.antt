@@ -7,16 +7,16 @@ use mathlib.Core.Path.{_≡_, refl, sym, ap, ap₂, _∙_}
 use native.Mathlib.Nat.{le-refl}
 use native.Mathlib.Numerals.{add-one}
 use native.Mathlib.Omega.{arith}
-use lib.ListN.{getD, length, set, length-set, length-map, List·getD-map, replicate, length-replicate, getD-replicate}
+use lib.ListN.{getD, length, set, length-set, length-map, List·getD-map, replicate}
 use lib.Seq.{getD-set-same, getD-set-other, ext-getD}
 use Rattle.auction.specs.Counting.{_<?_, _or_, some}
 use Rattle.auction.specs.Limits.{maxAccount}
 use Rattle.auction.proofs.Tests.{or-no, lt-no, lt-or-le}
-use Rattle.auction.proofs.Counting.{some-no, some-cong, up, here}
+use Rattle.auction.proofs.Counting.{some-no, some-cong, here}
 use Rattle.ledger.specs.declared.StationAccount.{StationAccount}
 use Rattle.ledger.specs.declared.Round.{Round}
 use Rattle.ledger.specs.PlainBook.{empty}
-use Rattle.ledger.specs.LentBook.{LentBook, account, blank, accountAt, soldOf, paidOf, plain}
+use Rattle.ledger.specs.LentBook.{account, blank, accountAt, soldOf, paidOf, plain, PlainDetermines}
 use Rattle.ledger.specs.Round.{exceeding, plus}
 use Rattle.ledger.specs.Stations.{overfills, overfilledTo, creditedBy, credited, creditedTo}
 use Rattle.ledger.proofs.Loops.{or-is, is-list}
@@ -39,10 +39,16 @@ pub getD-paid : (l : List StationAccount) (j : ℕ) → getD (paidOf l) j 0 ≡ 
 unfolding paidOf
 getD-paid l j = List·getD-map (λ (a : StationAccount). a .paid) l j (account 0 0)
 
--- they determine the records
-pub same-records : (l k : List StationAccount) → soldOf l ≡ soldOf k → paidOf l ≡ paidOf k → l ≡ k
+-- the records are theirs
+same-records : (l k : List StationAccount) → soldOf l ≡ soldOf k → paidOf l ≡ paidOf k → l ≡ k
 same-records l k e q = ext-getD (account 0 0) l k (sym (length-sold l) ∙ ap (λ xs. length xs) e ∙ length-sold k)
     (λ j _. ap₂ account (sym (getD-sold l j) ∙ ap (λ xs. getD xs j 0) e ∙ getD-sold k j) (sym (getD-paid l j) ∙ ap (λ xs. getD xs j 0) q ∙ getD-paid k j))
+
+pub plain-determines : PlainDetermines
+unfolding plain
+plain-determines B C e =
+    let stations = same-records (B .stations) (C .stations) (ap (λ b. b .sold) e) (ap (λ b. b .paid) e) in
+    λ x. record { guests = (e x) .guests; stations = stations x; house = (e x) .house; last = (e x) .last }
 
 zero-sold : (s : ℕ) → soldOf (replicate s (account 0 0)) ≡ replicate s 0
 unfolding soldOf

@@ -1,6 +1,7 @@
 -- The book as it is lent: the station accounts are a row of records.
 use Prim.Native.Nat.{ℕ}
 use mathlib.Core.List.{List, map}
+use mathlib.Core.Path.{_≡_}
 use lib.ListN.{getD, replicate}
 use Rattle.auction.specs.Faults.{Book}
 use Rattle.ledger.specs.declared.StationAccount.{StationAccount}
@@ -35,3 +36,7 @@ paidOf l = map (λ (a : StationAccount). a .paid) l
 -- the plain book with the same numbers
 unfoldable pub plain : LentBook → Book
 plain B = record { guests = B .guests; sold = soldOf (B .stations); paid = paidOf (B .stations); house = B .house; last = B .last }
+
+-- it leaves nothing of the lent book out
+abbrev pub PlainDetermines : Type 0
+PlainDetermines = (B C : LentBook) → plain B ≡ plain C → B ≡ C

@@ -1,5 +1,5 @@
 -- A walk of the MIR. The row of stations is lent as a `&` for a lifetime that is made for the call of `stations_exceed`, and comes back as it was; `guests`, `house` and `last` go to `settle`, and the row to `add_sales`, each for good.
-use mathlib.Core.Path.{_≡_, refl, ap, _∙_}
+use mathlib.Core.Path.{_≡_, refl, ap}
 use Prim.Native.Nat.{ℕ, _<_, _^_}
 use mathlib.Core.Bool.{Bool}
 use mathlib.Core.List.{List, [], _∷_}
@@ -47,8 +47,7 @@ use denote.Triple.Walked.{says, Stays, gave-ref, gave-slice, stay-none, stay-non
 use denote.Exit.{yes}
 use Rattle.ledger.specs.PlainBook.{posting}
 use Rattle.ledger.specs.LentBook.{LentBook, book}
-use Rattle.ledger.specs.Ledger.{Posted}
-use Rattle.ledger.specs.Round.{tables, planned, ruled, Settled, verdictOf}
+use Rattle.ledger.specs.Round.{tables, planned, ruled, Settled}
 use Rattle.ledger.specs.Stations.{overfilledTo, creditedTo}
 use Rattle.ledger.specs.declared.StationAccount.{StationAccount}
 use Rattle.ledger.specs.declared.Round.{Round}
