@@ -25,9 +25,9 @@ use Rattle.ledger.specs.PlainBook.{Posting, posting, answer, settled, af
 use Rattle.ledger.specs.LentBook.{LentBook, book, soldOf, paidOf, plain}
 use Rattle.ledger.specs.Ledger.{Posted}
 use Rattle.ledger.specs.Round.{verdictOf, adding, refusing, roundBy, earlyFaults, planned, exceeding, plus, followed, ruled, keptRound, chosen, Settled}
-use Rattle.ledger.specs.Stations.{overfilledTo, creditedTo}
+use Rattle.ledger.specs.Stations.{exceedingTo, creditedTo}
 use Rattle.ledger.proofs.Accounts.{length-raised, getD-raised}
-use Rattle.ledger.proofs.Stations.{length-sold, length-paid, overfilled-is, sold-credited, paid-credited, credited-nothing}
+use Rattle.ledger.proofs.Stations.{length-sold, length-paid, exceeding-is, sold-credited, paid-credited, credited-nothing}
 use Rattle.ledger.proofs.Planning.{replied}
 
 -- ---- accounts with what a round adds
@@ -143,10 +143,10 @@ module _ (p : Posting) (L : LentBook) where
     paid-size = rw length-paid (z .1)
 
     -- the code's tests, in the code's order
-    room-is : let r = adding p in (overfilledTo r (length (L .stations)) (L .stations) or exceeding (L .guests) (r .charges) or maxAccount <? L .house + r .margin) ≡ after-limit
+    room-is : let r = adding p in (exceedingTo r (length (L .stations)) (L .stations) or exceeding (L .guests) (r .charges) or maxAccount <? L .house + r .margin) ≡ after-limit
     unfolding adding toGuest toSold toPaid toHouse overLimit entered after-limit plain
     room-is = rw (
-      overfilled-is,
+      exceeding-is,
       exceeding-raised (length (p .tables .asks)) (sold (seen (p .tables)) (decided (p .tables))) (soldOf (L .stations)) maxStations sold-size,
       exceeding-raised (length (p .tables .asks)) (paid (seen (p .tables)) (decided (p .tables))) (paidOf (L .stations)) maxStations paid-size,
       exceeding-raised (length (p .tables .amounts)) (charged (seen (p .tables)) (decided (p .tables))) (L .guests) maxGuests (z .0),
@@ -159,7 +159,7 @@ module _ (p : Posting) (L : LentBook) where
     unfolding adding toGuest toSold toPaid entered plain
     plus-adding = (plus-raised _ _ (L .guests) maxGuests (z .0), plus-raised _ _ (soldOf (L .stations)) maxStations sold-size, plus-raised _ _ (paidOf (L .stations)) maxStations paid-size)
 
-  room-left : answer B p ≡ accepted → (z : (length (L .guests) ≤ maxGuests) × (length (L .stations) ≤ maxStations)) → overfilledTo (adding p) (length (L .stations)) (L .stations) ≡ false
+  room-left : answer B p ≡ accepted → (z : (length (L .guests) ≤ maxGuests) × (length (L .stations) ≤ maxStations)) → exceedingTo (adding p) (length (L .stations)) (L .stations) ≡ false
   unfolding answer late outOfTurn
   room-left e z =
       let (_, e0) = clear-of-both early (late after-limit) (sym (ap firstFault in-turn) ∙ e) in
@@ -173,7 +173,7 @@ module _ (p : Posting) (L : LentBook) where
   planned-is = same-round _ (p .tables) (p .round)
 
   -- the code's verdict on it is the plain book's
-  module _ (r : Round) (full : Bool) (er : r ≡ planned (p .tables) (length (L .guests)) (length (L .stations))) (ef : full ≡ overfilledTo r (length (L .stations)) (L .stations)) where
+  module _ (r : Round) (full : Bool) (er : r ≡ planned (p .tables) (length (L .guests)) (length (L .stations))) (ef : full ≡ exceedingTo r (length (L .stations)) (L .stations)) where
     ruled-is : ruled r full (p .round) (L .guests) (L .house) (L .last) ≡ answer B p
     unfolding ruled followed late roundBy
     ruled-is = go (firstFault early) refl

@@ -18,7 +18,7 @@ use Rattle.ledger.specs.declared.Round.{Round}
 use Rattle.ledger.specs.PlainBook.{empty}
 use Rattle.ledger.specs.LentBook.{account, blank, accountAt, soldOf, paidOf, plain, PlainDetermines}
 use Rattle.ledger.specs.Round.{exceeding, plus}
-use Rattle.ledger.specs.Stations.{overfills, overfilledTo, creditedBy, credited, creditedTo}
+use Rattle.ledger.specs.Stations.{exceedsWith, exceedingTo, creditedBy, credited, creditedTo}
 use Rattle.ledger.proofs.Loops.{or-is, is-list}
 
 -- ---- the plain book's lists
@@ -78,9 +78,9 @@ unfolding some _or_
 some-or zero f g = refl
 some-or (suc n) f g = ap (λ b. b or (f n or g n)) (some-or n f g) ∙ or-swap (some n f) (some n g) (f n) (g n)
 
-pub overfilled-is : (r : Round) (l : List StationAccount) → overfilledTo r (length l) l ≡ (exceeding (soldOf l) (r .sold) or exceeding (paidOf l) (r .paid))
-unfolding overfilledTo overfills exceeding
-overfilled-is r l = rw (length-sold, length-paid)
+pub exceeding-is : (r : Round) (l : List StationAccount) → exceedingTo r (length l) l ≡ (exceeding (soldOf l) (r .sold) or exceeding (paidOf l) (r .paid))
+unfolding exceedingTo exceedsWith exceeding
+exceeding-is r l = rw (length-sold, length-paid)
     (some-or (length l) _ _
     ∙ ap₂ _or_
     (some-cong (length l) _ _ (λ k _. ap (λ x. maxAccount <? x + getD (r .sold) k 0) (sym (getD-sold l k))))
@@ -88,39 +88,39 @@ overfilled-is r l = rw (length-sold, length-paid)
 
 -- the code's test of one account
 module _ (r : Round) (j : ℕ) (a : StationAccount) where
-  pub overfills-is : (before sold paid : Bool) {x y : ℕ} → x ≡ getD (r .sold) j 0 → y ≡ getD (r .paid) j 0 → sold ≡ (maxAccount <? a .sold + x) → paid ≡ (maxAccount <? a .paid + y)
-      → (before || (sold || paid)) ≡ (before or overfills r j a)
-  unfolding overfills
-  overfills-is before sold paid ex ey es ep = or-is before (sold || paid)
+  pub exceeds-is : (before sold paid : Bool) {x y : ℕ} → x ≡ getD (r .sold) j 0 → y ≡ getD (r .paid) j 0 → sold ≡ (maxAccount <? a .sold + x) → paid ≡ (maxAccount <? a .paid + y)
+      → (before || (sold || paid)) ≡ (before or exceedsWith r j a)
+  unfolding exceedsWith
+  exceeds-is before sold paid ex ey es ep = or-is before (sold || paid)
       ∙ ap (λ b. before or b) (or-is sold paid ∙ ap₂ _or_ (es ∙ ap (λ x. maxAccount <? a .sold + x) ex) (ep ∙ ap (λ y. maxAccount <? a .paid + y) ey))
 
   -- what it says, with `over` its answer
-  over-is : {over : Bool} → over ≡ (false or overfills r j a) → overfills r j a ≡ over
+  over-is : {over : Bool} → over ≡ (false or exceedsWith r j a) → exceedsWith r j a ≡ over
   unfolding _or_
   over-is e = sym e
 
-  pub room : {over : Bool} → over ≡ (false or overfills r j a) → over ≡ false → (a .sold + getD (r .sold) j 0 ≤ maxAccount) × (a .paid + getD (r .paid) j 0 ≤ maxAccount)
-  unfolding overfills
+  pub room : {over : Bool} → over ≡ (false or exceedsWith r j a) → over ≡ false → (a .sold + getD (r .sold) j 0 ≤ maxAccount) × (a .paid + getD (r .paid) j 0 ≤ maxAccount)
+  unfolding exceedsWith
   room e q = let h = or-no _ _ (over-is e ∙ q) in (lt-no _ _ (h .0), lt-no _ _ (h .1))
 
-  pub credited-not : {over : Bool} → over ≡ (false or overfills r j a) → over ≡ true → a ≡ credited r j a
+  pub credited-not : {over : Bool} → over ≡ (false or exceedsWith r j a) → over ≡ true → a ≡ credited r j a
   unfolding credited creditedBy
   credited-not e q = rw (over-is e ∙ q)
 
-  pub credited-yes : {over : Bool} {x y : ℕ} → over ≡ (false or overfills r j a) → over ≡ false → x ≡ getD (r .sold) j 0 → y ≡ getD (r .paid) j 0 → account (a .sold + x) (a .paid + y) ≡ credited r j a
+  pub credited-yes : {over : Bool} {x y : ℕ} → over ≡ (false or exceedsWith r j a) → over ≡ false → x ≡ getD (r .sold) j 0 → y ≡ getD (r .paid) j 0 → account (a .sold + x) (a .paid + y) ≡ credited r j a
   unfolding credited creditedBy
   credited-yes e q ex ey = rw (over-is e ∙ q, ex, ey)
 
 -- ---- a turn of each loop
 
 module _ (r : Round) (l : List StationAccount) where
-  pub overfilled-none : false ≡ overfilledTo r 0 l
-  unfolding overfilledTo some
-  overfilled-none = refl
+  pub exceeding-none : false ≡ exceedingTo r 0 l
+  unfolding exceedingTo some
+  exceeding-none = refl
 
-  pub overfilled-more : (j : ℕ) → (overfilledTo r j l or overfills r j (accountAt l j)) ≡ overfilledTo r (j + 1) l
-  unfolding overfilledTo some
-  overfilled-more j = ap (λ n. overfilledTo r n l) (sym (add-one j))
+  pub exceeding-more : (j : ℕ) → (exceedingTo r j l or exceedsWith r j (accountAt l j)) ≡ exceedingTo r (j + 1) l
+  unfolding exceedingTo some
+  exceeding-more j = ap (λ n. exceedingTo r n l) (sym (add-one j))
 
   pub credited-none : l ≡ creditedTo r 0 l
   unfolding creditedTo
@@ -153,9 +153,9 @@ module _ (r : Round) (l : List StationAccount) where
       (lt-or-le k n)
 
   -- where every account has room, each has what the round adds
-  module _ (e : overfilledTo r (length l) l ≡ false) where
+  module _ (e : exceedingTo r (length l) l ≡ false) where
     sums : (k : ℕ) → k < length l → accountAt (creditedTo r (length l) l) k ≡ account (accountAt l k .sold + getD (r .sold) k 0) (accountAt l k .paid + getD (r .paid) k 0)
-    unfolding credited creditedBy overfilledTo
+    unfolding credited creditedBy exceedingTo
     sums k h = credited-at (length l) k (le-refl _) h ∙ ap (λ over. creditedBy over r k (accountAt l k)) (some-no (length l) _ e k h)
 
     pub sold-credited : soldOf (creditedTo r (length l) l) ≡ plus (soldOf l) (r .sold)

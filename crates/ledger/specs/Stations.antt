@@ -10,12 +10,12 @@ use Rattle.ledger.specs.declared.Round.{Round}
 use Rattle.ledger.specs.LentBook.{account, accountAt}
 
 -- station j's account a would be above the limit with what the round adds
-unfoldable pub overfills : Round → ℕ → StationAccount → Bool
-overfills r j a = maxAccount <? a .sold + getD (r .sold) j 0 or maxAccount <? a .paid + getD (r .paid) j 0
+unfoldable pub exceedsWith : Round → ℕ → StationAccount → Bool
+exceedsWith r j a = maxAccount <? a .sold + getD (r .sold) j 0 or maxAccount <? a .paid + getD (r .paid) j 0
 
 -- some account below n would be
-unfoldable pub overfilledTo : Round → (n : ℕ) → List StationAccount → Bool
-overfilledTo r n l = some n (λ j. overfills r j (accountAt l j))
+unfoldable pub exceedingTo : Round → (n : ℕ) → List StationAccount → Bool
+exceedingTo r n l = some n (λ j. exceedsWith r j (accountAt l j))
 
 -- the account with what the round adds, or as it is where that would be above the limit
 unfoldable pub creditedBy : (over : Bool) → Round → ℕ → StationAccount → StationAccount
@@ -23,7 +23,7 @@ creditedBy true r j a = a
 creditedBy false r j a = account (a .sold + getD (r .sold) j 0) (a .paid + getD (r .paid) j 0)
 
 unfoldable pub credited : Round → ℕ → StationAccount → StationAccount
-credited r j a = creditedBy (overfills r j a) r j a
+credited r j a = creditedBy (exceedsWith r j a) r j a
 
 -- each account below n so
 unfoldable pub creditedTo : Round → (n : ℕ) → List StationAccount → List StationAccount

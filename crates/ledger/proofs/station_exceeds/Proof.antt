@@ -1,4 +1,4 @@
-use Rattle.ledger.proofs.Stations.{overfills-is}
+use Rattle.ledger.proofs.Stations.{exceeds-is}
 use borrow.Author.Needs.{needs}
 use Rattle.ledger.proofs.station_exceeds.Statement.{statement}
 use Rattle.ledger.proofs.station_exceeds.Tie as tie
@@ -22,7 +22,7 @@ exceeds-requires-2 : tie.Need-exceeds-requires-2
 exceeds-requires-2 c κs = search needs
 
 returns : tie.Need-returns
-returns c = overfills-is _ _ _ (c .before .before .before .before .before .before .before .before .args .before) _ _ (c .before .before .before .before .at .ensures) (c .before .at2 .ensures) (c .before .before .before .exceeds .ensures) (c .exceeds2 .ensures)
+returns c = exceeds-is _ _ _ (c .before .before .before .before .before .before .before .before .args .before) _ _ (c .before .before .before .before .at .ensures) (c .before .at2 .ensures) (c .before .before .before .exceeds .ensures) (c .exceeds2 .ensures)
 
 pub station-exceeds-spec : {M : Type 1} → statement M
 station-exceeds-spec =

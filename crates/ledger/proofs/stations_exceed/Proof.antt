@@ -48,10 +48,10 @@ use denote.Triple.Walked.{says, Stays, stay-none-slice, stay-none, walkOf, goes-
 use denote.Exit.{yes}
 use Rattle.auction.specs.Counting.{_or_}
 use Rattle.ledger.specs.LentBook.{account, accountAt}
-use Rattle.ledger.specs.Stations.{overfills, overfilledTo}
+use Rattle.ledger.specs.Stations.{exceedsWith, exceedingTo}
 use Rattle.ledger.specs.declared.StationAccount.{StationAccount}
 use Rattle.ledger.specs.declared.Round.{Round}
-use Rattle.ledger.proofs.Stations.{overfilled-none, overfilled-more}
+use Rattle.ledger.proofs.Stations.{exceeding-none, exceeding-more}
 use Rattle.ledger.proofs.StationAccount as T
 use Rattle.ledger.proofs.StationAccount.Laws as T′
 use Rattle.ledger.proofs.Round as R
@@ -105,7 +105,7 @@ module _ {M : Type 1} (𝓤 : URA M) (H : Heap 𝓤) (A : Atoms 𝓤) (W : Given
 
   -- what is known when j accounts are done, and the record that turn j reads
   abbrev L : ℕ → Bool
-  L j = overfilledTo d j ys
+  L j = exceedingTo d j ys
 
   abbrev elemAt : ℕ → StationAccount
   elemAt j = accountAt ys j
@@ -142,8 +142,8 @@ module _ {M : Type 1} (𝓤 : URA M) (H : Heap 𝓤) (A : Atoms 𝓤) (W : Given
       nothing ! $ owned ! Boolean (Is Boolean) (bool-makes 𝓤 H A W) t (vbool t ∷ []) refl $ fjoin ! $ owned ! usize (Is usize) (uint-makes 𝓤 H A W w64) j _ (refl, fits) $ fjoin ! $ owned ! R.the-row (Is R.the-row) ((LL.makes R.the-type R′.the-plain) 𝓤 H A) d _ gd $ fjoin ! $
       owned ! T.the-row (Is T.the-row) ((LL.makes T.the-type T′.the-plain) 𝓤 H A) e _ is $ fjoin ! $ nothing ! $ join ! $ frame ! $ done !
 
-  said : (e : StationAccount) (j : ℕ) (t r : Bool) → ent 𝓤 (ensured 𝓤 H A g.ended (g.clauses 𝓤 H A mem run) tt (args e j t) tt r) (fact 𝓤 (r ≡ (t or overfills d j e)))
-  said e j t r = exE 𝓤 _ (λ ws. snd∗ 𝓤 (sem 𝓤 H A (lasts g.ended tt (args e j t) ws)) (fact 𝓤 (r ≡ (t or overfills d j e))))
+  said : (e : StationAccount) (j : ℕ) (t r : Bool) → ent 𝓤 (ensured 𝓤 H A g.ended (g.clauses 𝓤 H A mem run) tt (args e j t) tt r) (fact 𝓤 (r ≡ (t or exceedsWith d j e)))
+  said e j t r = exE 𝓤 _ (λ ws. snd∗ 𝓤 (sem 𝓤 H A (lasts g.ended tt (args e j t) ws)) (fact 𝓤 (r ≡ (t or exceedsWith d j e))))
 
   -- the loop's variable, and the order in which it ends
   abbrev Upto : Type 0
@@ -197,10 +197,10 @@ module _ {M : Type 1} (𝓤 : URA M) (H : Heap 𝓤) (A : Atoms 𝓤) (W : Given
           use0 W (raw (One 𝓤 H A mem run .pre (to (elemAt (j .0)) (j .0) (L (j .0))))) (goes (elemAt (j .0)) (j .0) (L (j .0)) is₀ j-fits) $
           calls-at ! (fmOf 𝓤 H (W .laws) 𝓣) (One 𝓤 H A mem run) known (to (elemAt (j .0)) (j .0) (L (j .0))) (and-then ! (load ! (from ! (stop !)) (look ! 4 refl)) (and-then ! (load ! (from ! (stop !)) (look ! 16 refl)) (and-then ! (load ! (from ! (stop !)) (look ! 12 refl)) (and-then ! (load ! (from ! (stop !)) (look ! 14 refl)) (no-more !))))) (λ u.
           use1 W (later (some (λ (r : Bool). (‵ ftrue ⊛ ‵ (Boolean .own r (u ∷ []))) ⊛ raw (ensured 𝓤 H A g.ended (g.clauses 𝓤 H A mem run) tt (args (elemAt (j .0)) (j .0) (L (j .0))) tt r)))) (id⊢ 𝓤 _) $ await ! tt $ pick ! (λ r.
-          split ! $ move ! (1 ∷ []) $ use1 W (raw (fact 𝓤 (r ≡ (L (j .0) or overfills d (j .0) (elemAt (j .0)))))) (said (elemAt (j .0)) (j .0) (L (j .0)) r) $ heard ! (r ≡ (L (j .0) or overfills d (j .0) (elemAt (j .0)))) (λ e′. split ! $ drop ! $
+          split ! $ move ! (1 ∷ []) $ use1 W (raw (fact 𝓤 (r ≡ (L (j .0) or exceedsWith d (j .0) (elemAt (j .0)))))) (said (elemAt (j .0)) (j .0) (L (j .0)) r) $ heard ! (r ≡ (L (j .0) or exceedsWith d (j .0) (elemAt (j .0)))) (λ e′. split ! $ drop ! $
           facts ! Boolean (Is Boolean) (shows 𝓤 H A Boolean) r (u ∷ []) (λ is.
           land ! (from ! (stop !)) (store ! 13 refl (bool-lawful 𝓤 H A W .typed r _ is .0)) $
-          rewrite ! 13 (λ (z : Val). ‵ (fat fullShare tyBool l₃ 0 z)) (ap only is) refl $ rewrite ! 13 (λ (t : Bool). ‵ (fat fullShare tyBool l₃ 0 (vbool t))) (e′ ∙ overfilled-more d ys (j .0)) refl $
+          rewrite ! 13 (λ (z : Val). ‵ (fat fullShare tyBool l₃ 0 z)) (ap only is) refl $ rewrite ! 13 (λ (t : Bool). ‵ (fat fullShare tyBool l₃ 0 (vbool t))) (e′ ∙ exceeding-more d ys (j .0)) refl $
           assigns-last ! (bin ! (load ! (from ! (stop !)) (look ! 11 refl)) (lit ! tt) (record { fits = next-fits })) (from ! (stop !)) (store ! 11 refl (tt, record { fits = next-fits })) $
           forget ! 3 refl $ forget ! 5 refl $ forget ! 7 refl $ forget ! 9 refl $
           keep ! (2 ∷ 0 ∷ 3 ∷ 4 ∷ 5 ∷ 6 ∷ 7 ∷ 8 ∷ 9 ∷ 10 ∷ 11 ∷ 12 ∷ 13 ∷ 14 ∷ 15 ∷ 16 ∷ 17 ∷ 18 ∷ 19 ∷ 20 ∷ []) $
@@ -250,7 +250,7 @@ module _ {M : Type 1} (𝓤 : URA M) (H : Heap 𝓤) (A : Atoms 𝓤) (W : Given
         move ! (19 ∷ []) $ fsplit ! $ move ! (20 ∷ []) $ split ! $
         -- [the token; true; the slice; the round; _8; …]
         keep ! (2 ∷ 0 ∷ 4 ∷ 5 ∷ 6 ∷ 7 ∷ 8 ∷ 9 ∷ 10 ∷ 11 ∷ 12 ∷ 13 ∷ 14 ∷ 15 ∷ 16 ∷ 17 ∷ 18 ∷ 19 ∷ 20 ∷ 21 ∷ []) $
-        rewrite ! 12 (λ (t : Bool). ‵ (fat fullShare tyBool l₃ 0 (vbool t))) (overfilled-none d ys) refl $ looped l₀ l₁ l₂ l₃ l₄ l₅ l₆ l₇ l₈)))))))))
+        rewrite ! 12 (λ (t : Bool). ‵ (fat fullShare tyBool l₃ 0 (vbool t))) (exceeding-none d ys) refl $ looped l₀ l₁ l₂ l₃ l₄ l₅ l₆ l₇ l₈)))))))))
 
 module _ {M : Type 1} (𝓤 : URA M) (H : Heap 𝓤) (A : Atoms 𝓤) (W : Given 𝓤 H A) (mem : Memory → SProp 𝓤) (run : Routine → Fun 𝓤) where
   stations-exceed-walks : (𝓣 : Tables 𝓤 H) → Triple 𝓤 (𝓣 .C #ledger·station-exceeds) (One 𝓤 H A mem run) → Walks 𝓤 H A f.ended stayed (WpFn 𝓤 H (𝓣 .C) (𝓣 .Λ) code.function) (f.clauses 𝓤 H A mem run)
