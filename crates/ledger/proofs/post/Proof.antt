@@ -206,7 +206,15 @@ module _ {M : Type 1} (𝓤 : URA M) (H : Heap 𝓤) (A : Atoms 𝓤) (W : Given
   goes-plan : length (now guests) < 2 ^ 64 → n < 2 ^ 64 → ent 𝓤 (⋆ 𝓤 H A (‵ Market ∷ tokens₄ ∷ [])) (sep 𝓤 (Plan 𝓤 H A mem run .pre to-plan) (sem 𝓤 H A Market))
   goes-plan guests-fit stations-fit =
       qed W (‵ Market ∷ tokens₄ ∷ []) ∵
-      fsplit ! $ move ! (1 ∷ []) $ fsplit ! $ move ! (1 ∷ []) $ fsplit ! $ move ! (3 ∷ []) $ use1 W (‵ Own-asks ⊛ ‵ Own-asks) (shr-slice-copy 𝓤 H A W (named 0) κ₀ u32 .twice asks (val asks ∷ [])) $ split ! $ move ! (4 ∷ []) $ use1 W (‵ Own-bays ⊛ ‵ Own-bays) (shr-slice-copy 𝓤 H A W (named 0) κ₁ u16 .twice bays (val bays ∷ [])) $ split ! $ move ! (4 ∷ []) $ use1 W (‵ Own-amounts ⊛ ‵ Own-amounts) (shr-slice-copy 𝓤 H A W (named 0) κ₂ u16 .twice amounts (val amounts ∷ [])) $ split ! $ move ! (6 ∷ []) $ use1 W (‵ Own-bids ⊛ ‵ Own-bids) (shr-slice-copy 𝓤 H A W (named 0) κ₃ u32 .twice bids (val bids ∷ [])) $ split ! $ nothing ! $ owned ! usize (Is usize) (uint-makes 𝓤 H A W w64) n _ (refl, stations-fit) $ fjoin ! $ owned ! usize (Is usize) (uint-makes 𝓤 H A W w64) (length (now guests)) _ (refl, guests-fit) $ fjoin ! $ owned ! usize (Is usize) (uint-makes 𝓤 H A W w64) width _ (refl, width-fits) $ fjoin ! $ move ! (1 ∷ 0 ∷ []) $ fjoin ! $ move ! (2 ∷ 0 ∷ []) $ fjoin ! $ move ! (3 ∷ 0 ∷ []) $ fjoin ! $ move ! (4 ∷ 0 ∷ []) $ fjoin ! $ move ! (5 ∷ 0 ∷ []) $ use2 W (raw (Plan 𝓤 H A mem run .pre to-plan)) plan-asked $ frame ! $ move ! (1 ∷ 0 ∷ []) $ fjoin ! $ move ! (1 ∷ 0 ∷ []) $ fjoin ! $ move ! (1 ∷ 0 ∷ []) $ fjoin ! $ done !
+      fsplit ! $ move ! (1 ∷ []) $ fsplit ! $ move ! (1 ∷ []) $ fsplit ! $ move ! (3 ∷ []) $
+      use1 W (‵ Own-asks ⊛ ‵ Own-asks) (shr-slice-copy 𝓤 H A W (named 0) κ₀ u32 .twice asks (val asks ∷ [])) $ split ! $ move ! (4 ∷ []) $
+      use1 W (‵ Own-bays ⊛ ‵ Own-bays) (shr-slice-copy 𝓤 H A W (named 0) κ₁ u16 .twice bays (val bays ∷ [])) $ split ! $ move ! (4 ∷ []) $
+      use1 W (‵ Own-amounts ⊛ ‵ Own-amounts) (shr-slice-copy 𝓤 H A W (named 0) κ₂ u16 .twice amounts (val amounts ∷ [])) $ split ! $ move ! (6 ∷ []) $
+      use1 W (‵ Own-bids ⊛ ‵ Own-bids) (shr-slice-copy 𝓤 H A W (named 0) κ₃ u32 .twice bids (val bids ∷ [])) $ split ! $ nothing ! $
+      owned ! usize (Is usize) (uint-makes 𝓤 H A W w64) n _ (refl, stations-fit) $ fjoin ! $ owned ! usize (Is usize) (uint-makes 𝓤 H A W w64) (length (now guests)) _ (refl, guests-fit) $
+      fjoin ! $ owned ! usize (Is usize) (uint-makes 𝓤 H A W w64) width _ (refl, width-fits) $ fjoin ! $ move ! (1 ∷ 0 ∷ []) $ fjoin ! $ move ! (2 ∷ 0 ∷ []) $ fjoin ! $ move ! (3 ∷ 0 ∷ []) $
+      fjoin ! $ move ! (4 ∷ 0 ∷ []) $ fjoin ! $ move ! (5 ∷ 0 ∷ []) $ use2 W (raw (Plan 𝓤 H A mem run .pre to-plan)) plan-asked $ frame ! $ move ! (1 ∷ 0 ∷ []) $ fjoin ! $ move ! (1 ∷ 0 ∷ []) $
+      fjoin ! $ move ! (1 ∷ 0 ∷ []) $ fjoin ! $ done !
 
   plan-said : (d : Round) → ent 𝓤 (ensured 𝓤 H A plan.ended (plan.clauses 𝓤 H A mem run) κs₄ plan-args tt d) (fact 𝓤 (d ≡ D₀))
   plan-said d = exE 𝓤 _ (λ ws. snd∗ 𝓤 (sem 𝓤 H A (lasts plan.ended κs₄ plan-args ws)) (fact 𝓤 (d ≡ D₀)))
@@ -251,7 +259,10 @@ module _ {M : Type 1} (𝓤 : URA M) (H : Heap 𝓤) (A : Atoms 𝓤) (W : Given
   goes-settle : (d : Round) (v : Val) → Is R.the-row d (v ∷ []) → ent 𝓤 (⋆ 𝓤 H A (tokens₃ ∷ ‵ OwnG ∷ ‵ (fsep OwnH OwnL) ∷ [])) (Settle 𝓤 H A mem run .pre (to-settle d v))
   goes-settle d v gd =
       qed W (tokens₃ ∷ ‵ OwnG ∷ ‵ (fsep OwnH OwnL) ∷ []) ∵
-      move ! (2 ∷ []) $ fsplit ! $ nothing ! $ move ! (2 ∷ 0 ∷ []) $ fjoin ! $ move ! (1 ∷ 0 ∷ []) $ fjoin ! $ move ! (2 ∷ 0 ∷ []) $ fjoin ! $ owned ! u32 (Is u32) (uint-makes 𝓤 H A W w32) round _ (refl, round-fits) $ fjoin ! $ owned ! Boolean (Is Boolean) (bool-makes 𝓤 H A W) (exceedingTo d n ys) (vbool (exceedingTo d n ys) ∷ []) refl $ fjoin ! $ owned ! R.the-row (Is R.the-row) ((LL.makes R.the-type R′.the-plain) 𝓤 H A) d _ gd $ fjoin ! $ move ! (1 ∷ 0 ∷ []) $ join ! $ frame ! $ done !
+      move ! (2 ∷ []) $ fsplit ! $ nothing ! $ move ! (2 ∷ 0 ∷ []) $ fjoin ! $ move ! (1 ∷ 0 ∷ []) $ fjoin ! $ move ! (2 ∷ 0 ∷ []) $ fjoin ! $
+      owned ! u32 (Is u32) (uint-makes 𝓤 H A W w32) round _ (refl, round-fits) $ fjoin ! $
+      owned ! Boolean (Is Boolean) (bool-makes 𝓤 H A W) (exceedingTo d n ys) (vbool (exceedingTo d n ys) ∷ []) refl $ fjoin ! $
+      owned ! R.the-row (Is R.the-row) ((LL.makes R.the-type R′.the-plain) 𝓤 H A) d _ gd $ fjoin ! $ move ! (1 ∷ 0 ∷ []) $ join ! $ frame ! $ done !
 
   -- `add_sales`, on the row at its own lifetime, with the round c at the machine value v
   abbrev to-add : Round → Val → Add 𝓤 H A mem run .Ghost
@@ -279,24 +290,84 @@ module _ {M : Type 1} (𝓤 : URA M) (H : Heap 𝓤) (A : Atoms 𝓤) (W : Given
       qed W (Had guests′ stations′ house′ last′) ∵
       suffices ! _ (ends-at 𝓤 H A f.ended stayed (f.clauses 𝓤 H A mem run) W bound (valS (c .reply)) (c .reply) (tt, (tt, (tt, (tt, (tt, (tt, (guests′, (stations′, (house′, (last′, tt)))))))))) (tt, (tt, (tt, (tt, (tt, (tt, (lg, (ls, (tt, (tt, tt))))))))))) $
       says ! (posts (posting (tables (now asks) (now bays) (now amounts) (now bids) width) round) entry d (exceedingTo d n ys) e₀ refl c guests′ stations′ house′ last′ e₂ e₃) $
-      split ! $ move ! (1 ∷ []) $ split ! $ move ! (1 ∷ []) $ split ! $ move ! (1 ∷ []) $ split ! $ move ! (8 ∷ []) $ split ! $ move ! (1 ∷ []) $ split ! $ move ! (9 ∷ []) $ split ! $ move ! (2 ∷ 3 ∷ []) $ join ! $ move ! (1 ∷ 0 ∷ []) $ join ! $ move ! (2 ∷ 0 ∷ []) $ join ! $ move ! (2 ∷ 0 ∷ []) $ join ! $ move ! (3 ∷ 0 ∷ []) $ join ! $ move ! (3 ∷ 0 ∷ []) $ join ! $ move ! (3 ∷ 0 ∷ []) $ join ! $ frame ! $ nothing ! $ move ! (7 ∷ 0 ∷ []) $ fjoin ! $ move ! (6 ∷ 0 ∷ []) $ fjoin ! $ move ! (4 ∷ 0 ∷ []) $ fjoin ! $ move ! (4 ∷ 0 ∷ []) $ fjoin ! $ owned ! u32 (Is u32) (uint-makes 𝓤 H A W w32) round _ (refl, round-fits) $ fjoin ! $ owned ! usize (Is usize) (uint-makes 𝓤 H A W w64) width _ (refl, width-fits) $ fjoin ! $ move ! (3 ∷ []) $ fsplit ! $ move ! (1 ∷ []) $ fsplit ! $ move ! (1 ∷ []) $ fsplit ! $ move ! (1 ∷ 4 ∷ []) $ fjoin ! $ move ! (1 ∷ 0 ∷ []) $ fjoin ! $ move ! (1 ∷ 0 ∷ []) $ fjoin ! $ move ! (1 ∷ 0 ∷ []) $ fjoin ! $ frame ! $ drop ! $ drop ! $ owned ! S.the-row (Is S.the-row) (EL.makes S.the-type S′.the-plain 𝓤 H A) (c .reply) (valS (c .reply) ∷ []) (LL.owed R.the-type R′.the-laws c _ is .0) $ done !
+      split ! $ move ! (1 ∷ []) $ split ! $ move ! (1 ∷ []) $ split ! $ move ! (1 ∷ []) $ split ! $ move ! (8 ∷ []) $ split ! $ move ! (1 ∷ []) $ split ! $ move ! (9 ∷ []) $ split ! $
+      move ! (2 ∷ 3 ∷ []) $ join ! $ move ! (1 ∷ 0 ∷ []) $ join ! $ move ! (2 ∷ 0 ∷ []) $ join ! $ move ! (2 ∷ 0 ∷ []) $ join ! $ move ! (3 ∷ 0 ∷ []) $ join ! $ move ! (3 ∷ 0 ∷ []) $ join ! $
+      move ! (3 ∷ 0 ∷ []) $ join ! $ frame ! $ nothing ! $ move ! (7 ∷ 0 ∷ []) $ fjoin ! $ move ! (6 ∷ 0 ∷ []) $ fjoin ! $ move ! (4 ∷ 0 ∷ []) $ fjoin ! $ move ! (4 ∷ 0 ∷ []) $ fjoin ! $
+      owned ! u32 (Is u32) (uint-makes 𝓤 H A W w32) round _ (refl, round-fits) $ fjoin ! $ owned ! usize (Is usize) (uint-makes 𝓤 H A W w64) width _ (refl, width-fits) $ fjoin ! $
+      move ! (3 ∷ []) $ fsplit ! $ move ! (1 ∷ []) $ fsplit ! $ move ! (1 ∷ []) $ fsplit ! $ move ! (1 ∷ 4 ∷ []) $ fjoin ! $ move ! (1 ∷ 0 ∷ []) $ fjoin ! $ move ! (1 ∷ 0 ∷ []) $ fjoin ! $
+      move ! (1 ∷ 0 ∷ []) $ fjoin ! $ frame ! $ drop ! $ drop ! $
+      owned ! S.the-row (Is S.the-row) (EL.makes S.the-type S′.the-plain 𝓤 H A) (c .reply) (valS (c .reply) ∷ []) (LL.owed R.the-type R′.the-laws c _ is .0) $ done !
 
   module _ (C : Calls 𝓤 H) (Λ : Loops 𝓤 H) (fm : FmC 𝓤 H (W .laws) C) (known-plan : Triple 𝓤 (C #ledger·plan) (Plan 𝓤 H A mem run)) (known-exceed : Triple 𝓤 (C #ledger·stations-exceed) (Exceed 𝓤 H A mem run)) (known-settle : Triple 𝓤 (C #ledger·settle) (Settle 𝓤 H A mem run)) (known-add : Triple 𝓤 (C #ledger·add-sales) (Add 𝓤 H A mem run)) where
     walk : Is (ShrSlice (named 0) κ₀ u32) asks (val asks ∷ []) → Is (ShrSlice (named 1) κ₁ u16) bays (val bays ∷ []) → Is (ShrSlice (named 2) κ₂ u16) amounts (val amounts ∷ []) → Is (ShrSlice (named 3) κ₃ u32) bids (val bids ∷ []) → Room u64 (length (now guests)) → Room T.the-row n
         → ent 𝓤 (onEntry 𝓤 H A f.signature κs qs a at) (WpFn 𝓤 H C Λ code.function (val asks ∷ val bays ∷ val amounts ∷ val bids ∷ vint w64 width ∷ vint w32 round ∷ val guests ∷ s ∷ ptrVal house ∷ ptrVal last ∷ []) Post)
     walk g-asks g-bays g-amounts g-bids gg gn =
         qed W ((‵ (flft κ₀ q₀) ⊛ (‵ (flft κ₁ q₁) ⊛ (‵ (flft κ₂ q₂) ⊛ (‵ (flft κ₃ q₃) ⊛ (‵ (flft κ₄ q₄) ⊛ (‵ (flft κ₅ q₅) ⊛ (‵ (flft κ₆ q₆) ⊛ (‵ (flft κ₇ q₇) ⊛ ‵ ftrue)))))))) ∷ ‵ (owns (ShrSlice (named 0) κ₀ u32 ∷ ShrSlice (named 1) κ₁ u16 ∷ ShrSlice (named 2) κ₂ u16 ∷ ShrSlice (named 3) κ₃ u32 ∷ usize ∷ u32 ∷ MutSlice (named 4) κ₄ u64 ∷ MutSlice (named 5) κ₅ T.the-row ∷ MutRef (named 6) κ₆ u64 ∷ MutRef (named 7) κ₇ u32 ∷ []) a at) ∷ []) ∵ enter ! C Λ code.function (val asks ∷ val bays ∷ val amounts ∷ val bids ∷ vint w64 width ∷ vint w32 round ∷ val guests ∷ s ∷ ptrVal house ∷ ptrVal last ∷ []) _ $
-        alloc1 ! (λ l0. alloc1 ! (λ l1. alloc1 ! (λ l2. alloc1 ! (λ l3. alloc1 ! (λ l4. alloc1 ! (λ l5. alloc1 ! (λ l6. alloc1 ! (λ l7. alloc1 ! (λ l8. alloc1 ! (λ l9. alloc1 ! (λ l10. alloc1 ! (λ l11. alloc1 ! (λ l12. alloc1 ! (λ l13. alloc1 ! (λ l14. alloc1 ! (λ l15. alloc1 ! (λ l16. alloc1 ! (λ l17. alloc1 ! (λ l18. alloc1 ! (λ l19. alloc1 ! (λ l20. alloc1 ! (λ l21. alloc1 ! (λ l22. alloc1 ! (λ l23. alloc1 ! (λ l24. alloc0 ! $ params1 ! $
-        pass1 ! (init ! 46 refl (shr-slice-lawful 𝓤 H A W (named 0) κ₀ u32 .typed asks (val asks ∷ []) g-asks .0)) $ pass1 ! (init ! 44 refl (shr-slice-lawful 𝓤 H A W (named 1) κ₁ u16 .typed bays (val bays ∷ []) g-bays .0)) $ pass1 ! (init ! 42 refl (shr-slice-lawful 𝓤 H A W (named 2) κ₂ u16 .typed amounts (val amounts ∷ []) g-amounts .0)) $ pass1 ! (init ! 40 refl (shr-slice-lawful 𝓤 H A W (named 3) κ₃ u32 .typed bids (val bids ∷ []) g-bids .0)) $ pass1 ! (init ! 38 refl (tt, record { fits = width-fits })) $ pass1 ! (init ! 36 refl (tt, record { fits = round-fits })) $ pass1 ! (init ! 34 refl (tt, (tt, (record { fits = gg .0 }, tt)))) $ pass1 ! (init ! 32 refl (tt, (tt, (record { fits = gn .0 }, tt)))) $ pass1 ! (init ! 30 refl (tt, tt)) $ pass1 ! (init ! 28 refl (tt, tt)) $ pass0 ! $
-        assigns ! (of-opd ! (load ! (from ! (fld ! refl (stop !))) (look-in ! 34 (sub ! 1 refl (whole !))))) (from ! (stop !)) (init ! 20 refl (tt, record { fits = gg .0 })) $ assigns ! (of-opd ! (load ! (from ! (fld ! refl (stop !))) (look-in ! 32 (sub ! 1 refl (whole !))))) (from ! (stop !)) (init ! 18 refl (tt, record { fits = gn .0 })) $ move ! (51 ∷ []) $ fsplit ! $ move ! (1 ∷ []) $ fsplit ! $ move ! (1 ∷ []) $ fsplit ! $ move ! (1 ∷ []) $ fsplit ! $ move ! (1 ∷ []) $ fsplit ! $ move ! (1 ∷ []) $ fsplit ! $ move ! (1 ∷ []) $ fsplit ! $ move ! (1 ∷ []) $ fsplit ! $ move ! (1 ∷ []) $ fsplit ! $ move ! (1 ∷ []) $ fsplit ! $ move ! (1 ∷ []) $ drop ! $ move ! (5 ∷ []) $ drop ! $ move ! (4 ∷ []) $ drop ! $ move ! (5 ∷ 4 ∷ []) $ fjoin ! $ move ! (5 ∷ 0 ∷ []) $ fjoin ! $ move ! (5 ∷ 0 ∷ []) $ fjoin ! $ move ! (55 ∷ []) $ split ! $ move ! (1 ∷ []) $ split ! $ move ! (1 ∷ []) $ split ! $ move ! (1 ∷ []) $ split ! $ move ! (1 ∷ []) $ split ! $ move ! (1 ∷ []) $ split ! $ move ! (2 ∷ 1 ∷ []) $ join ! $ nothing ! $ move ! (3 ∷ 0 ∷ []) $ join ! $ move ! (3 ∷ 0 ∷ []) $ join ! $ move ! (3 ∷ 0 ∷ []) $ join ! $ move ! (3 ∷ 0 ∷ []) $ join ! $ move ! (3 ∷ 0 ∷ []) $ use2 W (raw (Plan 𝓤 H A mem run .pre to-plan) ⊛ ‵ Market) (goes-plan (gg .0) (gn .0)) $ split ! $
-        calls-at ! fm (Plan 𝓤 H A mem run) known-plan to-plan (and-then ! (load ! (from ! (stop !)) (look ! 54 refl)) (and-then ! (load ! (from ! (stop !)) (look ! 52 refl)) (and-then ! (load ! (from ! (stop !)) (look ! 50 refl)) (and-then ! (load ! (from ! (stop !)) (look ! 48 refl)) (and-then ! (load ! (from ! (stop !)) (look ! 46 refl)) (and-then ! (load ! (from ! (stop !)) (look ! 28 refl)) (and-then ! (load ! (from ! (stop !)) (look ! 26 refl)) (no-more !)))))))) (λ u₀. use1 W (later (some (λ (d : Round). (tokens₄ ⊛ ‵ (R.the-row .own d (u₀ ∷ []))) ⊛ raw (ensured 𝓤 H A plan.ended (plan.clauses 𝓤 H A mem run) κs₄ plan-args tt d)))) (id⊢ 𝓤 _) $ await ! tt $ pick ! (λ d. split ! $ move ! (1 ∷ []) $ use1 W (raw (fact 𝓤 (d ≡ D₀))) (plan-said d) $ heard ! (d ≡ D₀) (λ e₀. split ! $ move ! (1 ∷ []) $ facts ! R.the-row (Is R.the-row) (shows 𝓤 H A R.the-row) d (u₀ ∷ []) (λ gd. land ! (from ! (stop !)) (init ! 34 refl (LL.lawful R.the-type R′.the-laws 𝓤 H A W .typed d _ gd .0)) $
-        assigns ! (addr ! (from ! (fld ! refl (hop ! (look-in ! 40 (sub ! 0 refl (whole !))) (stop !))))) (from ! (stop !)) (init ! 24 refl (tt, tt)) $ assigns ! (agg ! (and-then ! (load ! (from ! (stop !)) (look ! 24 refl)) (and-then ! (load ! (from ! (fld ! refl (stop !))) (look-in ! 40 (sub ! 1 refl (whole !)))) (no-more !)))) (from ! (stop !)) (init ! 22 refl (tt, (tt, (record { fits = gn .0 }, tt)))) $ move ! (6 ∷ []) $ fsplit ! $ drop ! $ fsplit ! $ move ! (0 ∷ 1 ∷ 5 ∷ []) $ opens-slice ! tt T.the-row ys b o $ feqI ! ℕ (length ys) (length ys) refl $ fjoin ! $ lft-new ! tt (λ ν. move ! (1 ∷ []) $ use1 W (later (some (λ (δ : GName). ‵ (OwnS ν δ) ⊛ ‵ (flent (ν ∷ []) Parts)))) (lends-shr-slice 𝓤 H A W T.the-row (named 0) (ν ∷ []) fullShare ys b o gn) $ await ! tt $ pick ! (λ δ. split ! $ move ! (0 ∷ 2 ∷ []) $ use2 W (raw (Exceed 𝓤 H A mem run .pre (to-exceed d u₀ ν δ))) (goes-exceed d u₀ gd ν δ) $
-        calls-at ! fm (Exceed 𝓤 H A mem run) known-exceed (to-exceed d u₀ ν δ) (and-then ! (load ! (from ! (stop !)) (look ! 25 refl)) (and-then ! (load ! (from ! (stop !)) (look ! 37 refl)) (no-more !))) (λ u₁. use1 W (later (some (λ (t : Bool). ((‵ (flft (ν ∷ []) fullShare) ⊛ ‵ ftrue) ⊛ ‵ (Boolean .own t (u₁ ∷ []))) ⊛ raw (ensured 𝓤 H A exceed.ended (exceed.clauses 𝓤 H A mem run) (ν ∷ [], tt) (x δ, (d, tt)) tt t)))) (id⊢ 𝓤 _) $ await ! tt $ pick ! (λ t. split ! $ move ! (1 ∷ []) $ use1 W (raw (fact 𝓤 (t ≡ exceedingTo d n ys))) (exceed-said d ν δ t) $ heard ! (t ≡ exceedingTo d n ys) (λ e₁. split ! $ move ! (1 ∷ []) $ facts ! Boolean (Is Boolean) (shows 𝓤 H A Boolean) t (u₁ ∷ []) (λ is₁. land ! (from ! (stop !)) (init ! 35 refl (bool-lawful 𝓤 H A W .typed t _ is₁ .0)) $ rewrite ! 35 (λ (z : Val). ‵ (fat fullShare tyBool l12 0 z)) (ap only is₁) refl $ rewrite ! 35 (λ (z : Bool). ‵ (fat fullShare tyBool l12 0 (vbool z))) e₁ refl $ split ! $ lft-end ! tt $ move ! (0 ∷ 2 ∷ []) $ lent-back ! tt $ fsplit ! $ drop ! $ move ! (0 ∷ 2 ∷ 3 ∷ 4 ∷ []) $ closes-slice ! tt T.the-row ys ys refl b o $
-        assigns ! (addr ! (from ! (fld ! refl (hop ! (look-in ! 44 (sub ! 0 refl (whole !))) (stop !))))) (from ! (stop !)) (init ! 22 refl (tt, tt)) $ assigns ! (agg ! (and-then ! (load ! (from ! (stop !)) (look ! 22 refl)) (and-then ! (load ! (from ! (fld ! refl (stop !))) (look-in ! 44 (sub ! 1 refl (whole !)))) (no-more !)))) (from ! (stop !)) (init ! 20 refl (tt, (tt, (record { fits = gg .0 }, tt)))) $ assigns ! (addr ! (from ! (hop ! (look ! 40 refl) (stop !)))) (from ! (stop !)) (init ! 18 refl (tt, tt)) $ assigns ! (addr ! (from ! (hop ! (look ! 38 refl) (stop !)))) (from ! (stop !)) (init ! 16 refl (tt, tt)) $ move ! (8 ∷ 7 ∷ []) $ fjoin ! $ move ! (7 ∷ 8 ∷ 0 ∷ []) $ use3 W (raw (Settle 𝓤 H A mem run .pre (to-settle d u₀))) (goes-settle d u₀ gd) $
-        calls-at ! fm (Settle 𝓤 H A mem run) known-settle (to-settle d u₀) (and-then ! (load ! (from ! (stop !)) (look ! 33 refl)) (and-then ! (load ! (from ! (stop !)) (look ! 31 refl)) (and-then ! (load ! (from ! (stop !)) (look ! 43 refl)) (and-then ! (load ! (from ! (stop !)) (look ! 17 refl)) (and-then ! (load ! (from ! (stop !)) (look ! 15 refl)) (and-then ! (load ! (from ! (stop !)) (look ! 13 refl)) (no-more !))))))) (λ u₂. use1 W (later (some (λ (c : Round). (tokens₃ ⊛ ‵ (R.the-row .own c (u₂ ∷ []))) ⊛ raw (ensured 𝓤 H A settle.ended (settle.clauses 𝓤 H A mem run) κs₃ (settle-args d) tt c)))) (id⊢ 𝓤 _) $ await ! tt $ pick ! (λ c. split ! $ move ! (1 ∷ []) $ use1 W (some (λ (ls : Lasts settle.ended κs₃ (settle-args d)). ‵ (lasts settle.ended κs₃ (settle-args d) ls) ⊛ raw (fact 𝓤 (Left d c (ls .1 .1 .1 .0) (ls .1 .1 .1 .1 .0) (ls .1 .1 .1 .1 .1 .0))))) (id⊢ 𝓤 _) $ pick ! (λ ls. split ! $ move ! (1 ∷ []) $ heard ! (Left d c (ls .1 .1 .1 .0) (ls .1 .1 .1 .1 .0) (ls .1 .1 .1 .1 .1 .0)) (λ e₂. fsplit ! $ drop ! $ fsplit ! $ drop ! $ fsplit ! $ drop ! $ fsplit ! $ fsplit ! $ move ! (1 ∷ []) $ feqL ! (λ lg. move ! (1 ∷ []) $ fsplit ! $ move ! (1 ∷ []) $ fsplit ! $ move ! (1 ∷ []) $ drop ! $ move ! (3 ∷ []) $ split ! $ move ! (1 ∷ []) $ peeks ! R.the-row (Is R.the-row) (shows 𝓤 H A R.the-row) c (u₂ ∷ []) (λ is₂. land ! (from ! (stop !)) (init ! 33 refl (LL.lawful R.the-type R′.the-laws 𝓤 H A W .typed c _ is₂ .0)) $
-        assigns ! (addr ! (from ! (fld ! refl (hop ! (look-in ! 43 (sub ! 0 refl (whole !))) (stop !))))) (from ! (stop !)) (init ! 13 refl (tt, tt)) $ assigns ! (agg ! (and-then ! (load ! (from ! (stop !)) (look ! 13 refl)) (and-then ! (load ! (from ! (fld ! refl (stop !))) (look-in ! 43 (sub ! 1 refl (whole !)))) (no-more !)))) (from ! (stop !)) (init ! 11 refl (tt, (tt, (record { fits = gn .0 }, tt)))) $ move ! (5 ∷ 6 ∷ []) $ fjoin ! $ pureI ! (at-slice T.the-row (x γ) (s ∷ [])) (tt, (tt, tt)) (refl, gn) $ fjoin ! $ move ! (6 ∷ 7 ∷ []) $ join ! $ use3 W (raw (Add 𝓤 H A mem run .pre (to-add c u₂))) (goes-add c u₂) $
-        calls-at ! fm (Add 𝓤 H A mem run) known-add (to-add c u₂) (and-then ! (load ! (from ! (stop !)) (look ! 7 refl)) (and-then ! (load ! (from ! (stop !)) (look ! 29 refl)) (no-more !))) (λ u₃. use1 W (later (some (λ (r : Unit {0}). ((‵ (flft κ₅ q₅) ⊛ ‵ ftrue) ⊛ ‵ (Nothing .own r (u₃ ∷ []))) ⊛ raw (ensured 𝓤 H A add.ended (add.clauses 𝓤 H A mem run) (κ₅, tt) (x γ, (c, tt)) tt r)))) (id⊢ 𝓤 _) $ await ! tt $ pick ! (λ r. split ! $ move ! (1 ∷ []) $ use1 W (some (λ (zs : Lasts add.ended (κ₅, tt) (x γ, (c, tt))). ‵ (lasts add.ended (κ₅, tt) (x γ, (c, tt)) zs) ⊛ raw (fact 𝓤 (zs .0 ≡ creditedTo c n ys)))) (id⊢ 𝓤 _) $ pick ! (λ zs. split ! $ move ! (1 ∷ []) $ heard ! (zs .0 ≡ creditedTo c n ys) (λ e₃. fsplit ! $ fsplit ! $ move ! (1 ∷ []) $ feqL ! (λ la. move ! (2 ∷ []) $ split ! $ move ! (1 ∷ []) $ facts ! Nothing (Is Nothing) (shows 𝓤 H A Nothing) r (u₃ ∷ []) (λ is₃. land ! (from ! (stop !)) (init ! 13 refl (nothing-lawful 𝓤 H A W .typed r _ is₃ .0)) $ rewrite ! 31 (λ (z : Val). ‵ (fat fullShare R′.mir l13 0 z)) (ap only (LL.tells R.the-type R′.the-laws c _ is₂)) refl $ assigns ! (of-opd ! (load ! (from ! (fld ! refl (stop !))) (look-in ! 31 (sub ! 0 refl (whole !))))) (from ! (stop !)) (init ! 57 refl (EL.lawful S.the-type S′.the-laws 𝓤 H A W tt .typed (c .reply) _ (LL.owed R.the-type R′.the-laws c _ is₂ .0) .0)) $
-        returns ! (look ! 57 refl) $ forget ! 57 refl $ forget ! 55 refl $ forget ! 53 refl $ forget ! 51 refl $ forget ! 49 refl $ forget ! 47 refl $ forget ! 45 refl $ forget ! 43 refl $ forget ! 41 refl $ forget ! 39 refl $ forget ! 37 refl $ forget ! 35 refl $ forget ! 33 refl $ forget ! 31 refl $ forget ! 29 refl $ forget ! 27 refl $ forget ! 25 refl $ forget ! 23 refl $ forget ! 21 refl $ forget ! 19 refl $ forget ! 17 refl $ forget ! 15 refl $ forget ! 13 refl $ forget ! 11 refl $ forget ! 9 refl $ move ! (57 ∷ 58 ∷ []) $ free1 ! $ move ! (55 ∷ 56 ∷ []) $ free1 ! $ move ! (53 ∷ 54 ∷ []) $ free1 ! $ move ! (51 ∷ 52 ∷ []) $ free1 ! $ move ! (49 ∷ 50 ∷ []) $ free1 ! $ move ! (47 ∷ 48 ∷ []) $ free1 ! $ move ! (45 ∷ 46 ∷ []) $ free1 ! $ move ! (43 ∷ 44 ∷ []) $ free1 ! $ move ! (41 ∷ 42 ∷ []) $ free1 ! $ move ! (39 ∷ 40 ∷ []) $ free1 ! $ move ! (37 ∷ 38 ∷ []) $ free1 ! $ move ! (35 ∷ 36 ∷ []) $ free1 ! $ move ! (33 ∷ 34 ∷ []) $ free1 ! $ move ! (31 ∷ 32 ∷ []) $ free1 ! $ move ! (29 ∷ 30 ∷ []) $ free1 ! $ move ! (27 ∷ 28 ∷ []) $ free1 ! $ move ! (25 ∷ 26 ∷ []) $ free1 ! $ move ! (23 ∷ 24 ∷ []) $ free1 ! $ move ! (21 ∷ 22 ∷ []) $ free1 ! $ move ! (19 ∷ 20 ∷ []) $ free1 ! $ move ! (17 ∷ 18 ∷ []) $ free1 ! $ move ! (15 ∷ 16 ∷ []) $ free1 ! $ move ! (13 ∷ 14 ∷ []) $ free1 ! $ move ! (11 ∷ 12 ∷ []) $ free1 ! $ move ! (9 ∷ 10 ∷ []) $ free1 ! $ free0 ! $ keep ! (7 ∷ 8 ∷ 0 ∷ 1 ∷ 3 ∷ 6 ∷ 5 ∷ 4 ∷ []) $ by ! (exits d c u₂ (ls .1 .1 .1 .0) (zs .0) (ls .1 .1 .1 .1 .0) (ls .1 .1 .1 .1 .1 .0) e₀ e₂ e₃ is₂ la lg))))))))))))))))))))))))))))))))))))))))))))))))
+        alloc1 ! (λ l0. alloc1 ! (λ l1. alloc1 ! (λ l2. alloc1 ! (λ l3. alloc1 ! (λ l4. alloc1 ! (λ l5. alloc1 ! (λ l6. alloc1 ! (λ l7. alloc1 ! (λ l8. alloc1 ! (λ l9. alloc1 ! (λ l10. alloc1 ! (λ l11. alloc1 ! (λ l12. alloc1 ! (λ l13. alloc1 ! (λ l14. alloc1 ! (λ l15. alloc1 ! (λ l16. alloc1 ! (λ l17. alloc1 ! (λ l18. alloc1 ! (λ l19. alloc1 ! (λ l20. alloc1 ! (λ l21. alloc1 ! (λ l22. alloc1 ! (λ l23. alloc1 ! (λ l24. alloc0 ! $
+        params1 ! $
+        pass1 ! (init ! 46 refl (shr-slice-lawful 𝓤 H A W (named 0) κ₀ u32 .typed asks (val asks ∷ []) g-asks .0)) $
+        pass1 ! (init ! 44 refl (shr-slice-lawful 𝓤 H A W (named 1) κ₁ u16 .typed bays (val bays ∷ []) g-bays .0)) $
+        pass1 ! (init ! 42 refl (shr-slice-lawful 𝓤 H A W (named 2) κ₂ u16 .typed amounts (val amounts ∷ []) g-amounts .0)) $
+        pass1 ! (init ! 40 refl (shr-slice-lawful 𝓤 H A W (named 3) κ₃ u32 .typed bids (val bids ∷ []) g-bids .0)) $ pass1 ! (init ! 38 refl (tt, record { fits = width-fits })) $
+        pass1 ! (init ! 36 refl (tt, record { fits = round-fits })) $ pass1 ! (init ! 34 refl (tt, (tt, (record { fits = gg .0 }, tt)))) $
+        pass1 ! (init ! 32 refl (tt, (tt, (record { fits = gn .0 }, tt)))) $ pass1 ! (init ! 30 refl (tt, tt)) $ pass1 ! (init ! 28 refl (tt, tt)) $ pass0 ! $
+        -- the counts; what the parameters own and their tokens, apart; `plan`
+        assigns ! (of-opd ! (load ! (from ! (fld ! refl (stop !))) (look-in ! 34 (sub ! 1 refl (whole !))))) (from ! (stop !)) (init ! 20 refl (tt, record { fits = gg .0 })) $
+        assigns ! (of-opd ! (load ! (from ! (fld ! refl (stop !))) (look-in ! 32 (sub ! 1 refl (whole !))))) (from ! (stop !)) (init ! 18 refl (tt, record { fits = gn .0 })) $ move ! (51 ∷ []) $
+        fsplit ! $ move ! (1 ∷ []) $ fsplit ! $ move ! (1 ∷ []) $ fsplit ! $ move ! (1 ∷ []) $ fsplit ! $ move ! (1 ∷ []) $ fsplit ! $ move ! (1 ∷ []) $ fsplit ! $ move ! (1 ∷ []) $ fsplit ! $
+        move ! (1 ∷ []) $ fsplit ! $ move ! (1 ∷ []) $ fsplit ! $ move ! (1 ∷ []) $ fsplit ! $ move ! (1 ∷ []) $ drop ! $ move ! (5 ∷ []) $ drop ! $ move ! (4 ∷ []) $ drop ! $ move ! (5 ∷ 4 ∷ []) $
+        fjoin ! $ move ! (5 ∷ 0 ∷ []) $ fjoin ! $ move ! (5 ∷ 0 ∷ []) $ fjoin ! $ move ! (55 ∷ []) $ split ! $ move ! (1 ∷ []) $ split ! $ move ! (1 ∷ []) $ split ! $ move ! (1 ∷ []) $ split ! $
+        move ! (1 ∷ []) $ split ! $ move ! (1 ∷ []) $ split ! $ move ! (2 ∷ 1 ∷ []) $ join ! $ nothing ! $ move ! (3 ∷ 0 ∷ []) $ join ! $ move ! (3 ∷ 0 ∷ []) $ join ! $ move ! (3 ∷ 0 ∷ []) $
+        join ! $ move ! (3 ∷ 0 ∷ []) $ join ! $ move ! (3 ∷ 0 ∷ []) $ use2 W (raw (Plan 𝓤 H A mem run .pre to-plan) ⊛ ‵ Market) (goes-plan (gg .0) (gn .0)) $ split ! $
+        calls-at ! fm (Plan 𝓤 H A mem run) known-plan to-plan (and-then ! (load ! (from ! (stop !)) (look ! 54 refl)) (and-then ! (load ! (from ! (stop !)) (look ! 52 refl)) (and-then ! (load ! (from ! (stop !)) (look ! 50 refl)) (and-then ! (load ! (from ! (stop !)) (look ! 48 refl)) (and-then ! (load ! (from ! (stop !)) (look ! 46 refl)) (and-then ! (load ! (from ! (stop !)) (look ! 28 refl)) (and-then ! (load ! (from ! (stop !)) (look ! 26 refl)) (no-more !)))))))) (λ u₀. use1 W (later (some (λ (d : Round). (tokens₄ ⊛ ‵ (R.the-row .own d (u₀ ∷ []))) ⊛ raw (ensured 𝓤 H A plan.ended (plan.clauses 𝓤 H A mem run) κs₄ plan-args tt d)))) (id⊢ 𝓤 _) $
+        await ! tt $ pick ! (λ d. split ! $ move ! (1 ∷ []) $ use1 W (raw (fact 𝓤 (d ≡ D₀))) (plan-said d) $ heard ! (d ≡ D₀) (λ e₀. split ! $ move ! (1 ∷ []) $
+        facts ! R.the-row (Is R.the-row) (shows 𝓤 H A R.the-row) d (u₀ ∷ []) (λ gd. land ! (from ! (stop !)) (init ! 34 refl (LL.lawful R.the-type R′.the-laws 𝓤 H A W .typed d _ gd .0)) $
+        -- `stations_exceed`, on a `&` of the row
+        assigns ! (addr ! (from ! (fld ! refl (hop ! (look-in ! 40 (sub ! 0 refl (whole !))) (stop !))))) (from ! (stop !)) (init ! 24 refl (tt, tt)) $
+        assigns ! (agg ! (and-then ! (load ! (from ! (stop !)) (look ! 24 refl)) (and-then ! (load ! (from ! (fld ! refl (stop !))) (look-in ! 40 (sub ! 1 refl (whole !)))) (no-more !)))) (from ! (stop !)) (init ! 22 refl (tt, (tt, (record { fits = gn .0 }, tt)))) $
+        move ! (6 ∷ []) $ fsplit ! $ drop ! $ fsplit ! $ move ! (0 ∷ 1 ∷ 5 ∷ []) $ opens-slice ! tt T.the-row ys b o $ feqI ! ℕ (length ys) (length ys) refl $ fjoin ! $
+        lft-new ! tt (λ ν. move ! (1 ∷ []) $
+        use1 W (later (some (λ (δ : GName). ‵ (OwnS ν δ) ⊛ ‵ (flent (ν ∷ []) Parts)))) (lends-shr-slice 𝓤 H A W T.the-row (named 0) (ν ∷ []) fullShare ys b o gn) $ await ! tt $
+        pick ! (λ δ. split ! $ move ! (0 ∷ 2 ∷ []) $ use2 W (raw (Exceed 𝓤 H A mem run .pre (to-exceed d u₀ ν δ))) (goes-exceed d u₀ gd ν δ) $
+        calls-at ! fm (Exceed 𝓤 H A mem run) known-exceed (to-exceed d u₀ ν δ) (and-then ! (load ! (from ! (stop !)) (look ! 25 refl)) (and-then ! (load ! (from ! (stop !)) (look ! 37 refl)) (no-more !))) (λ u₁. use1 W (later (some (λ (t : Bool). ((‵ (flft (ν ∷ []) fullShare) ⊛ ‵ ftrue) ⊛ ‵ (Boolean .own t (u₁ ∷ []))) ⊛ raw (ensured 𝓤 H A exceed.ended (exceed.clauses 𝓤 H A mem run) (ν ∷ [], tt) (x δ, (d, tt)) tt t)))) (id⊢ 𝓤 _) $
+        await ! tt $ pick ! (λ t. split ! $ move ! (1 ∷ []) $ use1 W (raw (fact 𝓤 (t ≡ exceedingTo d n ys))) (exceed-said d ν δ t) $ heard ! (t ≡ exceedingTo d n ys) (λ e₁. split ! $
+        move ! (1 ∷ []) $ facts ! Boolean (Is Boolean) (shows 𝓤 H A Boolean) t (u₁ ∷ []) (λ is₁. land ! (from ! (stop !)) (init ! 35 refl (bool-lawful 𝓤 H A W .typed t _ is₁ .0)) $
+        rewrite ! 35 (λ (z : Val). ‵ (fat fullShare tyBool l12 0 z)) (ap only is₁) refl $ rewrite ! 35 (λ (z : Bool). ‵ (fat fullShare tyBool l12 0 (vbool z))) e₁ refl $ split ! $ lft-end ! tt $
+        move ! (0 ∷ 2 ∷ []) $ lent-back ! tt $ fsplit ! $ drop ! $ move ! (0 ∷ 2 ∷ 3 ∷ 4 ∷ []) $ closes-slice ! tt T.the-row ys ys refl b o $
+        -- `settle`
+        assigns ! (addr ! (from ! (fld ! refl (hop ! (look-in ! 44 (sub ! 0 refl (whole !))) (stop !))))) (from ! (stop !)) (init ! 22 refl (tt, tt)) $
+        assigns ! (agg ! (and-then ! (load ! (from ! (stop !)) (look ! 22 refl)) (and-then ! (load ! (from ! (fld ! refl (stop !))) (look-in ! 44 (sub ! 1 refl (whole !)))) (no-more !)))) (from ! (stop !)) (init ! 20 refl (tt, (tt, (record { fits = gg .0 }, tt)))) $
+        assigns ! (addr ! (from ! (hop ! (look ! 40 refl) (stop !)))) (from ! (stop !)) (init ! 18 refl (tt, tt)) $
+        assigns ! (addr ! (from ! (hop ! (look ! 38 refl) (stop !)))) (from ! (stop !)) (init ! 16 refl (tt, tt)) $ move ! (8 ∷ 7 ∷ []) $ fjoin ! $ move ! (7 ∷ 8 ∷ 0 ∷ []) $
+        use3 W (raw (Settle 𝓤 H A mem run .pre (to-settle d u₀))) (goes-settle d u₀ gd) $
+        calls-at ! fm (Settle 𝓤 H A mem run) known-settle (to-settle d u₀) (and-then ! (load ! (from ! (stop !)) (look ! 33 refl)) (and-then ! (load ! (from ! (stop !)) (look ! 31 refl)) (and-then ! (load ! (from ! (stop !)) (look ! 43 refl)) (and-then ! (load ! (from ! (stop !)) (look ! 17 refl)) (and-then ! (load ! (from ! (stop !)) (look ! 15 refl)) (and-then ! (load ! (from ! (stop !)) (look ! 13 refl)) (no-more !))))))) (λ u₂. use1 W (later (some (λ (c : Round). (tokens₃ ⊛ ‵ (R.the-row .own c (u₂ ∷ []))) ⊛ raw (ensured 𝓤 H A settle.ended (settle.clauses 𝓤 H A mem run) κs₃ (settle-args d) tt c)))) (id⊢ 𝓤 _) $
+        await ! tt $ pick ! (λ c. split ! $ move ! (1 ∷ []) $
+        use1 W (some (λ (ls : Lasts settle.ended κs₃ (settle-args d)). ‵ (lasts settle.ended κs₃ (settle-args d) ls) ⊛ raw (fact 𝓤 (Left d c (ls .1 .1 .1 .0) (ls .1 .1 .1 .1 .0) (ls .1 .1 .1 .1 .1 .0))))) (id⊢ 𝓤 _) $
+        pick ! (λ ls. split ! $ move ! (1 ∷ []) $ heard ! (Left d c (ls .1 .1 .1 .0) (ls .1 .1 .1 .1 .0) (ls .1 .1 .1 .1 .1 .0)) (λ e₂. fsplit ! $ drop ! $ fsplit ! $ drop ! $ fsplit ! $ drop ! $
+        fsplit ! $ fsplit ! $ move ! (1 ∷ []) $ feqL ! (λ lg. move ! (1 ∷ []) $ fsplit ! $ move ! (1 ∷ []) $ fsplit ! $ move ! (1 ∷ []) $ drop ! $ move ! (3 ∷ []) $ split ! $ move ! (1 ∷ []) $
+        peeks ! R.the-row (Is R.the-row) (shows 𝓤 H A R.the-row) c (u₂ ∷ []) (λ is₂. land ! (from ! (stop !)) (init ! 33 refl (LL.lawful R.the-type R′.the-laws 𝓤 H A W .typed c _ is₂ .0)) $
+        -- `add_sales`
+        assigns ! (addr ! (from ! (fld ! refl (hop ! (look-in ! 43 (sub ! 0 refl (whole !))) (stop !))))) (from ! (stop !)) (init ! 13 refl (tt, tt)) $
+        assigns ! (agg ! (and-then ! (load ! (from ! (stop !)) (look ! 13 refl)) (and-then ! (load ! (from ! (fld ! refl (stop !))) (look-in ! 43 (sub ! 1 refl (whole !)))) (no-more !)))) (from ! (stop !)) (init ! 11 refl (tt, (tt, (record { fits = gn .0 }, tt)))) $
+        move ! (5 ∷ 6 ∷ []) $ fjoin ! $ pureI ! (at-slice T.the-row (x γ) (s ∷ [])) (tt, (tt, tt)) (refl, gn) $ fjoin ! $ move ! (6 ∷ 7 ∷ []) $ join ! $
+        use3 W (raw (Add 𝓤 H A mem run .pre (to-add c u₂))) (goes-add c u₂) $
+        calls-at ! fm (Add 𝓤 H A mem run) known-add (to-add c u₂) (and-then ! (load ! (from ! (stop !)) (look ! 7 refl)) (and-then ! (load ! (from ! (stop !)) (look ! 29 refl)) (no-more !))) (λ u₃. use1 W (later (some (λ (r : Unit {0}). ((‵ (flft κ₅ q₅) ⊛ ‵ ftrue) ⊛ ‵ (Nothing .own r (u₃ ∷ []))) ⊛ raw (ensured 𝓤 H A add.ended (add.clauses 𝓤 H A mem run) (κ₅, tt) (x γ, (c, tt)) tt r)))) (id⊢ 𝓤 _) $
+        await ! tt $ pick ! (λ r. split ! $ move ! (1 ∷ []) $
+        use1 W (some (λ (zs : Lasts add.ended (κ₅, tt) (x γ, (c, tt))). ‵ (lasts add.ended (κ₅, tt) (x γ, (c, tt)) zs) ⊛ raw (fact 𝓤 (zs .0 ≡ creditedTo c n ys)))) (id⊢ 𝓤 _) $
+        pick ! (λ zs. split ! $ move ! (1 ∷ []) $ heard ! (zs .0 ≡ creditedTo c n ys) (λ e₃. fsplit ! $ fsplit ! $ move ! (1 ∷ []) $ feqL ! (λ la. move ! (2 ∷ []) $ split ! $ move ! (1 ∷ []) $
+        facts ! Nothing (Is Nothing) (shows 𝓤 H A Nothing) r (u₃ ∷ []) (λ is₃. land ! (from ! (stop !)) (init ! 13 refl (nothing-lawful 𝓤 H A W .typed r _ is₃ .0)) $
+        rewrite ! 31 (λ (z : Val). ‵ (fat fullShare R′.mir l13 0 z)) (ap only (LL.tells R.the-type R′.the-laws c _ is₂)) refl $
+        assigns ! (of-opd ! (load ! (from ! (fld ! refl (stop !))) (look-in ! 31 (sub ! 0 refl (whole !))))) (from ! (stop !)) (init ! 57 refl (EL.lawful S.the-type S′.the-laws 𝓤 H A W tt .typed (c .reply) _ (LL.owed R.the-type R′.the-laws c _ is₂ .0) .0)) $
+        -- the reply
+        returns ! (look ! 57 refl) $ forget ! 57 refl $ forget ! 55 refl $ forget ! 53 refl $ forget ! 51 refl $ forget ! 49 refl $ forget ! 47 refl $ forget ! 45 refl $ forget ! 43 refl $
+        forget ! 41 refl $ forget ! 39 refl $ forget ! 37 refl $ forget ! 35 refl $ forget ! 33 refl $ forget ! 31 refl $ forget ! 29 refl $ forget ! 27 refl $ forget ! 25 refl $ forget ! 23 refl $
+        forget ! 21 refl $ forget ! 19 refl $ forget ! 17 refl $ forget ! 15 refl $ forget ! 13 refl $ forget ! 11 refl $ forget ! 9 refl $ move ! (57 ∷ 58 ∷ []) $ free1 ! $ move ! (55 ∷ 56 ∷ []) $
+        free1 ! $ move ! (53 ∷ 54 ∷ []) $ free1 ! $ move ! (51 ∷ 52 ∷ []) $ free1 ! $ move ! (49 ∷ 50 ∷ []) $ free1 ! $ move ! (47 ∷ 48 ∷ []) $ free1 ! $ move ! (45 ∷ 46 ∷ []) $ free1 ! $
+        move ! (43 ∷ 44 ∷ []) $ free1 ! $ move ! (41 ∷ 42 ∷ []) $ free1 ! $ move ! (39 ∷ 40 ∷ []) $ free1 ! $ move ! (37 ∷ 38 ∷ []) $ free1 ! $ move ! (35 ∷ 36 ∷ []) $ free1 ! $
+        move ! (33 ∷ 34 ∷ []) $ free1 ! $ move ! (31 ∷ 32 ∷ []) $ free1 ! $ move ! (29 ∷ 30 ∷ []) $ free1 ! $ move ! (27 ∷ 28 ∷ []) $ free1 ! $ move ! (25 ∷ 26 ∷ []) $ free1 ! $
+        move ! (23 ∷ 24 ∷ []) $ free1 ! $ move ! (21 ∷ 22 ∷ []) $ free1 ! $ move ! (19 ∷ 20 ∷ []) $ free1 ! $ move ! (17 ∷ 18 ∷ []) $ free1 ! $ move ! (15 ∷ 16 ∷ []) $ free1 ! $
+        move ! (13 ∷ 14 ∷ []) $ free1 ! $ move ! (11 ∷ 12 ∷ []) $ free1 ! $ move ! (9 ∷ 10 ∷ []) $ free1 ! $ free0 ! $ keep ! (7 ∷ 8 ∷ 0 ∷ 1 ∷ 3 ∷ 6 ∷ 5 ∷ 4 ∷ []) $
+        by ! (exits d c u₂ (ls .1 .1 .1 .0) (zs .0) (ls .1 .1 .1 .1 .0) (ls .1 .1 .1 .1 .1 .0) e₀ e₂ e₃ is₂ la lg))))))))))))))))))))))))))))))))))))))))))))))))
 
 module _ {M : Type 1} (𝓤 : URA M) (H : Heap 𝓤) (A : Atoms 𝓤) (W : Given 𝓤 H A) (mem : Memory → SProp 𝓤) (run : Routine → Fun 𝓤) where
   post-walks : (C : Calls 𝓤 H) (Λ : Loops 𝓤 H) → FmC 𝓤 H (W .laws) C → Triple 𝓤 (C #ledger·plan) (Plan 𝓤 H A mem run) → Triple 𝓤 (C #ledger·stations-exceed) (Exceed 𝓤 H A mem run) → Triple 𝓤 (C #ledger·settle) (Settle 𝓤 H A mem run) → Triple 𝓤 (C #ledger·add-sales) (Add 𝓤 H A mem run)
