@@ -25,7 +25,7 @@ creditedBy false r j a = account (a .sold + getD (r .sold) j 0) (a .paid + getD 
 unfoldable pub credited : Round → ℕ → StationAccount → StationAccount
 credited r j a = creditedBy (exceedsWith r j a) r j a
 
--- each account below n so
+-- the row with each account below n credited
 unfoldable pub creditedTo : Round → (n : ℕ) → List StationAccount → List StationAccount
 creditedTo r zero l = l
 creditedTo r (suc n) l = set (creditedTo r n l) n (credited r n (accountAt (creditedTo r n l) n))
