@@ -57,7 +57,7 @@ clearingFaults t r =
     ∷ lent (length (t .amounts)) (length (t .asks)) (length (r .stations)) (length (r .charges)) (length (r .sold)) (length (r .paid))
     ∷ values t
 
--- document 01's book: a number for each guest account, kWh sold and money paid for each station account, the house's, the last round
+-- document 01's book: a number for each guest account, kWh sold and money paid for each station account (two lists of one length), the house's, the last round
 pub record Book : Type 0 where
   pub guests : List ℕ
   pub sold : List ℕ
@@ -86,15 +86,15 @@ overLimit B = any (B .guests) over or any (B .sold) over or any (B .paid) over o
     over : ℕ → Bool
     over x = maxAccount <? x
 
-unfoldable pub bookSize : (n m guests sold paid : ℕ) → Row
-bookSize n m guests sold paid = (outside n maxGuests guests or outside m maxStations sold or outside m maxStations paid) gives BookSize
+unfoldable pub bookSize : (n m guests stations : ℕ) → Row
+bookSize n m guests stations = (outside n maxGuests guests or outside m maxStations stations) gives BookSize
 
 unfoldable pub outOfTurn : (round last : ℕ) → Row
 outOfTurn round last = (maxRound ≤? last or not (round =? last + 1)) gives RoundOutOfTurn
 
 unfoldable pub postingFaults : Tables → (round : ℕ) → Book → List Row
 postingFaults t round B = marketFaults t
-    ++ (bookSize (length (t .amounts)) (length (t .asks)) (length (B .guests)) (length (B .sold)) (length (B .paid))
+    ++ (bookSize (length (t .amounts)) (length (t .asks)) (length (B .guests)) (length (B .sold))
     ∷ outOfTurn round (B .last)
     ∷ ((overLimit B or overLimit (entered t round B)) gives AccountOverLimit)
     ∷ [])

@@ -2,7 +2,7 @@
 use Prim.Native.Nat.{ℕ, _+_, _≤_, _<_}
 use mathlib.Core.Bool.{false}
 use mathlib.Core.List.{List, [], _∷_}
-use mathlib.Core.Path.{_≡_, refl, ap, ap₂, _∙_}
+use mathlib.Core.Path.{_≡_, refl, sym, ap, ap₂, _∙_}
 use native.Mathlib.Omega.{arith}
 use lib.ListN.{getD, length, replicate, length-replicate, getD-replicate}
 use Rattle.auction.specs.Counting.{_<?_, _or_, sum, any}
@@ -16,14 +16,15 @@ use Rattle.auction.proofs.Counting.{none-any}
 use Rattle.auction.proofs.Acceptance.{clear-of, clear-of-both, inside}
 use Rattle.auction.proofs.Truth.{balanced}
 use Rattle.ledger.specs.PlainBook.{Posting, empty, answer, settled, after, answers, final, kept, rounds, total, toGuest, toSold, toPaid, toHouse, together}
+use Rattle.ledger.specs.LentBook.{LentBook, blank, plain}
 use Rattle.ledger.specs.Ledger.{Calls, none, call, Kept, BookKept}
 use Rattle.ledger.proofs.Accounts.{length-raised, getD-raised, together-raised, together-zeros}
+use Rattle.ledger.proofs.Stations.{length-sold, getD-sold, getD-paid, plain-blank}
 
 -- a posted round fits the book, and no account passes the limit
 pub record Fits (B : Book) (p : Posting) : Type 0 where
   pub guests : length (p .tables .amounts) ≤ length (B .guests)
-  pub sold : length (p .tables .asks) ≤ length (B .sold)
-  pub paid : length (p .tables .asks) ≤ length (B .paid)
+  pub stations : length (p .tables .asks) ≤ length (B .sold)
   pub within : overLimit (entered (p .tables) (p .round) B) ≡ false
 
 fits : (B : Book) (p : Posting) → answer B p ≡ accepted → Fits B p
@@ -33,12 +34,10 @@ fits B p e =
     let (size, e1) = clear-of _ _ _ e0 in
     let (turn, e2) = clear-of _ _ _ e1 in
     let (limit, e3) = clear-of _ _ _ e2 in
-    let (size01, paid-size) = or-no _ _ size in
-    let (guest-size, sold-size) = or-no _ _ size01 in
+    let (guest-size, station-size) = or-no _ _ size in
     record {
       guests = inside _ _ _ guest-size .0;
-      sold = inside _ _ _ sold-size .0;
-      paid = inside _ _ _ paid-size .0;
+      stations = inside _ _ _ station-size .0;
       within = or-no _ _ limit .1;
     }
 
@@ -92,7 +91,7 @@ sound-entered g s B p f h = record {
     h .level,
     balanced (p .tables),
     together-raised _ (charged (seen (p .tables)) (decided (p .tables))) (B .guests) (f .guests),
-    together-raised _ (paid (seen (p .tables)) (decided (p .tables))) (B .paid) (f .paid),
+    together-raised (length (p .tables .asks)) (paid (seen (p .tables)) (decided (p .tables))) (B .paid) (omega (arith, f .stations, h .sold, h .paid)),
   );
   within = f .within;
 }
@@ -127,27 +126,35 @@ module _ (g s : ℕ) (ps : List Posting) where
   house-sum = run (λ B. B .house) toHouse refl (λ B p f h. refl)
 
 -- the calls are the plain book's steps
-as-plain : {B C : Book} {ps : List Posting} {vs : List Verdict} → Calls B ps vs C → (vs ≡ answers B ps) × (C ≡ final B ps)
+as-plain : {B C : LentBook} {ps : List Posting} {vs : List Verdict} → Calls B ps vs C → (vs ≡ answers (plain B) ps) × (plain C ≡ final (plain B) ps)
 unfolding answers final
 as-plain none = (refl, refl)
 as-plain (call {ps = ps} h c) =
     let i = as-plain c in
     (ap₂ _∷_ (h .answered) (i .0 ∙ ap (λ b. answers b ps) (h .left)), i .1 ∙ ap (λ b. final b ps) (h .left))
 
+pub from-blank : (g s : ℕ) (ps : List Posting) {vs : List Verdict} {B : LentBook} → Calls (blank g s) ps vs B → (vs ≡ answers (empty g s) ps) × (plain B ≡ final (empty g s) ps)
+from-blank g s ps c = rw (← plain-blank g s) (as-plain c)
+
+-- what the plain book says of the lent one
+module _ (g s : ℕ) (ps : List Posting) (vs : List Verdict) (B : LentBook) (e : vs ≡ answers (empty g s) ps) (q : plain B ≡ final (empty g s) ps) where
+  sound : Sound g s (plain B)
+  sound = rw q (sound-final g s ps)
+
+  kept-all : Kept g s ps vs B
+  unfolding plain
+  kept-all = record {
+    as-answered = e;
+    as-plain = q;
+    guest-count = sound .guests;
+    station-count = sym (length-sold (B .stations)) ∙ sound .sold;
+    guest-sum = λ i l. rw e (ap (λ b. getD (b .guests) i 0) q ∙ guest-sum g s ps i l);
+    sold-sum = λ j l. sym (getD-sold (B .stations) j) ∙ rw e (ap (λ b. getD (b .sold) j 0) q ∙ sold-sum g s ps j l);
+    paid-sum = λ j l. sym (getD-paid (B .stations) j) ∙ rw e (ap (λ b. getD (b .paid) j 0) q ∙ paid-sum g s ps j l);
+    house-sum = rw e (ap (λ b. b .house) q ∙ house-sum g s ps);
+    level = sound .level;
+    within-limit = sound .within;
+  }
+
 pub book-kept : BookKept
-book-kept g s ps vs B c =
-    let (e, q) = as-plain c in
-    let h = sound-final g s ps in
-    record {
-      as-answered = e;
-      as-plain = q;
-      guest-count = rw q (h .guests);
-      sold-count = rw q (h .sold);
-      paid-count = rw q (h .paid);
-      guest-sum = λ i l. rw (e, q) (guest-sum g s ps i l);
-      sold-sum = λ j l. rw (e, q) (sold-sum g s ps j l);
-      paid-sum = λ j l. rw (e, q) (paid-sum g s ps j l);
-      house-sum = rw (e, q) (house-sum g s ps);
-      level = rw q (h .level);
-      within-limit = rw q (h .within);
-    }
+book-kept g s ps vs B c = let (e, q) = from-blank g s ps c in kept-all g s ps vs B e q

@@ -1,5 +1,8 @@
 pub mod Accounts
-pub mod Ledger
 pub mod Cleared
+pub mod Stations
+pub mod Ledger
 pub mod Settling
+pub mod Planning
 pub mod Posting
+pub mod Example

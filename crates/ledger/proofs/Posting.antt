@@ -1,12 +1,11 @@
 -- One posting: the planned round, the settled one and the accounts after it are the plain book's step.
-use Prim.Native.Nat.{ℕ, _+_, _≤_, _<_, _^_}
-use mathlib.Core.Bool.{Bool, true, false, _||_}
+use Prim.Native.Nat.{ℕ, _+_, _≤_, _<_}
+use mathlib.Core.Bool.{Bool, true, false}
 use mathlib.Core.List.{List, [], _∷_, _++_, append-assoc}
 use mathlib.Core.Logic.{⊎-elim}
-use mathlib.Core.Path.{_≡_, refl, sym, ap, ap₂, subst, _∙_}
+use mathlib.Core.Path.{_≡_, refl, sym, ap, subst, _∙_}
 use native.Mathlib.Omega.{arith}
 use lib.ListN.{getD, length, replicate, length-replicate, List·getD-eq-default, getD-replicate}
-use lib.Seq.{ext-getD}
 use Rattle.auction.specs.Counting.{_<?_, _or_, only, some, any, list}
 use Rattle.auction.specs.Limits.{maxGuests, maxStations, maxAccount}
 use Rattle.auction.specs.Market.{Tables}
@@ -14,30 +13,28 @@ use Rattle.auction.specs.Mechanism.{charged, sold, paid, margin}
 use Rattle.auction.specs.Outcome.{seen, decided}
 use Rattle.auction.specs.Refusals.{Row, _gives_, Verdict, accepted, refused, firstFault}
 use Rattle.auction.specs.declared.Refusal.{Refusal}
-use Rattle.auction.specs.declared.Refusal.the-variants.{AccountOverLimit, BookSize, RoundOutOfTurn}
+use Rattle.auction.specs.declared.Refusal.the-variants.{AccountOverLimit}
 use Rattle.auction.specs.Faults.{Book, raised, entered, overLimit, bookSize, outOfTurn, marketFaults, verdict, postingFaults}
 use Rattle.auction.proofs.Tests.{decide, same-test, or-cases, or-left, or-right, or-no, lt-yes, is-lt, lt-or-le}
-use Rattle.auction.proofs.Counting.{some-cong, some-mono, length-list, getD-list, list-cong}
+use Rattle.auction.proofs.Counting.{some-cong, some-mono, getD-list, list-cong}
 use Rattle.auction.proofs.Acceptance.{clear-of, clear-of-both, first-refuses, first-accepts, inside}
 use Rattle.ledger.specs.declared.Reply.the-variants as reply
 use Rattle.ledger.specs.declared.Round.{Round}
+use Rattle.ledger.specs.declared.StationAccount.{StationAccount}
 use Rattle.ledger.specs.PlainBook.{Posting, posting, answer, settled, after, toGuest, toSold, toPaid, toHouse}
-use Rattle.ledger.specs.Ledger.{book, Posted}
-use Rattle.ledger.specs.Round.{verdictOf, posted, adding, refusing, roundBy, earlyFaults, planned, exceeding, plus, Addable, limited, ruled, keptRound, chosen, Settled}
+use Rattle.ledger.specs.LentBook.{LentBook, book, soldOf, paidOf, plain}
+use Rattle.ledger.specs.Ledger.{Posted}
+use Rattle.ledger.specs.Round.{posted, verdictOf, adding, refusing, roundBy, earlyFaults, planned, exceeding, plus, followed, ruled, keptRound, chosen, Settled}
+use Rattle.ledger.specs.Stations.{exceedingTo, creditedTo}
 use Rattle.ledger.proofs.Accounts.{length-raised, getD-raised}
-use Rattle.kernels.proofs.Loops.{or-is}
-use Rattle.ledger.proofs.Settling.{addable}
+use Rattle.ledger.proofs.Stations.{length-sold, length-paid, exceeding-is, sold-credited, paid-credited, credited-nothing}
+use Rattle.ledger.proofs.Planning.{replied}
 
 -- ---- accounts with what a round adds
 
 -- nothing is added past the end of adds, nor by zeros
 zeros-at : (n k : ℕ) → _≡_ {A = ℕ} (getD (replicate n 0) k 0) 0
 zeros-at n k = ⊎-elim (λ (l : k < n). getD-replicate {A = ℕ} n k 0 0 l) (λ (l : n ≤ k). List·getD-eq-default (replicate n 0) 0 (rw length-replicate l)) (lt-or-le k n)
-
-plus-zeros : (xs : List ℕ) (n : ℕ) → plus xs (replicate n 0) ≡ xs
-unfolding plus
-plus-zeros xs n = ext-getD 0 _ _ (length-list (length xs) _) (λ k l. let lk : k < length xs = omega (arith, length-list (length xs) (λ k. getD xs k 0 + getD (replicate n 0) k 0)) in
-    getD-list (length xs) _ k lk ∙ omega (arith, zeros-at n k))
 
 -- a list of accounts no longer than what is added
 module _ (n : ℕ) (f : ℕ → ℕ) (xs : List ℕ) (size : ℕ) (small : length xs ≤ size) where
@@ -89,182 +86,14 @@ or-rotate false true false d = refl
 or-rotate false false true d = refl
 or-rotate false false false d = refl
 
--- the code's tests, in the code's order, where the book is no larger than a round
-module _ (p : Posting) (B : Book) (g : length (B .guests) ≤ maxGuests) (s : length (B .sold) ≤ maxStations) (q : length (B .paid) ≤ maxStations) where
-  room-is : let r = adding p in
-      (exceeding (B .sold) (r .sold) or exceeding (B .paid) (r .paid) or exceeding (B .guests) (r .charges) or maxAccount <? B .house + r .margin)
-      ≡ (overLimit B or overLimit (entered (p .tables) (p .round) B))
-  unfolding adding posted toGuest toSold toPaid toHouse overLimit entered
-  room-is = rw (
-    exceeding-raised (length (p .tables .asks)) (sold (seen (p .tables)) (decided (p .tables))) (B .sold) maxStations s,
-    exceeding-raised (length (p .tables .asks)) (paid (seen (p .tables)) (decided (p .tables))) (B .paid) maxStations q,
-    exceeding-raised (length (p .tables .amounts)) (charged (seen (p .tables)) (decided (p .tables))) (B .guests) maxGuests g,
-  )
-      (or-rotate _ _ _ _ ∙ sym (over-after p B))
-
-  plus-adding : (plus (B .guests) ((adding p) .charges) ≡ (entered (p .tables) (p .round) B) .guests)
-      × (plus (B .sold) ((adding p) .sold) ≡ (entered (p .tables) (p .round) B) .sold)
-      × (plus (B .paid) ((adding p) .paid) ≡ (entered (p .tables) (p .round) B) .paid)
-  unfolding adding posted toGuest toSold toPaid entered
-  plus-adding = (plus-raised _ _ (B .guests) maxGuests g, plus-raised _ _ (B .sold) maxStations s, plus-raised _ _ (B .paid) maxStations q)
-
--- ---- the faults before the one on the limit
-
-pub record Sizes (B : Book) : Type 0 where
-  pub guests : length (B .guests) ≤ maxGuests
-  pub sold : length (B .sold) ≤ maxStations
-  pub paid : length (B .paid) ≤ maxStations
-
-module _ (p : Posting) (B : Book) where
-  abbrev early : List Row
-  early = earlyFaults p (length (B .guests)) (length (B .sold)) (length (B .paid)) (B .last)
-
-  limit-row : List Row
-  limit-row = ((overLimit B or overLimit (entered (p .tables) (p .round) B)) gives AccountOverLimit) ∷ []
-
-  in-turn : postingFaults (p .tables) (p .round) B ≡ early ++ limit-row
-  unfolding postingFaults earlyFaults limit-row
-  in-turn = sym (append-assoc (marketFaults (p .tables)) _ _)
-
-  answer-early : (x : Refusal) → firstFault early ≡ refused x → answer B p ≡ refused x
-  unfolding answer
-  answer-early x e = ap firstFault in-turn ∙ first-refuses early limit-row x e
-
-  answer-late : (b : Bool) → (overLimit B or overLimit (entered (p .tables) (p .round) B)) ≡ b → firstFault early ≡ accepted → answer B p ≡ firstFault ((b gives AccountOverLimit) ∷ [])
-  unfolding answer limit-row
-  answer-late b q e = ap firstFault in-turn ∙ first-accepts early limit-row e ∙ ap (λ x. firstFault ((x gives AccountOverLimit) ∷ [])) q
-
-  sizes : firstFault early ≡ accepted → Sizes B
-  unfolding earlyFaults bookSize outOfTurn
-  sizes e =
-      let (size, _) = clear-of _ _ _ (clear-of-both (marketFaults (p .tables)) _ e .1) in
-      let (size01, paid-size) = or-no _ _ size in
-      let (guest-size, sold-size) = or-no _ _ size01 in
-      record { guests = inside _ _ _ guest-size .1; sold = inside _ _ _ sold-size .1; paid = inside _ _ _ paid-size .1 }
-
-  early-accepted : answer B p ≡ accepted → firstFault early ≡ accepted
-  unfolding answer
-  early-accepted e = clear-of-both early limit-row (sym (ap firstFault in-turn) ∙ e) .0
-
--- ---- the step
-
--- after settling by verdict v: the round to add to the stations' accounts, and the rest of the book
-pub record Stepped (v : Verdict) (p : Posting) (B : Book) (s : Round) (guests : List ℕ) (house last : ℕ) : Type 0 where
-  pub round-is : s ≡ roundBy v p
-  pub guests-are : guests ≡ (settled v B p) .guests
-  pub house-is : house ≡ (settled v B p) .house
-  pub last-is : last ≡ (settled v B p) .last
-
-module _ (p : Posting) (B : Book) (full : Bool) (s : Round) (guests : List ℕ) (house last : ℕ) where
-  -- refused before the limit
-  refused-early : (x : Refusal) → firstFault (early p B) ≡ refused x
-      → Settled (ruled (refusing x) full (B .guests) (B .house)) (refusing x) (p .round) (B .guests) (B .house) (B .last) s guests house last → Stepped (answer B p) p B s guests house last
-  unfolding ruled refusing verdictOf limited keptRound chosen settled roundBy
-  refused-early x e t = rw (answer-early p B x e) (record { round-is = t .round-is; guests-are = t .guests-are; house-is = t .house-is; last-is = t .last-is })
-
-  -- not refused before: by the room that is left
-  decided-late : (b : Bool) → (overLimit B or overLimit (entered (p .tables) (p .round) B)) ≡ b → firstFault (early p B) ≡ accepted
-      → Settled (limited b accepted) (adding p) (p .round) (B .guests) (B .house) (B .last) s guests house last → Stepped (answer B p) p B s guests house last
-  unfolding limited keptRound chosen settled roundBy firstFault entered adding posted toHouse
-  decided-late true o e t = rw (answer-late p B true o e) (record { round-is = t .round-is; guests-are = t .guests-are; house-is = t .house-is; last-is = t .last-is })
-  decided-late false o e t =
-      let z = sizes p B e in
-      rw (answer-late p B false o e) (record {
-        round-is = t .round-is;
-        guests-are = t .guests-are ∙ plus-adding p B (z .guests) (z .sold) (z .paid) .0;
-        house-is = t .house-is;
-        last-is = t .last-is;
-      })
-
-  ruled-late : full ≡ (exceeding (B .sold) ((adding p) .sold) or exceeding (B .paid) ((adding p) .paid)) → firstFault (early p B) ≡ accepted
-      → ruled (adding p) full (B .guests) (B .house) ≡ limited (overLimit B or overLimit (entered (p .tables) (p .round) B)) (verdictOf ((adding p) .reply))
-  unfolding ruled
-  ruled-late f e =
-      let z = sizes p B e in
-      ap (λ b. limited b (verdictOf ((adding p) .reply)))
-      (ap (λ b. b or exceeding (B .guests) ((adding p) .charges) or maxAccount <? B .house + (adding p) .margin) f ∙ room-is p B (z .guests) (z .sold) (z .paid))
-
-  posted-reply : verdictOf ((adding p) .reply) ≡ accepted
-  unfolding adding posted verdictOf
-  posted-reply = refl
-
-  -- what settling r leaves
-  abbrev Left : Round → Type 0
-  Left r = Settled (ruled r full (B .guests) (B .house)) r (p .round) (B .guests) (B .house) (B .last) s guests house last
-
-  pub stepped : (r : Round) → r ≡ planned p (length (B .guests)) (length (B .sold)) (length (B .paid)) (B .last)
-      → full ≡ (exceeding (B .sold) (r .sold) or exceeding (B .paid) (r .paid)) → Left r → Stepped (answer B p) p B s guests house last
-  unfolding planned roundBy
-  stepped r e f t = go (firstFault (early p B)) refl e
-    where
-      go : (v : Verdict) → firstFault (early p B) ≡ v → r ≡ roundBy v p → Stepped (answer B p) p B s guests house last
-      go (refused x) q e = refused-early x q (subst Left e t)
-      go accepted q e =
-          let f′ = subst (λ r. full ≡ (exceeding (B .sold) (r .sold) or exceeding (B .paid) (r .paid))) e f in
-          let v = ruled-late f′ q ∙ ap (limited (overLimit B or overLimit (entered (p .tables) (p .round) B))) posted-reply in
-          decided-late _ refl q (subst (λ v. Settled v (adding p) (p .round) (B .guests) (B .house) (B .last) s guests house last) v (subst Left e t))
-
--- ---- the stations' accounts
-
--- what a verdict leaves of a list of accounts, from what it leaves where the round is posted
-module _ (p : Posting) (B : Book) where
-  limit-kept : answer B p ≡ accepted → overLimit (entered (p .tables) (p .round) B) ≡ false
-  unfolding answer limit-row
-  limit-kept e = or-no _ _ (clear-of _ _ _ (clear-of-both (early p B) (limit-row p B) (sym (ap firstFault (in-turn p B)) ∙ e) .1) .0) .1
-
-  stations-after : (v : Verdict) → answer B p ≡ v → (plus (B .sold) ((roundBy v p) .sold) ≡ (settled v B p) .sold) × (plus (B .paid) ((roundBy v p) .paid) ≡ (settled v B p) .paid)
-  unfolding roundBy settled refusing
-  stations-after accepted e = let z = sizes p B (early-accepted p B e) in let h = plus-adding p B (z .guests) (z .sold) (z .paid) in (h .1, h .2)
-  stations-after (refused x) e = (plus-zeros (B .sold) maxStations, plus-zeros (B .paid) maxStations)
-
-  room-left : overLimit (entered (p .tables) (p .round) B) ≡ false → Sizes B
-      → (exceeding (B .sold) ((adding p) .sold) ≡ false) × (exceeding (B .paid) ((adding p) .paid) ≡ false)
-  unfolding overLimit entered adding posted toSold toPaid
-  room-left e z =
-      let (gsq, _) = or-no _ _ e in
-      let (gs, q) = or-no _ _ gsq in
-      (exceeding-raised _ _ (B .sold) maxStations (z .sold) ∙ or-no _ _ gs .1, exceeding-raised _ _ (B .paid) maxStations (z .paid) ∙ q)
-
-  -- so every sum of them fits
-  stations-addable : (v : Verdict) → answer B p ≡ v → ((k : ℕ) → getD (B .sold) k 0 < 2 ^ 64) → ((k : ℕ) → getD (B .paid) k 0 < 2 ^ 64)
-      → Addable (B .sold) ((roundBy v p) .sold) × Addable (B .paid) ((roundBy v p) .paid)
-  unfolding roundBy refusing
-  stations-addable accepted e hs hp = let h = room-left (limit-kept e) (sizes p B (early-accepted p B e)) in (addable _ _ (h .0), addable _ _ (h .1))
-  stations-addable (refused x) e hs hp = (record { fits = λ k l. omega (arith, hs k, zeros-at maxStations k) }, record { fits = λ k l. omega (arith, hp k, zeros-at maxStations k) })
-
--- the reply says the verdict
-pub replied : (v : Verdict) (p : Posting) → verdictOf ((roundBy v p) .reply) ≡ v
-unfolding roundBy adding posted refusing verdictOf
-replied accepted p = refl
-replied (refused x) p = refl
-
--- what is added to the stations' accounts fits
-pub settled-addable : (p : Posting) (B : Book) (s : Round) (guests : List ℕ) (house last : ℕ) → Stepped (answer B p) p B s guests house last
-    → ((k : ℕ) → getD (B .sold) k 0 < 2 ^ 64) → ((k : ℕ) → getD (B .paid) k 0 < 2 ^ 64) → Addable (B .sold) (s .sold) × Addable (B .paid) (s .paid)
-settled-addable p B s guests house last t hs hp = rw (t .round-is) (stations-addable p B (answer B p) refl hs hp)
-
--- the code's or, of what two lists say
-pub full-is : (a b x y : Bool) → a ≡ x → b ≡ y → (a || b) ≡ (x or y)
-full-is a b x y p q = or-is a b ∙ ap₂ _or_ p q
-
--- a call of `post`
-module _ (p : Posting) (guests sold paid : List ℕ) (house last : ℕ) where
-  abbrev B : Book
-  B = book guests sold paid house last
-
-  pub posts : (s : Round) (guests′ sold′ paid′ : List ℕ) (house′ last′ : ℕ) → Stepped (answer B p) p B s guests′ house′ last′
-      → sold′ ≡ plus sold (s .sold) → paid′ ≡ plus paid (s .paid) → Posted B p (verdictOf (s .reply)) (book guests′ sold′ paid′ house′ last′)
-  unfolding after
-  posts s guests′ sold′ paid′ house′ last′ t es ep =
-      let h = stations-after p B (answer B p) refl in
-      let sold-is = es ∙ ap (λ r. plus sold (r .sold)) (t .round-is) ∙ h .0 in
-      let paid-is = ep ∙ ap (λ r. plus paid (r .paid)) (t .round-is) ∙ h .1 in
-      record {
-        answered = ap (λ r. verdictOf (r .reply)) (t .round-is) ∙ replied (answer B p) p;
-        left = λ x. record { guests = t .guests-are x; sold = sold-is x; paid = paid-is x; house = t .house-is x; last = t .last-is x };
-      }
-
--- ---- the plan
+-- a table in two parts
+first-follows : (xs ys : List Row) → firstFault (xs ++ ys) ≡ followed (firstFault xs) ys
+unfolding followed
+first-follows xs ys = go (firstFault xs) refl
+  where
+    go : (v : Verdict) → firstFault xs ≡ v → firstFault (xs ++ ys) ≡ followed (firstFault xs) ys
+    go accepted e = first-accepts xs ys e ∙ ap (λ v. followed v ys) (sym e)
+    go (refused x) e = first-refuses xs ys x e ∙ ap (λ v. followed v ys) (sym e)
 
 -- the round does not depend on its number
 same-round : (v : Verdict) (t : Tables) (n : ℕ) → roundBy v (posting t 0) ≡ roundBy v (posting t n)
@@ -272,50 +101,120 @@ unfolding roundBy adding posted toGuest toSold toPaid toHouse
 same-round accepted t n = refl
 same-round (refused x) t n = refl
 
-module _ (t : Tables) (round guests sold paid last : ℕ) (r : Round) (e : r ≡ roundBy (verdict t) (posting t 0)) where
-  abbrev p : Posting
-  p = posting t round
+-- a posting p to the lent book L
+module _ (p : Posting) (L : LentBook) where
+  abbrev B : Book
+  B = plain L
 
-  -- what the round's reply says of the market
-  judged : (v : Verdict) → verdictOf (r .reply) ≡ v → verdict t ≡ v
-  judged v q = sym (replied (verdict t) (posting t 0)) ∙ ap (λ r. verdictOf (r .reply)) (sym e) ∙ q
+  abbrev early : List Row
+  early = earlyFaults (p .tables) (length (L .guests)) (length (L .stations))
 
-  cleared : (v : Verdict) → verdict t ≡ v → r ≡ roundBy v p
-  cleared v q = e ∙ ap (λ v. roundBy v (posting t 0)) q ∙ same-round v t round
+  late : Bool → List Row
+  late over = outOfTurn (p .round) (L .last) ∷ (over gives AccountOverLimit) ∷ []
 
-  refused-reply : (x : Refusal) → r .reply ≡ reply.Refused x → verdictOf (r .reply) ≡ refused x
-  unfolding verdictOf
-  refused-reply x q = rw q
+  after-limit : Bool
+  after-limit = overLimit B or overLimit (entered (p .tables) (p .round) B)
 
-  accepted-reply : r .reply ≡ reply.Posted → verdictOf (r .reply) ≡ accepted
-  unfolding verdictOf
-  accepted-reply q = rw q
+  in-turn : postingFaults (p .tables) (p .round) B ≡ early ++ late after-limit
+  unfolding postingFaults earlyFaults late after-limit plain
+  in-turn = rw length-sold (sym (append-assoc (marketFaults (p .tables)) _ _))
 
-  pub plan-refused : (x : Refusal) → r .reply ≡ reply.Refused x → r ≡ planned p guests sold paid last
-  unfolding planned earlyFaults verdict
-  plan-refused x q =
-      let v = judged (refused x) (refused-reply x q) in
-      cleared (refused x) v ∙ ap (λ v. roundBy v p) (sym (first-refuses (marketFaults t) _ x v))
+  answer-is : answer B p ≡ followed (firstFault early) (late after-limit)
+  unfolding answer
+  answer-is = ap firstFault in-turn ∙ first-follows early (late after-limit)
 
-  rows : Bool → Bool → List Row
-  rows a b = (a gives BookSize) ∷ (b gives RoundOutOfTurn) ∷ []
+  early-accepted : answer B p ≡ accepted → firstFault early ≡ accepted
+  unfolding answer
+  early-accepted e = clear-of-both early (late after-limit) (sym (ap firstFault in-turn) ∙ e) .0
 
-  planned-late : (a b : Bool) → (a gives BookSize) ≡ bookSize (length (t .amounts)) (length (t .asks)) guests sold paid → (b gives RoundOutOfTurn) ≡ outOfTurn round last
-      → r .reply ≡ reply.Posted → planned p guests sold paid last ≡ roundBy (firstFault (rows a b)) p
-  unfolding planned earlyFaults verdict rows
-  planned-late a b ea eb q = ap (λ v. roundBy v p) (first-accepts (marketFaults t) _ (judged accepted (accepted-reply q)) ∙ ap₂ (λ x y. firstFault (x ∷ y ∷ [])) (sym ea) (sym eb))
+  -- the book is no larger than a round
+  sizes : firstFault early ≡ accepted → (length (L .guests) ≤ maxGuests) × (length (L .stations) ≤ maxStations)
+  unfolding earlyFaults bookSize
+  sizes e =
+      let (size, _) = clear-of _ _ _ (clear-of-both (marketFaults (p .tables)) _ e .1) in
+      let (guest-size, station-size) = or-no _ _ size in
+      (inside _ _ _ guest-size .1, inside _ _ _ station-size .1)
 
-  pub plan-size : (s : Round) (a : Bool) → (a gives BookSize) ≡ bookSize (length (t .amounts)) (length (t .asks)) guests sold paid → a ≡ true
-      → r .reply ≡ reply.Posted → s ≡ refusing BookSize → s ≡ planned p guests sold paid last
-  unfolding outOfTurn firstFault roundBy rows
-  plan-size s a ea za q es = es ∙ sym (planned-late true _ (rw za at ea) refl q)
+  module _ (z : (length (L .guests) ≤ maxGuests) × (length (L .stations) ≤ maxStations)) where
+    sold-size : length (soldOf (L .stations)) ≤ maxStations
+    sold-size = rw length-sold (z .1)
 
-  pub plan-turn : (s : Round) (a b : Bool) → (a gives BookSize) ≡ bookSize (length (t .amounts)) (length (t .asks)) guests sold paid → a ≡ false
-      → (b gives RoundOutOfTurn) ≡ outOfTurn round last → b ≡ true → r .reply ≡ reply.Posted → s ≡ refusing RoundOutOfTurn → s ≡ planned p guests sold paid last
-  unfolding firstFault roundBy rows
-  plan-turn s a b ea za eb zb q es = es ∙ sym (planned-late false true (rw za at ea) (rw zb at eb) q)
+    paid-size : length (paidOf (L .stations)) ≤ maxStations
+    paid-size = rw length-paid (z .1)
 
-  pub plan-posted : (a b : Bool) → (a gives BookSize) ≡ bookSize (length (t .amounts)) (length (t .asks)) guests sold paid → a ≡ false
-      → (b gives RoundOutOfTurn) ≡ outOfTurn round last → b ≡ false → r .reply ≡ reply.Posted → r ≡ planned p guests sold paid last
-  unfolding firstFault rows
-  plan-posted a b ea za eb zb q = cleared accepted (judged accepted (accepted-reply q)) ∙ sym (planned-late false false (rw za at ea) (rw zb at eb) q)
+    -- the code's tests, in the code's order
+    room-is : let r = adding p in (exceedingTo r (length (L .stations)) (L .stations) or exceeding (L .guests) (r .charges) or maxAccount <? L .house + r .margin) ≡ after-limit
+    unfolding adding posted toGuest toSold toPaid toHouse overLimit entered after-limit plain
+    room-is = rw (
+      exceeding-is,
+      exceeding-raised (length (p .tables .asks)) (sold (seen (p .tables)) (decided (p .tables))) (soldOf (L .stations)) maxStations sold-size,
+      exceeding-raised (length (p .tables .asks)) (paid (seen (p .tables)) (decided (p .tables))) (paidOf (L .stations)) maxStations paid-size,
+      exceeding-raised (length (p .tables .amounts)) (charged (seen (p .tables)) (decided (p .tables))) (L .guests) maxGuests (z .0),
+    )
+        (or-rotate _ _ _ _ ∙ sym (over-after p B))
+
+    plus-adding : (plus (L .guests) ((adding p) .charges) ≡ (entered (p .tables) (p .round) B) .guests)
+        × (plus (soldOf (L .stations)) ((adding p) .sold) ≡ (entered (p .tables) (p .round) B) .sold)
+        × (plus (paidOf (L .stations)) ((adding p) .paid) ≡ (entered (p .tables) (p .round) B) .paid)
+    unfolding adding posted toGuest toSold toPaid entered plain
+    plus-adding = (plus-raised _ _ (L .guests) maxGuests (z .0), plus-raised _ _ (soldOf (L .stations)) maxStations sold-size, plus-raised _ _ (paidOf (L .stations)) maxStations paid-size)
+
+  room-left : answer B p ≡ accepted → (z : (length (L .guests) ≤ maxGuests) × (length (L .stations) ≤ maxStations)) → exceedingTo (adding p) (length (L .stations)) (L .stations) ≡ false
+  unfolding answer late outOfTurn
+  room-left e z =
+      let (_, e0) = clear-of-both early (late after-limit) (sym (ap firstFault in-turn) ∙ e) in
+      let (_, e1) = clear-of _ _ _ e0 in
+      let (limit, _) = clear-of _ _ _ e1 in
+      or-no _ _ (or-no _ _ (room-is z ∙ limit) .0) .0
+
+  -- the planned round, under its number
+  planned-is : planned (p .tables) (length (L .guests)) (length (L .stations)) ≡ roundBy (firstFault early) p
+  unfolding planned
+  planned-is = same-round _ (p .tables) (p .round)
+
+  -- the code's verdict on it is the plain book's
+  module _ (r : Round) (full : Bool) (er : r ≡ planned (p .tables) (length (L .guests)) (length (L .stations))) (ef : full ≡ exceedingTo r (length (L .stations)) (L .stations)) where
+    ruled-is : ruled r full (p .round) (L .guests) (L .house) (L .last) ≡ answer B p
+    unfolding ruled followed late roundBy
+    ruled-is = go (firstFault early) refl
+      where
+        go : (v : Verdict) → firstFault early ≡ v → ruled r full (p .round) (L .guests) (L .house) (L .last) ≡ answer B p
+        go (refused x) e =
+            let k : r ≡ roundBy (refused x) p = er ∙ planned-is ∙ ap (λ v. roundBy v p) e in
+            rw (answer-is, e, k, replied) refl
+        go accepted e =
+            let k : r ≡ roundBy accepted p = er ∙ planned-is ∙ ap (λ v. roundBy v p) e in
+            rw (answer-is, e, ef, k, replied, ← room-is (sizes e)) refl
+
+    -- what settling and the loop over the stations leave is the plain book's step
+    module _ (s : Round) (guests′ : List ℕ) (stations′ : List StationAccount) (house′ last′ : ℕ)
+        (t : Settled (ruled r full (p .round) (L .guests) (L .house) (L .last)) r (p .round) (L .guests) (L .house) (L .last) s guests′ house′ last′)
+        (es : stations′ ≡ creditedTo s (length (L .stations)) (L .stations)) where
+      abbrev exit : LentBook
+      exit = book guests′ stations′ house′ last′
+
+      -- the round that is added, and the book at exit, by the verdict
+      left-by : (v : Verdict) → answer B p ≡ v → Settled v r (p .round) (L .guests) (L .house) (L .last) s guests′ house′ last′ → (s ≡ roundBy v p) × (plain exit ≡ settled v B p)
+      unfolding keptRound chosen roundBy settled plain entered adding posted refusing toHouse
+      left-by accepted e h =
+          let f = early-accepted e in
+          let z = sizes f in
+          let k : r ≡ adding p = er ∙ planned-is ∙ ap (λ v. roundBy v p) f in
+          let q : s ≡ adding p = h .round-is ∙ k in
+          let o = room-left e z in
+          let stations-are : stations′ ≡ creditedTo (adding p) (length (L .stations)) (L .stations) = es ∙ ap (λ r. creditedTo r (length (L .stations)) (L .stations)) q in
+          let guests-are = h .guests-are ∙ ap (λ r. plus (L .guests) (r .charges)) k ∙ plus-adding z .0 in
+          let sold-is = ap soldOf stations-are ∙ sold-credited (adding p) (L .stations) o ∙ plus-adding z .1 in
+          let paid-is = ap paidOf stations-are ∙ paid-credited (adding p) (L .stations) o ∙ plus-adding z .2 in
+          let house-is = h .house-is ∙ ap (λ r. L .house + r .margin) k in
+          (q, λ x. record { guests = guests-are x; sold = sold-is x; paid = paid-is x; house = house-is x; last = h .last-is x })
+      left-by (refused x) e h =
+          let stations-are : stations′ ≡ L .stations = es ∙ ap (λ r. creditedTo r (length (L .stations)) (L .stations)) (h .round-is)
+          ∙ credited-nothing (refusing x) (L .stations) (zeros-at maxStations) (zeros-at maxStations) in
+          (h .round-is, λ y. record { guests = h .guests-are y; sold = soldOf (stations-are y); paid = paidOf (stations-are y); house = h .house-is y; last = h .last-is y })
+
+      pub posts : Posted L p (verdictOf (s .reply)) exit
+      unfolding after
+      posts =
+          let (q, left) = left-by (answer B p) refl (subst (λ v. Settled v r (p .round) (L .guests) (L .house) (L .last) s guests′ house′ last′) ruled-is t) in
+          record { answered = ap (λ r. verdictOf (r .reply)) q ∙ replied (answer B p) p; left = left }

@@ -1,19 +1,20 @@
 -- What the functions of src/ promise each other: a round by value, and lists of accounts that it is added to.
 use Prim.Native.Nat.{ℕ, _+_, _<_, _^_}
-use mathlib.Core.Bool.{Bool, true, false}
+use mathlib.Core.Bool.{Bool}
 use mathlib.Core.List.{List, [], _∷_, _++_}
 use mathlib.Core.Path.{_≡_}
 use lib.ListN.{getD, length, replicate}
 use Rattle.auction.specs.Counting.{_<?_, _or_, some, list}
 use Rattle.auction.specs.Limits.{maxGuests, maxStations, maxAccount}
-use Rattle.auction.specs.Refusals.{Row, Verdict, accepted, refused, firstFault}
+use Rattle.auction.specs.Refusals.{Row, _gives_, Verdict, accepted, refused, firstFault}
 use Rattle.auction.specs.declared.Refusal.{Refusal}
 use Rattle.auction.specs.declared.Refusal.the-variants.{AccountOverLimit}
+use Rattle.auction.specs.Market.{Tables}
 use Rattle.auction.specs.Faults.{marketFaults, bookSize, outOfTurn}
 use Rattle.ledger.specs.declared.Reply.{Reply}
 use Rattle.ledger.specs.declared.Reply.the-variants as reply
 use Rattle.ledger.specs.declared.Round.{Round}
-use Rattle.ledger.specs.PlainBook.{Posting, toGuest, toSold, toPaid, toHouse}
+use Rattle.ledger.specs.PlainBook.{Posting, posting, toGuest, toSold, toPaid, toHouse}
 
 -- document 01's answer for each case of the enum
 unfoldable pub verdictOf : Reply → Verdict
@@ -41,13 +42,12 @@ unfoldable pub roundBy : Verdict → Posting → Round
 roundBy accepted p = adding p
 roundBy (refused r) p = refusing r
 
--- posting's rows before the one on the limit
-unfoldable pub earlyFaults : Posting → (guests sold paid last : ℕ) → List Row
-earlyFaults p guests sold paid last = marketFaults (p .tables)
-    ++ (bookSize (length (p .tables .amounts)) (length (p .tables .asks)) guests sold paid ∷ outOfTurn (p .round) last ∷ [])
+-- posting's rows up to the one on the book's size, and the round that they leave of a market; its number comes later
+unfoldable pub earlyFaults : Tables → (guests stations : ℕ) → List Row
+earlyFaults t guests stations = marketFaults t ++ (bookSize (length (t .amounts)) (length (t .asks)) guests stations ∷ [])
 
-unfoldable pub planned : Posting → (guests sold paid last : ℕ) → Round
-planned p guests sold paid last = roundBy (firstFault (earlyFaults p guests sold paid last)) p
+unfoldable pub planned : Tables → (guests stations : ℕ) → Round
+planned t guests stations = roundBy (firstFault (earlyFaults t guests stations)) (posting t 0)
 
 -- some account would be above the limit with what is added
 unfoldable pub exceeding : (accounts adds : List ℕ) → Bool
@@ -61,14 +61,15 @@ plus xs adds = list (length xs) (λ k. getD xs k 0 + getD adds k 0)
 pub record Addable (xs adds : List ℕ) : Type 0 where
   pub fits : (k : ℕ) → k < length xs → getD xs k 0 + getD adds k 0 < 2 ^ 64
 
--- the verdict on round r, where `full` says that some station's account has no room
-unfoldable pub limited : Bool → Verdict → Verdict
-limited over (refused r) = refused r
-limited true accepted = refused AccountOverLimit
-limited false accepted = accepted
+-- a verdict, and that of the rows that follow where it accepts
+unfoldable pub followed : Verdict → List Row → Verdict
+followed accepted rows = firstFault rows
+followed (refused x) rows = refused x
 
-unfoldable pub ruled : Round → (full : Bool) (guests : List ℕ) (house : ℕ) → Verdict
-ruled r full guests house = limited (full or exceeding guests (r .charges) or maxAccount <? house + r .margin) (verdictOf (r .reply))
+-- the verdict on round r and its number, where `full` says that some station's account has no room
+unfoldable pub ruled : Round → (full : Bool) (round : ℕ) (guests : List ℕ) (house last : ℕ) → Verdict
+ruled r full round guests house last = followed (verdictOf (r .reply))
+    (outOfTurn round last ∷ ((full or exceeding guests (r .charges) or maxAccount <? house + r .margin) gives AccountOverLimit) ∷ [])
 
 -- what is kept of r by a verdict, and of two values of a lent place
 unfoldable pub keptRound : Verdict → Round → Round

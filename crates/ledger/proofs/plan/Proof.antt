@@ -1,4 +1,4 @@
-use Rattle.ledger.proofs.Posting.{plan-refused, plan-size, plan-turn, plan-posted}
+use Rattle.ledger.proofs.Planning.{plan-refused, plan-size, plan-fits}
 use borrow.Author.Needs.{needs}
 use Rattle.ledger.proofs.plan.Statement.{statement}
 use Rattle.ledger.proofs.plan.Tie as tie
@@ -19,35 +19,15 @@ refusing-requires : tie.Need-refusing-requires
 refusing-requires c κs = search needs
 
 returns : tie.Need-returns
-returns c = plan-size _ _ _ _ _ _ _ (c .before .before .before .before .before .clear-round .ensures) _ _ (c .before .before .wrong-size .ensures) (c .before .if1 .taken) (c .before .before .before .enum-told2 .given .1) (c .refusing .ensures)
-
-out-of-turn-requires : tie.Need-out-of-turn-requires
-out-of-turn-requires c κs = search needs
-
-refusing-requires-2 : tie.Need-refusing-requires-2
-refusing-requires-2 c κs = search needs
+returns c = plan-size _ _ _ _ (c .before .before .before .before .before .clear-round .ensures) _ _ (c .before .before .wrong-size .ensures) (c .before .if1 .taken) (c .before .before .before .enum-told2 .given .1) (c .refusing .ensures)
 
 returns-2 : tie.Need-returns-2
-returns-2 c = plan-turn _ _ _ _ _ _ _ (c .before .before .before .before .before .before .before .clear-round .ensures) _ _ _ (c .before .before .before .before .wrong-size .ensures) (c .before .before .before .if1 .left) (c .before .before .out-of-turn .ensures) (c .before .if2 .taken) (c .before .before .before .before .before .enum-told2 .given .1) (c .refusing2 .ensures)
+returns-2 c = plan-refused _ _ _ _ (c .before .before .clear-round .ensures) _ (c .enum-told .given .1)
 
 returns-3 : tie.Need-returns-3
-returns-3 c = plan-refused _ _ _ _ _ _ _ (c .before .before .clear-round .ensures) _ (c .enum-told .given .1)
-
-returns-4 : tie.Need-returns-4
-returns-4 c = plan-posted _ _ _ _ _ _ _ (c .before .before .before .before .before .before .clear-round .ensures) _ _ (c .before .before .before .wrong-size .ensures) (c .before .before .if1 .left) (c .before .out-of-turn .ensures) (c .if2 .left) (c .before .before .before .before .enum-told2 .given .1)
+returns-3 c = plan-fits _ _ _ _ (c .before .before .before .before .clear-round .ensures) _ (c .before .wrong-size .ensures) (c .if1 .left) (c .before .before .enum-told2 .given .1)
 
 pub plan-spec : {M : Type 1} → statement M
 plan-spec =
     tie.close
-    (tie.spec
-    clear-round-requires
-    enum-told
-    enum-told-2
-    wrong-size-requires
-    refusing-requires
-    returns
-    out-of-turn-requires
-    refusing-requires-2
-    returns-2
-    returns-3
-    returns-4)
+    (tie.spec clear-round-requires enum-told enum-told-2 wrong-size-requires refusing-requires returns returns-2 returns-3)

@@ -1,7 +1,7 @@
 use mathlib.Core.Path.{sym, _∙_}
 use native.Mathlib.Omega.{arith}
 use Rattle.auction.proofs.Tests.{lt-no}
-use Rattle.ledger.proofs.Settling.{addable, all-fail, test-is, settled-refused, settled-over, settled-posted}
+use Rattle.ledger.proofs.Settling.{addable, all-fail, test-is, settled-refused, settled-late, settled-over, settled-posted}
 use borrow.Author.Needs.{needs}
 use Rattle.ledger.proofs.settle.Statement.{statement}
 use Rattle.ledger.proofs.settle.Tie as tie
@@ -15,6 +15,15 @@ refusing-requires c κs = search needs
 enum-told : tie.Need-enum-told
 enum-told c = search needs
 
+out-of-turn-requires : tie.Need-out-of-turn-requires
+out-of-turn-requires c κs = search needs
+
+refusing-requires-2 : tie.Need-refusing-requires-2
+refusing-requires-2 c κs = search needs
+
+returns : tie.Need-returns
+returns c = settled-late (c .before .before .before .before .before .before .before .before .args .r) (c .before .before .before .before .before .before .before .before .args .full) _ _ _ _ _ _ (c .before .before .before .before .enum-told .given .1) (c .before .before .out-of-turn .ensures) (c .before .if1 .taken) (c .refusing2 .ensures)
+
 slice-aggregate-any-exceeds : tie.Need-slice-aggregate-any-exceeds
 slice-aggregate-any-exceeds c = search needs
 
@@ -24,32 +33,32 @@ any-exceeds-requires c κs = search needs
 exceeds-requires : tie.Need-exceeds-requires
 exceeds-requires c κs = search needs
 
-refusing-requires-2 : tie.Need-refusing-requires-2
-refusing-requires-2 c κs = search needs
+refusing-requires-3 : tie.Need-refusing-requires-3
+refusing-requires-3 c κs = search needs
 
 same-length : tie.Need-same-length
 same-length c = search needs
 
-returns : tie.Need-returns
-returns c = settled-over (c .before .before .before .before .before .before .before .before .before .before .before .args .r) (c .before .before .before .before .before .before .before .before .before .before .before .args .full) _ _ _ _ _ (c .before .before .before .before .before .before .before .enum-told .given .1) (sym (test-is (c .before .before .before .before .before .before .before .before .before .before .before .args .r) (c .before .before .before .before .before .before .before .before .before .before .before .args .full) (c .before .before .before .before .before .before .before .before .before .before .before .args .round) _ _ (c .before .before .before .before .before .before .before .before .before .before .before .args .last .now) _ _ (c .before .before .before .before .any-exceeds .ensures) (c .before .before .exceeds .ensures)) ∙ c .before .if1 .taken) (c .refusing2 .ensures)
+returns-2 : tie.Need-returns-2
+returns-2 c = settled-over (c .before .before .before .before .before .before .before .before .before .before .before .before .before .before .args .r) (c .before .before .before .before .before .before .before .before .before .before .before .before .before .before .args .full) _ _ _ _ _ _ (c .before .before .before .before .before .before .before .before .before .before .enum-told .given .1) (c .before .before .before .before .before .before .before .before .out-of-turn .ensures) (c .before .before .before .before .before .before .before .if1 .left) (sym (test-is (c .before .before .before .before .before .before .before .before .before .before .before .before .before .before .args .r) (c .before .before .before .before .before .before .before .before .before .before .before .before .before .before .args .full) (c .before .before .before .before .before .before .before .before .before .before .before .before .before .before .args .round) _ _ (c .before .before .before .before .before .before .before .before .before .before .before .before .before .before .args .last .now) _ _ (c .before .before .before .before .any-exceeds .ensures) (c .before .before .exceeds .ensures)) ∙ c .before .if2 .taken) (c .refusing3 .ensures)
 
 slice-aggregate-add : tie.Need-slice-aggregate-add
 slice-aggregate-add c = search needs
 
 add-requires : tie.Need-add-requires
-add-requires c κs = addable _ _ (sym (c .before .before .before .before .before .any-exceeds .ensures) ∙ all-fail (c .before .before .before .before .before .before .before .before .before .before .before .before .args .full) _ (c .before .before .before .exceeds .result) (c .before .before .if1 .left) .0)
+add-requires c κs = addable _ _ (sym (c .before .before .before .before .before .any-exceeds .ensures) ∙ all-fail (c .before .before .before .before .before .before .before .before .before .before .before .before .before .before .before .args .full) _ (c .before .before .before .exceeds .result) (c .before .before .if2 .left) .0)
 
 add-house : tie.Need-add-house
-add-house c = omega (arith, lt-no _ _ (sym (c .before .before .before .before .before .before .exceeds .ensures) ∙ all-fail (c .before .before .before .before .before .before .before .before .before .before .before .before .before .before .before .args .full) (c .before .before .before .before .before .before .before .before .any-exceeds .result) _ (c .before .before .before .before .before .if1 .left) .1))
+add-house c = omega (arith, lt-no _ _ (sym (c .before .before .before .before .before .before .exceeds .ensures) ∙ all-fail (c .before .before .before .before .before .before .before .before .before .before .before .before .before .before .before .before .before .before .args .full) (c .before .before .before .before .before .before .before .before .any-exceeds .result) _ (c .before .before .before .before .before .if2 .left) .1))
 
-returns-2 : tie.Need-returns-2
-returns-2 c = settled-refused _ _ _ _ _ _ _ _ (c .before .before .reply .given .1) (c .refusing .ensures)
+returns-3 : tie.Need-returns-3
+returns-3 c = settled-refused _ _ _ _ _ _ _ _ (c .before .before .reply .given .1) (c .refusing .ensures)
 
 same-length-2 : tie.Need-same-length-2
 same-length-2 c = search needs
 
-returns-3 : tie.Need-returns-3
-returns-3 c = settled-posted (c .before .before .before .before .before .before .before .before .before .before .before .before .before .before .before .args .r) (c .before .before .before .before .before .before .before .before .before .before .before .before .before .before .before .args .full) _ _ _ _ _ (c .before .before .before .before .before .before .before .before .before .before .before .enum-told .given .1) (sym (test-is (c .before .before .before .before .before .before .before .before .before .before .before .before .before .before .before .args .r) (c .before .before .before .before .before .before .before .before .before .before .before .before .before .before .before .args .full) (c .before .before .before .before .before .before .before .before .before .before .before .before .before .before .before .args .round) _ _ (c .before .before .before .before .before .before .before .before .before .before .before .before .before .before .before .args .last .now) _ _ (c .before .before .before .before .before .before .before .before .any-exceeds .ensures) (c .before .before .before .before .before .before .exceeds .ensures)) ∙ c .before .before .before .before .before .if1 .left) (c .before .before .add .ensures)
+returns-4 : tie.Need-returns-4
+returns-4 c = settled-posted (c .before .before .before .before .before .before .before .before .before .before .before .before .before .before .before .before .before .before .args .r) (c .before .before .before .before .before .before .before .before .before .before .before .before .before .before .before .before .before .before .args .full) _ _ _ _ _ _ (c .before .before .before .before .before .before .before .before .before .before .before .before .before .before .enum-told .given .1) (c .before .before .before .before .before .before .before .before .before .before .before .before .out-of-turn .ensures) (c .before .before .before .before .before .before .before .before .before .before .before .if1 .left) (sym (test-is (c .before .before .before .before .before .before .before .before .before .before .before .before .before .before .before .before .before .before .args .r) (c .before .before .before .before .before .before .before .before .before .before .before .before .before .before .before .before .before .before .args .full) (c .before .before .before .before .before .before .before .before .before .before .before .before .before .before .before .before .before .before .args .round) _ _ (c .before .before .before .before .before .before .before .before .before .before .before .before .before .before .before .before .before .before .args .last .now) _ _ (c .before .before .before .before .before .before .before .before .any-exceeds .ensures) (c .before .before .before .before .before .before .exceeds .ensures)) ∙ c .before .before .before .before .before .if2 .left) (c .before .before .add .ensures)
 
 pub settle-spec : {M : Type 1} → statement M
 settle-spec =
@@ -58,15 +67,18 @@ settle-spec =
     enum-known-reply
     refusing-requires
     enum-told
+    out-of-turn-requires
+    refusing-requires-2
+    returns
     slice-aggregate-any-exceeds
     any-exceeds-requires
     exceeds-requires
-    refusing-requires-2
+    refusing-requires-3
     same-length
-    returns
+    returns-2
     slice-aggregate-add
     add-requires
     add-house
-    returns-2
+    returns-3
     same-length-2
-    returns-3)
+    returns-4)

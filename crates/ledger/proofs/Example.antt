@@ -1,0 +1,29 @@
+-- Document 01's example, by computation.
+use mathlib.Core.List.{List, [], _∷_}
+use mathlib.Core.Path.{_≡_, refl, _∙_}
+use Rattle.auction.specs.Counting.{_<?_, _≤?_, _=?_, _and_, _or_, only, sum, greatest, count, some, any, list}
+use Rattle.auction.specs.Refusals.{accepted, refused, firstFault}
+use Rattle.auction.specs.declared.Refusal.the-variants.{RoundOutOfTurn}
+use Rattle.auction.specs.Market.{bidAt, marketBy, median, byNumber, market, cut, opens, screen, queue, before, rank, provisional, critical}
+use Rattle.auction.specs.Mechanism.{at, charge, charged, sold, paid, margin, better, best, surplus, truthful}
+use Rattle.auction.specs.Outcome.{settle, seen, decided}
+use Rattle.auction.specs.Faults.{outside, counts, lengths, values, marketFaults, raised, entered, overLimit, bookSize, outOfTurn, postingFaults}
+use Rattle.auction.specs.Cases.{tables, pair, caseE}
+use Rattle.ledger.specs.PlainBook.{Posting, posting, empty, answer, settled, after, answers, final}
+use Rattle.ledger.specs.LentBook.{book, account, soldOf, paidOf, plain}
+use Rattle.ledger.specs.Ledger.{ExampleKept}
+use Rattle.ledger.proofs.Ledger.{from-blank}
+use Rattle.ledger.proofs.Stations.{plain-determines}
+
+abbrev twice : List Posting
+twice = posting caseE 1 ∷ posting caseE 1 ∷ []
+
+-- the plain book's answers, and its numbers after both
+plain-twice : (answers (empty 2 2) twice ≡ accepted ∷ refused RoundOutOfTurn ∷ []) × (final (empty 2 2) twice ≡ plain (book (24 ∷ 0 ∷ []) (account 3 18 ∷ account 0 0 ∷ []) 6 1))
+unfolding _<?_ _≤?_ _=?_ _and_ _or_ only sum greatest count some any list firstFault bidAt marketBy median byNumber market cut opens screen queue before rank provisional critical at charge charged sold paid margin better best surplus truthful settle seen decided outside counts lengths values marketFaults raised entered overLimit bookSize outOfTurn postingFaults tables pair caseE empty answer settled after answers final plain soldOf paidOf
+plain-twice = (refl, refl)
+
+pub example-kept : ExampleKept
+example-kept vs B c =
+    let (e, q) = from-blank 2 2 twice c in
+    (e ∙ plain-twice .0, plain-determines B _ (q ∙ plain-twice .1))
