@@ -1,0 +1,4 @@
+// Prints the clearing of the sheet on standard input; here Table I.
+fn main() {
+    console::run();
+}

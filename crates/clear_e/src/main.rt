@@ -1,0 +1,4 @@
+// Case E through the clearing program.
+fn main() {
+    console::run();
+}

@@ -1,0 +1,4 @@
+// A refused sheet through the clearing program.
+fn main() {
+    console::run();
+}
