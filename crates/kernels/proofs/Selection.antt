@@ -4,14 +4,14 @@ use mathlib.Core.Bool.{Bool, true, false}
 use mathlib.Core.List.{List}
 use mathlib.Core.Logic.{_⊎_, inl, inr, ⊎-elim}
 use mathlib.Core.Path.{_≡_, refl, sym, ap, _∙_}
-use native.Mathlib.Nat.{le-refl, le-trans, eq-or-lt-of-le, le-of-suc-le-suc}
+use native.Mathlib.Nat.{le-refl, le-trans, le-antisymm, eq-or-lt-of-le, le-of-suc-le-suc}
 use native.Mathlib.Omega.{arith}
 use lib.ListN.{getD, length}
 use borrow.Author.Count.{below-more}
 use Rattle.auction.specs.Counting.{_<?_, _≤?_, _=?_, _and_, only, sum, greatest, count}
 use Rattle.auction.proofs.Tests.{decide, first, second, both, clash, only-le, le-only, only-yes, only-no, is-lt, not-lt, is-le, lt-yes, le-yes, le-no, lt-or-le}
 use Rattle.auction.proofs.Counting.{count-mono, count-strict, count-none, count-step, count-start, le-greatest, greatest-le, search-below}
-use Rattle.kernels.specs.Scans.{above, ties, greatestUpTo, LeastFew, TieBound}
+use Rattle.kernels.specs.Scans.{above, ties, greatestUpTo, LeastFew, Selected, TieBound}
 
 pub above-falls : (l : List ℕ) (s t : ℕ) → s ≤ t → above l t ≤ above l s
 unfolding above
@@ -41,18 +41,29 @@ pub above-greatest : (l : List ℕ) (t : ℕ) → ((k : ℕ) → k < length l �
 unfolding above
 above-greatest l t h = count-none (length l) _ (λ k lk p. omega (arith, lt-yes _ _ p, le-up-to l t k lk (h k lk)))
 
--- where b elements are above t, the greatest up to t is the least with b above it
-pub up-to-least : (l : List ℕ) (b t : ℕ) → above l t ≡ b → LeastFew l b (greatestUpTo l t)
-unfolding above greatestUpTo
-up-to-least l b t e = record { few = omega (arith, same); least = λ u lu. omega (arith, less u lu) }
-  where
-    -- no element lies between the two
-    same : above l (greatestUpTo l t) ≤ above l t
-    same = count-mono (length l) _ _ (λ k lk p. ⊎-elim
-        (λ (z : t < getD l k 0). is-lt _ _ z)
-        (λ (z : getD l k 0 ≤ t). absurd (omega (arith, lt-yes _ _ p, le-up-to l t k lk z)))
-        (lt-or-le t (getD l k 0)))
+up-to-le : (l : List ℕ) (t : ℕ) → greatestUpTo l t ≤ t
+unfolding greatestUpTo
+up-to-le l t = greatest-le (length l) _ t (λ k lk. only-le _ _ _ (λ p. le-yes _ _ p))
 
+-- so that is above 0 where some element is
+pub greatest-positive : (l : List ℕ) (r n b : ℕ) → above l r ≡ 0 → n ≡ above l 0 → b < n → 1 ≤ r
+greatest-positive l r n b z e h = ⊎-elim (λ p. p) (λ (p : r ≤ 0). absurd (omega (arith, above-falls l r 0 p))) (lt-or-le 0 r)
+
+-- no element lies between the two
+above-up-to : (l : List ℕ) (t : ℕ) → above l (greatestUpTo l t) ≡ above l t
+unfolding above
+above-up-to l t = le-antisymm
+    (count-mono (length l) _ _ (λ k lk p. ⊎-elim
+    (λ (z : t < getD l k 0). is-lt _ _ z)
+    (λ (z : getD l k 0 ≤ t). absurd (omega (arith, lt-yes _ _ p, le-up-to l t k lk z)))
+    (lt-or-le t (getD l k 0))))
+    (above-falls l (greatestUpTo l t) t (up-to-le l t))
+
+-- where b elements are above t, the greatest up to t is the least with b above it
+pub up-to-selected : (l : List ℕ) (b t a : ℕ) → a ≡ above l t → a ≡ b → Selected l b (greatestUpTo l t) a
+unfolding above greatestUpTo
+up-to-selected l b t a e q = record { least-few = record { few = omega (arith, above-up-to l t); least = λ u lu. omega (arith, less u lu) }; counted = e ∙ sym (above-up-to l t) }
+  where
     less : (u : ℕ) → u < greatestUpTo l t → above l t < above l u
     less u lu = ⊎-elim
         (λ (k, lk, p).

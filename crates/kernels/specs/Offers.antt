@@ -42,14 +42,16 @@ gainAt totals least t e i = gainFor (wonBy (getD totals i 0) t i e) (getD totals
 unfoldable pub taken : (gains : List ℕ) (gain new : ℕ → ℕ) (old : List ℕ) → ℕ → ℕ
 taken gains gain new old i = pick (getD gains i 0 <? gain i) (new i) (getD old i 0)
 
--- what an offer asks of its lists
-pub record Offerable (totals least stations charges gains : List ℕ) : Type 0 where
+-- what an offer asks of its lists, the critical total t and the bound e
+pub record Offerable (totals least : List ℕ) (t e : ℕ) (stations charges gains : List ℕ) : Type 0 where
   pub few : length totals ≤ maxGuests
   pub least-long : length least ≡ length totals
   pub stations-long : length stations ≡ length totals
   pub charges-long : length charges ≡ length totals
   pub gains-long : length gains ≡ length totals
   pub totals-low : (k : ℕ) → k < length totals → getD totals k 0 ≤ maxPrice * maxAmount
+  pub covers : (k : ℕ) → k < length totals → 0 < getD totals k 0 → getD least k 0 ≤ getD totals k 0
+  pub no-tie : t ≡ 0 → e ≡ 0
 
 -- the lists after one station's offers: critical total t, bound e, station number s
 pub record Offered (totals least : List ℕ) (t e s : ℕ) (stations₀ charges₀ gains₀ stations charges gains : List ℕ) : Type 0 where

@@ -2,13 +2,14 @@
 // the crate `clearing` calls it, which checks its tables first. Slices hold plain numbers; inside, prices and money have their types.
 use auction::Mills;
 use auction::UnitPrice;
+ghost use mathlib.Core.Bool.{true};
 ghost use mathlib.Core.Path.{_≡_};
 ghost use Prim.Native.Nat.{ℕ, _+_, _*_, _-_, _<_, _≤_, max};
 ghost use lib.ListN.{length, getD};
 ghost use Rattle.auction.specs.Counting.{_<?_, _≤?_, _=?_, only, sum, any, list};
 ghost use Rattle.auction.specs.Limits.{maxGuests, maxStations, maxPrice, maxAmount};
 ghost use Rattle.auction.specs.Faults.{outside};
-ghost use Rattle.kernels.specs.Scans.{above, greatestUpTo, LeastFew, TieBound, kwhAt, under, eligible, medianAsk};
+ghost use Rattle.kernels.specs.Scans.{above, greatestUpTo, Selected, TieBound, kwhAt, under, eligible, medianAsk};
 ghost use Rattle.kernels.specs.Offers.{pick, totalFor, totalAt, leastAt, wonBy, gainFor, Offerable, Offered, PaidOut};
 
 // Whether an element is outside low to high. No way out before the end: several elements a step.
@@ -126,7 +127,7 @@ pub fn gather(bids: &[u32], amounts: &[u16], m: usize, j: usize, cut: UnitPrice,
     }
 }
 
-pub fn count_above(xs: &[u32], t: u32) -> u32
+fn count_above(xs: &[u32], t: u32) -> u32
     requires { ⌜ length (now xs) ≤ maxGuests ⌝ }
     ensures { λ r. ⌜ r ≡ above (now (xs .entry)) t ⌝ }
 {
@@ -166,22 +167,41 @@ fn largest_at_most(xs: &[u32], t: u32) -> u32
     r
 }
 
+// A station's critical total, and how many totals are above it.
+pub struct Critical {
+    pub total: u32,
+    pub above: u32,
+}
+
 // The critical total (document 01: the floor) of a station with b bays: the total at place b + 1 in falling order, 0 where there are
-// no more than b. By bisection on the value, with a count at each step.
-pub fn critical_total(totals: &[u32], b: u32) -> u32
+// no more than b. By bisection on the value, with a count at each step; the first probe is below the greatest, where many may be tied.
+pub fn critical_total(totals: &[u32], b: u32) -> Critical
     requires { ⌜ length (now totals) ≤ maxGuests ⌝ }
-    ensures { λ r. ⌜ LeastFew (now (totals .entry)) b r ⌝ }
+    ensures { λ r. ⌜ Selected (now (totals .entry)) b (r .total) (r .above) ⌝ }
 {
-    if count_above(totals, 0) <= b {
-        return 0;
+    let candidates = count_above(totals, 0);
+    if candidates <= b {
+        return Critical {
+            total: 0,
+            above: candidates,
+        };
     }
     let mut low: u32 = 0;
     let mut high = largest_at_most(totals, 4_294_967_295);
+    if b < count_above(totals, high - 1) {
+        return Critical {
+            total: high,
+            above: 0,
+        };
+    }
     while low < high {
         let mid = low + (high - low) / 2;
         let c = count_above(totals, mid);
         if c == b {
-            return largest_at_most(totals, mid);
+            return Critical {
+                total: largest_at_most(totals, mid),
+                above: c,
+            };
         }
         if c < b {
             high = mid;
@@ -189,7 +209,10 @@ pub fn critical_total(totals: &[u32], b: u32) -> u32
             low = mid + 1;
         }
     }
-    high
+    Critical {
+        total: high,
+        above: count_above(totals, high),
+    }
 }
 
 // s and one more where x is t.
@@ -237,7 +260,7 @@ fn wins(total: u32, critical: u32, k: u32, bound: u32) -> bool
 
 // One more than total less charge where a place is won, so that 0 is no place.
 fn gain_for(won: bool, total: u32, charge: u32) -> u32
-    requires { ⌜ total ≤ maxPrice * maxAmount ⌝ }
+    requires { ⌜ (total ≤ maxPrice * maxAmount) × (won ≡ true → charge ≤ total) ⌝ }
     ensures { λ r. ⌜ r ≡ gainFor won total charge ⌝ }
 {
     if won {
@@ -270,7 +293,7 @@ pub fn offer(
     charges: &mut [u32],
     gains: &mut [u32],
 )
-    requires { ⌜ Offerable (now totals) (now least) (now stations) (now charges) (now gains) ⌝ }
+    requires { ⌜ Offerable (now totals) (now least) critical bound (now stations) (now charges) (now gains) ⌝ }
     ensures { λ _. ⌜ Offered (now (totals .entry)) (now (least .entry)) critical bound station (now (stations .entry)) (now (charges .entry)) (now (gains .entry)) (now (stations .exit)) (now (charges .exit)) (now (gains .exit)) ⌝ }
 {
     let mut i = 0;
@@ -354,7 +377,8 @@ pub fn sell(stations: &[u16], amounts: &[u16], cut: UnitPrice, sold: &mut [u32],
 fn excess(charge: u32, least: u32) -> Mills
     ensures { λ r. ⌜ r .0 ≡ charge - least ⌝ }
 {
-    Mills::wide(charge).less(Mills::wide(least))
+    let other = Mills::wide(least);
+    Mills::wide(charge).larger(other).less(other)
 }
 
 // What the charges exceed the least charges by, in all: whoever is charged nothing adds nothing.
