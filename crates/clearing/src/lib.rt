@@ -125,6 +125,7 @@ fn station(
             least,
             critical.total,
             bound,
+            b,
             (j + 1) as u16,
             stations,
             charges,

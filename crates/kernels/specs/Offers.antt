@@ -3,7 +3,7 @@ use Prim.Native.Nat.{ℕ, _+_, _*_, _-_, _<_, _≤_, max}
 use mathlib.Core.Bool.{Bool, true, false}
 use mathlib.Core.List.{List}
 use mathlib.Core.Path.{_≡_}
-use lib.ListN.{getD, length}
+use lib.ListN.{getD, length, set}
 use Rattle.auction.specs.Counting.{_<?_, _≤?_, _=?_, _and_, _or_, only, list}
 use Rattle.auction.specs.Limits.{maxGuests, maxPrice, maxAmount}
 
@@ -58,6 +58,12 @@ pub record Offered (totals least : List ℕ) (t e s : ℕ) (stations₀ charges�
   pub stations-are : stations ≡ list (length totals) (taken gains₀ (gainAt totals least t e) (λ _. s) stations₀)
   pub charges-are : charges ≡ list (length totals) (taken gains₀ (gainAt totals least t e) (chargeAt least t) charges₀)
   pub gains-are : gains ≡ list (length totals) (taken gains₀ (gainAt totals least t e) (gainAt totals least t e) gains₀)
+
+-- the lists after the offer to guest i alone: gain g, charge c, station number s
+pub record OfferedTo (i g c s : ℕ) (stations₀ charges₀ gains₀ stations charges gains : List ℕ) : Type 0 where
+  pub stations-are : stations ≡ set stations₀ i (pick (getD gains₀ i 0 <? g) s (getD stations₀ i 0))
+  pub charges-are : charges ≡ set charges₀ i (pick (getD gains₀ i 0 <? g) c (getD charges₀ i 0))
+  pub gains-are : gains ≡ set gains₀ i (pick (getD gains₀ i 0 <? g) g (getD gains₀ i 0))
 
 -- what each of m stations sold, by the kWh of each station number, and what it is paid
 pub record PaidOut (kwh : ℕ → ℕ) (cut m : ℕ) (sold paid : List ℕ) : Type 0 where

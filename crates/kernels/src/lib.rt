@@ -10,7 +10,7 @@ ghost use Rattle.auction.specs.Counting.{_<?_, _≤?_, _=?_, only, sum, any, li
 ghost use Rattle.auction.specs.Limits.{maxGuests, maxStations, maxPrice, maxAmount};
 ghost use Rattle.auction.specs.Faults.{outside};
 ghost use Rattle.kernels.specs.Scans.{above, greatestUpTo, Selected, TieBound, kwhAt, under, eligible, medianAsk};
-ghost use Rattle.kernels.specs.Offers.{pick, totalFor, totalAt, leastAt, wonBy, gainFor, Offerable, Offered, PaidOut};
+ghost use Rattle.kernels.specs.Offers.{pick, totalFor, totalAt, leastAt, wonBy, gainFor, Offerable, Offered, OfferedTo, PaidOut};
 
 // Whether an element is outside low to high. No way out before the end: several elements a step.
 pub fn any_outside32(xs: &[u32], low: u32, high: u32) -> bool
@@ -282,8 +282,8 @@ fn pick32(old: u32, new: u32, a: u32, b: u32) -> u32
     if old < new { a } else { b }
 }
 
-// One station's offers to every guest: where an offer gains more than the best so far, it is taken.
-pub fn offer(
+// One station's offers to every guest: where an offer gains more than the best so far, it is taken. Several guests a step.
+fn offer_all(
     totals: &[u32],
     least: &[u32],
     critical: u32,
@@ -306,6 +306,105 @@ pub fn offer(
         charges[i] = pick32(old, gain, charge, charges[i]);
         gains[i] = pick32(old, gain, gain, old);
         i += 1;
+    }
+}
+
+// The offer to guest i.
+fn offer_one(
+    i: usize,
+    total: u32,
+    least: u32,
+    critical: u32,
+    bound: u32,
+    station: u16,
+    stations: &mut [u16],
+    charges: &mut [u32],
+    gains: &mut [u32],
+)
+    requires { ⌜ (i < maxGuests) × (total ≤ maxPrice * maxAmount) ⌝ }
+    requires { ⌜ ((0 < total → least ≤ total) × (critical ≡ 0 → bound ≡ 0)) ⌝ }
+    requires { ⌜ (i < length (now stations)) × (i < length (now charges)) × (i < length (now gains)) ⌝ }
+    ensures { λ _. ⌜ OfferedTo i (gainFor (wonBy total critical i bound) total (max least critical)) (max least critical) station (now (stations .entry)) (now (charges .entry)) (now (gains .entry)) (now (stations .exit)) (now (charges .exit)) (now (gains .exit)) ⌝ }
+{
+    if wins(total, critical, i as u32, bound) {
+        let charge = charge_for(least, critical);
+        let gain = gain_for(true, total, charge);
+        if gains[i] < gain {
+            stations[i] = station;
+            charges[i] = charge;
+            gains[i] = gain;
+        }
+    }
+}
+
+// The same where few can win: whoever does not is passed at once.
+fn offer_few(
+    totals: &[u32],
+    least: &[u32],
+    critical: u32,
+    bound: u32,
+    station: u16,
+    stations: &mut [u16],
+    charges: &mut [u32],
+    gains: &mut [u32],
+)
+    requires { ⌜ Offerable (now totals) (now least) critical bound (now stations) (now charges) (now gains) ⌝ }
+    ensures { λ _. ⌜ Offered (now (totals .entry)) (now (least .entry)) critical bound station (now (stations .entry)) (now (charges .entry)) (now (gains .entry)) (now (stations .exit)) (now (charges .exit)) (now (gains .exit)) ⌝ }
+{
+    let mut i = 0;
+    while i < totals.len() {
+        offer_one(
+            i,
+            totals[i],
+            least[i],
+            critical,
+            bound,
+            station,
+            stations,
+            charges,
+            gains,
+        );
+        i += 1;
+    }
+}
+
+// One station's offers, with b bays.
+pub fn offer(
+    totals: &[u32],
+    least: &[u32],
+    critical: u32,
+    bound: u32,
+    b: u32,
+    station: u16,
+    stations: &mut [u16],
+    charges: &mut [u32],
+    gains: &mut [u32],
+)
+    requires { ⌜ Offerable (now totals) (now least) critical bound (now stations) (now charges) (now gains) ⌝ }
+    ensures { λ _. ⌜ Offered (now (totals .entry)) (now (least .entry)) critical bound station (now (stations .entry)) (now (charges .entry)) (now (gains .entry)) (now (stations .exit)) (now (charges .exit)) (now (gains .exit)) ⌝ }
+{
+    if b <= 16 {
+        offer_few(
+            totals,
+            least,
+            critical,
+            bound,
+            station,
+            stations,
+            charges,
+            gains,
+        );
+    } else {
+        offer_all(
+            totals,
+            least,
+            critical,
+            bound,
+            station,
+            stations,
+            charges,
+            gains,
+        );
     }
 }
 
