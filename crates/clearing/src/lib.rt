@@ -116,16 +116,15 @@ fn station(
 {
     let ask = asks[j];
     if UnitPrice(ask).below(cut) {
-        kernels::gather(bids, amounts, asks.len(), j, cut, totals);
+        let top = kernels::gather(bids, amounts, asks.len(), j, cut, totals);
         let b = bays[j] as u32;
-        let critical = kernels::critical_total(totals, b);
+        let critical = kernels::critical_total(totals, top, b);
         let bound = kernels::tie_bound(totals, critical.total, critical.above, b);
         kernels::offer(
             totals,
             least,
             critical.total,
             bound,
-            b,
             (j + 1) as u16,
             stations,
             charges,

@@ -9,14 +9,14 @@ use native.Mathlib.Numerals.{add-one}
 use native.Mathlib.Omega.{arith}
 use lib.Dec.{ltb, eqb}
 use lib.ListN.{getD, length, set, length-set, replicate, length-replicate, getD-replicate}
-use lib.Seq.{getD-set-same, getD-set-other, set-getD}
+use lib.Seq.{getD-set-same, getD-set-other}
 use Rattle.auction.specs.Counting.{_<?_, _≤?_, _=?_, _and_, _or_, only, sum, count, list}
 use Rattle.auction.specs.Limits.{maxPrice, maxAmount}
 use Rattle.auction.specs.Market.{median}
 use Rattle.auction.proofs.Tests.{first, second, or-cases, only-yes, only-no, lt-yes, eq-yes, is-lt, not-lt, is-le, is-eq, not-eq, lt-or-le, eq-or-ne}
 use Rattle.auction.proofs.Counting.{getD-list, list-cong}
 use Rattle.kernels.specs.Scans.{kwhAt, under, eligible, medianAsk}
-use Rattle.kernels.specs.Offers.{pick, totalFor, wonBy, gainFor, chargeAt, gainAt, taken, Offerable, Offered, OfferedTo, PaidOut}
+use Rattle.kernels.specs.Offers.{pick, totalFor, wonBy, gainFor, chargeAt, gainAt, taken, Offerable, Offered, PaidOut}
 use Rattle.kernels.proofs.Loops.{not-le, or-is, sum-more, sum-end, Filled, filled-none, filled-more, filled-list, is-list}
 
 -- ---- the cut
@@ -102,41 +102,6 @@ offers-more {i = i} o h l ew ec eg e1 e2 e3 = record {
   charges-are = filled-more (h .charges-are) (omega (arith, o .charges-long)) (cc (h .gains-are .left i (le-refl i), h .charges-are .left i (le-refl i)));
   gains-are = filled-more (h .gains-are) (omega (arith, o .gains-long)) (cc (h .gains-are .left i (le-refl i)));
 }
-
--- an offer that is not taken, and one that is
-left : {i c s : ℕ} (g : ℕ) {stations charges gains : List ℕ} → g ≤ getD gains i 0 → OfferedTo i g c s stations charges gains stations charges gains
-unfolding pick
-left {i} g h = record {
-  stations-are = rw (not-lt _ _ h) (sym (set-getD _ i 0));
-  charges-are = rw (not-lt _ _ h) (sym (set-getD _ i 0));
-  gains-are = rw (not-lt _ _ h) (sym (set-getD _ i 0));
-}
-
-given : {i c s : ℕ} (g : ℕ) {stations charges gains : List ℕ} → getD gains i 0 < g → OfferedTo i g c s stations charges gains (set stations i s) (set charges i c) (set gains i g)
-unfolding pick
-given {i} g h = record { stations-are = rw (is-lt _ _ h) refl; charges-are = rw (is-lt _ _ h) refl; gains-are = rw (is-lt _ _ h) refl }
-
--- w, c and g are what the code found
-module _ (i total least t e s : ℕ) {w : Bool} (ew : w ≡ wonBy total t i e) where
-  pub offer-lost : {stations charges gains : List ℕ} → w ≡ false → OfferedTo i (gainFor (wonBy total t i e) total (max least t)) (max least t) s stations charges gains stations charges gains
-  offer-lost q = left _ (omega (arith, gain-lost (wonBy total t i e) total (max least t) (sym ew ∙ q)))
-
-  module _ (q : w ≡ true) {c g : ℕ} (ec : c ≡ max least t) (eg : g ≡ gainFor true total c) where
-    gain-is : gainFor (wonBy total t i e) total (max least t) ≡ g
-    gain-is = ap₂ (λ w c. gainFor w total c) (sym ew ∙ q) (sym ec) ∙ sym eg
-
-    pub offer-kept : {stations charges gains : List ℕ} → g ≤ getD gains i 0 → OfferedTo i (gainFor (wonBy total t i e) total (max least t)) (max least t) s stations charges gains stations charges gains
-    offer-kept h = left _ (omega (arith, gain-is))
-
-    pub offer-taken : {stations charges gains : List ℕ} → getD gains i 0 < g → OfferedTo i (gainFor (wonBy total t i e) total (max least t)) (max least t) s stations charges gains (set stations i s) (set charges i c) (set gains i g)
-    offer-taken h = rw (gain-is, ← ec) (given g h)
-
-pub offers-one : {totals least : List ℕ} {t e s : ℕ} {stations₀ charges₀ gains₀ : List ℕ} {i : ℕ} {stations charges gains stations′ charges′ gains′ : List ℕ}
-    → Offerable totals least t e stations₀ charges₀ gains₀
-    → Offering totals least t e s stations₀ charges₀ gains₀ i stations charges gains → i < length totals
-    → OfferedTo i (gainFor (wonBy (getD totals i 0) t i e) (getD totals i 0) (max (getD least i 0) t)) (max (getD least i 0) t) s stations charges gains stations′ charges′ gains′
-    → Offering totals least t e s stations₀ charges₀ gains₀ (i + 1) stations′ charges′ gains′
-offers-one o h l f = rw (f .stations-are, f .charges-are, f .gains-are) (offers-more o h l refl refl refl refl refl refl)
 
 pub offers-end : {totals least : List ℕ} {t e s : ℕ} {stations₀ charges₀ gains₀ : List ℕ} {i : ℕ} {stations charges gains : List ℕ}
     → Offerable totals least t e stations₀ charges₀ gains₀ → Offering totals least t e s stations₀ charges₀ gains₀ i stations charges gains → length totals ≤ i

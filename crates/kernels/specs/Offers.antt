@@ -3,8 +3,8 @@ use Prim.Native.Nat.{ℕ, _+_, _*_, _-_, _<_, _≤_, max}
 use mathlib.Core.Bool.{Bool, true, false}
 use mathlib.Core.List.{List}
 use mathlib.Core.Path.{_≡_}
-use lib.ListN.{getD, length, set}
-use Rattle.auction.specs.Counting.{_<?_, _≤?_, _=?_, _and_, _or_, only, list}
+use lib.ListN.{getD, length}
+use Rattle.auction.specs.Counting.{_<?_, _≤?_, _=?_, _and_, _or_, only, greatest, list}
 use Rattle.auction.specs.Limits.{maxGuests, maxPrice, maxAmount}
 
 unfoldable pub pick : Bool → ℕ → ℕ → ℕ
@@ -18,6 +18,11 @@ totalFor bid amount cut = only (cut ≤? bid) (bid * amount)
 -- guest i's total at station j of m
 abbrev pub totalAt : (bids amounts : List ℕ) (m j cut i : ℕ) → ℕ
 totalAt bids amounts m j cut i = totalFor (getD bids (i * m + j) 0) (getD amounts i 0) cut
+
+-- n totals f in a list, and the greatest
+pub record Gathered (n : ℕ) (f : ℕ → ℕ) (totals : List ℕ) (top : ℕ) : Type 0 where
+  pub totals-are : totals ≡ list n f
+  pub greatest-is : top ≡ greatest n f
 
 -- cut times guest i's amount, the least charge
 abbrev pub leastAt : (amounts : List ℕ) (cut i : ℕ) → ℕ
@@ -58,12 +63,6 @@ pub record Offered (totals least : List ℕ) (t e s : ℕ) (stations₀ charges�
   pub stations-are : stations ≡ list (length totals) (taken gains₀ (gainAt totals least t e) (λ _. s) stations₀)
   pub charges-are : charges ≡ list (length totals) (taken gains₀ (gainAt totals least t e) (chargeAt least t) charges₀)
   pub gains-are : gains ≡ list (length totals) (taken gains₀ (gainAt totals least t e) (gainAt totals least t e) gains₀)
-
--- the lists after the offer to guest i alone: gain g, charge c, station number s
-pub record OfferedTo (i g c s : ℕ) (stations₀ charges₀ gains₀ stations charges gains : List ℕ) : Type 0 where
-  pub stations-are : stations ≡ set stations₀ i (pick (getD gains₀ i 0 <? g) s (getD stations₀ i 0))
-  pub charges-are : charges ≡ set charges₀ i (pick (getD gains₀ i 0 <? g) c (getD charges₀ i 0))
-  pub gains-are : gains ≡ set gains₀ i (pick (getD gains₀ i 0 <? g) g (getD gains₀ i 0))
 
 -- what each of m stations sold, by the kWh of each station number, and what it is paid
 pub record PaidOut (kwh : ℕ → ℕ) (cut m : ℕ) (sold paid : List ℕ) : Type 0 where

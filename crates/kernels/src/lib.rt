@@ -10,7 +10,7 @@ ghost use Rattle.auction.specs.Counting.{_<?_, _≤?_, _=?_, only, sum, any, li
 ghost use Rattle.auction.specs.Limits.{maxGuests, maxStations, maxPrice, maxAmount};
 ghost use Rattle.auction.specs.Faults.{outside};
 ghost use Rattle.kernels.specs.Scans.{above, greatestUpTo, Selected, TieBound, kwhAt, under, eligible, medianAsk};
-ghost use Rattle.kernels.specs.Offers.{pick, totalFor, totalAt, leastAt, wonBy, gainFor, Offerable, Offered, OfferedTo, PaidOut};
+ghost use Rattle.kernels.specs.Offers.{pick, totalFor, totalAt, Gathered, leastAt, wonBy, gainFor, Offerable, Offered, PaidOut};
 
 // Whether an element is outside low to high. No way out before the end: several elements a step.
 pub fn any_outside32(xs: &[u32], low: u32, high: u32) -> bool
@@ -111,20 +111,31 @@ fn total_for(bid: UnitPrice, amount: u16, cut: UnitPrice) -> u32
     }
 }
 
-// Every guest's total at station j of m.
-pub fn gather(bids: &[u32], amounts: &[u16], m: usize, j: usize, cut: UnitPrice, totals: &mut [u32])
+// Every guest's total at station j of m, and the greatest.
+pub fn gather(
+    bids: &[u32],
+    amounts: &[u16],
+    m: usize,
+    j: usize,
+    cut: UnitPrice,
+    totals: &mut [u32],
+) -> u32
     requires { ⌜ length (now bids) ≡ length (now amounts) * m ⌝ }
     requires { ⌜ (j < m) × (length (now totals) ≡ length (now amounts)) ⌝ }
     requires { ⌜ ((k : ℕ) → k < length (now bids) → getD (now bids) k 0 ≤ maxPrice) ⌝ }
     requires { ⌜ ((k : ℕ) → k < length (now amounts) → getD (now amounts) k 0 ≤ maxAmount) ⌝ }
-    ensures { λ _. ⌜ now (totals .exit) ≡ list (length (now (amounts .entry))) (totalAt (now (bids .entry)) (now (amounts .entry)) m j (cut .0)) ⌝ }
+    ensures { λ r. ⌜ Gathered (length (now (amounts .entry))) (totalAt (now (bids .entry)) (now (amounts .entry)) m j (cut .0)) (now (totals .exit)) r ⌝ }
 {
+    let mut top: u32 = 0;
     let mut i = 0;
     while i < amounts.len() {
         let bid = bids[i * m + j];
-        totals[i] = total_for(UnitPrice(bid), amounts[i], cut);
+        let total = total_for(UnitPrice(bid), amounts[i], cut);
+        totals[i] = total;
+        top = larger(top, total);
         i += 1;
     }
+    top
 }
 
 fn count_above(xs: &[u32], t: u32) -> u32
@@ -174,9 +185,10 @@ pub struct Critical {
 }
 
 // The critical total (document 01: the floor) of a station with b bays: the total at place b + 1 in falling order, 0 where there are
-// no more than b. By bisection on the value, with a count at each step; the first probe is below the greatest, where many may be tied.
-pub fn critical_total(totals: &[u32], b: u32) -> Critical
-    requires { ⌜ length (now totals) ≤ maxGuests ⌝ }
+// no more than b; no total is above top. By bisection on the value, with a count at each step. The first probe is just below the greatest:
+// many may be tied there, and a single bay needs no other.
+pub fn critical_total(totals: &[u32], top: u32, b: u32) -> Critical
+    requires { ⌜ (length (now totals) ≤ maxGuests) × (above (now totals) top ≡ 0) ⌝ }
     ensures { λ r. ⌜ Selected (now (totals .entry)) b (r .total) (r .above) ⌝ }
 {
     let candidates = count_above(totals, 0);
@@ -186,14 +198,22 @@ pub fn critical_total(totals: &[u32], b: u32) -> Critical
             above: candidates,
         };
     }
-    let mut low: u32 = 0;
-    let mut high = largest_at_most(totals, 4_294_967_295);
-    if b < count_above(totals, high - 1) {
+    let last = top - 1;
+    let near = count_above(totals, last);
+    if b < near {
         return Critical {
-            total: high,
+            total: top,
             above: 0,
         };
     }
+    if near == b {
+        return Critical {
+            total: largest_at_most(totals, last),
+            above: near,
+        };
+    }
+    let mut low: u32 = 0;
+    let mut high = top;
     while low < high {
         let mid = low + (high - low) / 2;
         let c = count_above(totals, mid);
@@ -282,8 +302,8 @@ fn pick32(old: u32, new: u32, a: u32, b: u32) -> u32
     if old < new { a } else { b }
 }
 
-// One station's offers to every guest: where an offer gains more than the best so far, it is taken. Several guests a step.
-fn offer_all(
+// One station's offers to every guest: where an offer gains more than the best so far, it is taken.
+pub fn offer(
     totals: &[u32],
     least: &[u32],
     critical: u32,
@@ -306,105 +326,6 @@ fn offer_all(
         charges[i] = pick32(old, gain, charge, charges[i]);
         gains[i] = pick32(old, gain, gain, old);
         i += 1;
-    }
-}
-
-// The offer to guest i.
-fn offer_one(
-    i: usize,
-    total: u32,
-    least: u32,
-    critical: u32,
-    bound: u32,
-    station: u16,
-    stations: &mut [u16],
-    charges: &mut [u32],
-    gains: &mut [u32],
-)
-    requires { ⌜ (i < maxGuests) × (total ≤ maxPrice * maxAmount) ⌝ }
-    requires { ⌜ ((0 < total → least ≤ total) × (critical ≡ 0 → bound ≡ 0)) ⌝ }
-    requires { ⌜ (i < length (now stations)) × (i < length (now charges)) × (i < length (now gains)) ⌝ }
-    ensures { λ _. ⌜ OfferedTo i (gainFor (wonBy total critical i bound) total (max least critical)) (max least critical) station (now (stations .entry)) (now (charges .entry)) (now (gains .entry)) (now (stations .exit)) (now (charges .exit)) (now (gains .exit)) ⌝ }
-{
-    if wins(total, critical, i as u32, bound) {
-        let charge = charge_for(least, critical);
-        let gain = gain_for(true, total, charge);
-        if gains[i] < gain {
-            stations[i] = station;
-            charges[i] = charge;
-            gains[i] = gain;
-        }
-    }
-}
-
-// The same where few can win: whoever does not is passed at once.
-fn offer_few(
-    totals: &[u32],
-    least: &[u32],
-    critical: u32,
-    bound: u32,
-    station: u16,
-    stations: &mut [u16],
-    charges: &mut [u32],
-    gains: &mut [u32],
-)
-    requires { ⌜ Offerable (now totals) (now least) critical bound (now stations) (now charges) (now gains) ⌝ }
-    ensures { λ _. ⌜ Offered (now (totals .entry)) (now (least .entry)) critical bound station (now (stations .entry)) (now (charges .entry)) (now (gains .entry)) (now (stations .exit)) (now (charges .exit)) (now (gains .exit)) ⌝ }
-{
-    let mut i = 0;
-    while i < totals.len() {
-        offer_one(
-            i,
-            totals[i],
-            least[i],
-            critical,
-            bound,
-            station,
-            stations,
-            charges,
-            gains,
-        );
-        i += 1;
-    }
-}
-
-// One station's offers, with b bays.
-pub fn offer(
-    totals: &[u32],
-    least: &[u32],
-    critical: u32,
-    bound: u32,
-    b: u32,
-    station: u16,
-    stations: &mut [u16],
-    charges: &mut [u32],
-    gains: &mut [u32],
-)
-    requires { ⌜ Offerable (now totals) (now least) critical bound (now stations) (now charges) (now gains) ⌝ }
-    ensures { λ _. ⌜ Offered (now (totals .entry)) (now (least .entry)) critical bound station (now (stations .entry)) (now (charges .entry)) (now (gains .entry)) (now (stations .exit)) (now (charges .exit)) (now (gains .exit)) ⌝ }
-{
-    if b <= 16 {
-        offer_few(
-            totals,
-            least,
-            critical,
-            bound,
-            station,
-            stations,
-            charges,
-            gains,
-        );
-    } else {
-        offer_all(
-            totals,
-            least,
-            critical,
-            bound,
-            station,
-            stations,
-            charges,
-            gains,
-        );
     }
 }
 

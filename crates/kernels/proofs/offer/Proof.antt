@@ -4,8 +4,8 @@ use native.Mathlib.Omega.{arith}
 use lib.ListN.{length}
 use borrow.Author.Needs.{needs}
 use Rattle.kernels.proofs.Offers.{won-pays, Offering, offers-none, offers-more, offers-end}
-use Rattle.kernels.proofs.offer_all.Statement.{statement}
-use Rattle.kernels.proofs.offer_all.Tie as tie
+use Rattle.kernels.proofs.offer.Statement.{statement}
+use Rattle.kernels.proofs.offer.Tie as tie
 
 abbrev Inv-loop : tie.InvT-loop
 Inv-loop totals least critical bound station stations₀ charges₀ gains₀ i₀ stations charges gains i =
@@ -114,8 +114,8 @@ same-length-3 c = search needs
 returns : tie.Need-returns Inv-loop μ-loop
 returns c = offers-end (c .before .before .before .before .before .before .before .pre) (c .before .loop .inv .1) (c .loop-test .left)
 
-pub offer-all-spec : {M : Type 1} → statement M
-offer-all-spec =
+pub offer-spec : {M : Type 1} → statement M
+offer-spec =
     tie.close
     (tie.spec
     Inv-loop
