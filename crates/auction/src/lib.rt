@@ -1,6 +1,6 @@
 // The numbers, limits and refusals of the bay market. The market and its mechanism are in specs/.
 ghost use mathlib.Core.Path.{_≡_};
-ghost use Prim.Native.Nat.{_+_, _*_, _-_, _<_, _^_, max};
+ghost use Prim.Native.Nat.{_+_, _*_, _-_, _<_, _≤_, _^_, max};
 ghost use lib.Dec.{ltb, eqb};
 ghost use Rattle.auction.specs.Limits.{limits as limitsOf};
 ghost use Rattle.auction.specs.Refusals.{number as numberOf};
@@ -87,15 +87,11 @@ impl Mills {
         Mills(self.0 + other.0)
     }
 
-    // Nothing where the other is larger.
     pub fn less(self, other: Mills) -> Mills
+        requires { ⌜ other .0 ≤ self .0 ⌝ }
         ensures { λ r. ⌜ r .0 ≡ self .0 - other .0 ⌝ }
     {
-        if self.0 < other.0 {
-            Mills(0)
-        } else {
-            Mills(self.0 - other.0)
-        }
+        Mills(self.0 - other.0)
     }
 
     pub fn larger(self, other: Mills) -> Mills

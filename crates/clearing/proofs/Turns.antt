@@ -4,25 +4,28 @@ use mathlib.Core.Bool.{Bool, true, false}
 use mathlib.Core.List.{List}
 use mathlib.Core.Logic.{⊎-elim}
 use mathlib.Core.Path.{_≡_, refl, sym, ap, ap₂, _∙_}
-use native.Mathlib.Nat.{le-antisymm, mul-le-mul}
+use native.Mathlib.Nat.{le-antisymm, mul-le-mul, mul-le-mul-right}
 use native.Mathlib.Numerals.{add-one}
 use native.Mathlib.Omega.{arith}
+use borrow.Author.Tests.{ltb-true, ltb-false}
+use lib.Dec.{ltb}
 use lib.ListN.{getD, length, take, replicate, length-replicate, getD-replicate}
 use lib.Seq.{length-take-le, getD-take}
 use Rattle.auction.specs.Counting.{_<?_, _≤?_, _and_, only, list}
 use Rattle.auction.specs.Limits.{maxGuests, maxPrice, maxAmount}
-use Rattle.auction.specs.Market.{Tables, bidAt, Market, marketBy, byNumber, market, cut, opens, Screened, screen, Queue, queue, provisional, critical}
+use Rattle.auction.specs.Market.{Tables, bidAt, Market, marketBy, median, byNumber, market, cut, opens, Screened, screen, Queue, queue, provisional, critical}
 use Rattle.auction.specs.Mechanism.{at, charge, better, best, surplus, truthful, charged}
 use Rattle.auction.specs.Outcome.{seen, decided, outcome, settle}
-use Rattle.auction.proofs.Tests.{decide, and-no, first, le-yes, le-no, is-lt, not-lt, lt-or-le}
+use Rattle.auction.specs.Readings.{WithinLimits}
+use Rattle.auction.proofs.Tests.{decide, and-no, first, lt-yes, le-yes, le-no, is-lt, not-lt, only-yes, only-no, lt-or-le}
 use Rattle.auction.proofs.Counting.{length-list, getD-list, list-cong}
 use Rattle.auction.proofs.Queues.{provisional-candidate}
-use Rattle.kernels.specs.Scans.{above, LeastFew, TieBound}
-use Rattle.kernels.specs.Offers.{pick, totalFor, totalAt, wonBy, gainFor, chargeAt, gainAt, taken, Offerable, Offered}
+use Rattle.kernels.specs.Scans.{above, LeastFew, Selected, TieBound}
+use Rattle.kernels.specs.Offers.{pick, totalFor, totalAt, leastAt, wonBy, gainFor, chargeAt, gainAt, taken, Offerable, Offered}
 use Rattle.kernels.proofs.Loops.{is-list, in-table}
 use Rattle.kernels.proofs.Selection.{above-most}
 use Rattle.kernels.proofs.Offers.{total-yes, total-no, product}
-use Rattle.clearing.specs.Stages.{AtCut, stationBy, chargeBy, gainBy, After, Assigned}
+use Rattle.clearing.specs.Stages.{regular, AtCut, stationBy, chargeBy, gainBy, After, Assigned}
 use Rattle.clearing.proofs.Winners.{Shows, critical-is, provisional-is}
 
 -- ---- lists
@@ -179,10 +182,16 @@ total-low bid amount cut p q = ⊎-elim
     (λ (a : cut ≤ bid). omega (arith, total-yes bid amount cut a, product bid amount p q))
     (lt-or-le bid cut)
 
-pub offerable : (t : Tables) (c j : ℕ) {least totals stations charges gains : List ℕ} → AtCut t c least → j < length (t .asks)
-    → totals ≡ list (length (t .amounts)) (totalAt (t .bids) (t .amounts) (length (t .asks)) j c)
-    → After (seen t) (length (t .amounts)) j stations charges gains → Offerable totals least stations charges gains
-offerable t c j {totals = totals} A lj g a =
+total-covers : (bid amount cut : ℕ) → 0 < totalFor bid amount cut → cut * amount ≤ totalFor bid amount cut
+total-covers bid amount cut p = ⊎-elim
+    (λ (a : bid < cut). absurd (omega (arith, total-no bid amount cut a)))
+    (λ (a : cut ≤ bid). omega (arith, total-yes bid amount cut a, mul-le-mul-right amount a))
+    (lt-or-le bid cut)
+
+pub offerable : (t : Tables) (c j : ℕ) {f a b e : ℕ} {least totals stations charges gains : List ℕ} → AtCut t c least → j < length (t .asks)
+    → totals ≡ list (length (t .amounts)) (totalAt (t .bids) (t .amounts) (length (t .asks)) j c) → TieBound totals f a b e
+    → After (seen t) (length (t .amounts)) j stations charges gains → Offerable totals least f e stations charges gains
+offerable t c j {totals = totals} A lj g tied a =
     let n : length totals ≡ length (t .amounts) = long _ _ g in
     record {
       few = omega (arith, A .within .guests-most);
@@ -194,10 +203,13 @@ offerable t c j {totals = totals} A lj g a =
           rw (element _ _ g k l) (total-low _ _ c
           (A .within .bid-most _ (omega (arith, A .within .bids-length, in-table (length (t .amounts)) (length (t .asks)) k j l lj)))
           (A .within .amount-most k l));
+      covers = λ k lk p. let l : k < length (t .amounts) = omega arith in
+          rw (element _ _ g k l, element _ _ (A .least-are) k l) (total-covers _ _ c (rw (element _ _ g k l) at p));
+      no-tie = tied .none;
     }
 
-pub few-above : (l : List ℕ) (t a n : ℕ) → a ≡ above l t → length l ≤ n → a ≤ n
-few-above l t a n e h = omega (arith, above-most l t)
+pub few-above : {l : List ℕ} {b t a : ℕ} (n : ℕ) → Selected l b t a → length l ≤ n → a ≤ n
+few-above {l} {t = t} n s h = omega (arith, s .counted, above-most l t)
 
 pub after-end : {S : Screened} {n j m : ℕ} {stations charges gains : List ℕ} → After S n j stations charges gains → j ≤ m → m ≤ j → After S n m stations charges gains
 after-end h a b = rw (le-antisymm b a) h

@@ -116,15 +116,14 @@ fn station(
 {
     let ask = asks[j];
     if UnitPrice(ask).below(cut) {
-        kernels::gather(bids, amounts, asks.len(), j, cut, totals);
+        let top = kernels::gather(bids, amounts, asks.len(), j, cut, totals);
         let b = bays[j] as u32;
-        let critical = kernels::critical_total(totals, b);
-        let above = kernels::count_above(totals, critical);
-        let bound = kernels::tie_bound(totals, critical, above, b);
+        let critical = kernels::critical_total(totals, top, b);
+        let bound = kernels::tie_bound(totals, critical.total, critical.above, b);
         kernels::offer(
             totals,
             least,
-            critical,
+            critical.total,
             bound,
             (j + 1) as u16,
             stations,

@@ -3,18 +3,19 @@ use Prim.Native.Nat.{ℕ, _+_, _*_, _-_, _/_, _≤_, _<_, max}
 use mathlib.Core.Bool.{Bool, true, false, _&&_, _||_}
 use mathlib.Core.List.{List}
 use mathlib.Core.Logic.{⊎-elim}
-use mathlib.Core.Path.{_≡_, refl, sym, ap, _∙_}
+use mathlib.Core.Path.{_≡_, refl, sym, ap, ap₂, _∙_}
 use native.Mathlib.Nat.{le-refl, mul-le-mul}
+use native.Mathlib.Numerals.{add-one}
 use native.Mathlib.Omega.{arith}
 use lib.Dec.{ltb, eqb}
 use lib.ListN.{getD, length, set, length-set, replicate, length-replicate, getD-replicate}
 use lib.Seq.{getD-set-same, getD-set-other}
-use Rattle.auction.specs.Counting.{_<?_, _=?_, _and_, _or_, only, sum, list}
+use Rattle.auction.specs.Counting.{_<?_, _≤?_, _=?_, _and_, _or_, only, sum, count, list}
 use Rattle.auction.specs.Limits.{maxPrice, maxAmount}
 use Rattle.auction.specs.Market.{median}
-use Rattle.auction.proofs.Tests.{only-yes, only-no, is-lt, not-lt, is-le, is-eq, not-eq, eq-or-ne}
+use Rattle.auction.proofs.Tests.{first, second, or-cases, only-yes, only-no, lt-yes, eq-yes, is-lt, not-lt, is-le, is-eq, not-eq, lt-or-le, eq-or-ne}
 use Rattle.auction.proofs.Counting.{getD-list, list-cong}
-use Rattle.kernels.specs.Scans.{kwhAt, under, eligible}
+use Rattle.kernels.specs.Scans.{kwhAt, under, eligible, medianAsk}
 use Rattle.kernels.specs.Offers.{pick, totalFor, wonBy, gainFor, chargeAt, gainAt, taken, Offerable, Offered, PaidOut}
 use Rattle.kernels.proofs.Loops.{not-le, or-is, sum-more, sum-end, Filled, filled-none, filled-more, filled-list, is-list}
 
@@ -58,6 +59,17 @@ pub won-is : (x t k e : ℕ) {u v : ℕ} {a b : Bool} → a ≡ ltb v u → b �
 unfolding wonBy _<?_ _=?_
 won-is x t k e p q r s = rw (p, q, r, s) (or-is _ _ ∙ ap (λ b. ltb t x or b) (and-is _ _))
 
+-- whoever wins can pay: its charge is at most its total
+pub won-pays : (x t k e least : ℕ) → (0 < x → least ≤ x) → (t ≡ 0 → e ≡ 0) → wonBy x t k e ≡ true → max least t ≤ x
+unfolding wonBy
+won-pays x t k e least covers none w = ⊎-elim
+    (λ p. let l : t < x = lt-yes _ _ p in omega (arith, covers (omega arith)))
+    (λ p.
+    let q : x ≡ t = eq-yes _ _ (first _ _ p) in
+    let l : k < e = lt-yes _ _ (second _ _ p) in
+    ⊎-elim (λ (z : 0 < x). omega (arith, covers z)) (λ (z : x ≤ 0). absurd (omega (arith, none (omega arith)))) (lt-or-le 0 x))
+    (or-cases _ _ w)
+
 pub gain-won : (w : Bool) (total charge x : ℕ) → w ≡ true → x ≡ total - charge → x + 1 ≡ gainFor w total charge
 unfolding gainFor
 gain-won w total charge x e h = ap (λ x. x + 1) h ∙ sym (only-yes w _ e)
@@ -77,7 +89,7 @@ offers-none = record { stations-are = filled-none; charges-are = filled-none; ga
 
 -- one guest more: w, c and g are what the code found, and v1, v2 and v3 what it stored
 pub offers-more : {totals least : List ℕ} {t e s : ℕ} {stations₀ charges₀ gains₀ : List ℕ} {i : ℕ} {stations charges gains : List ℕ} {w : Bool} {c g v1 v2 v3 : ℕ}
-    → Offerable totals least stations₀ charges₀ gains₀
+    → Offerable totals least t e stations₀ charges₀ gains₀
     → Offering totals least t e s stations₀ charges₀ gains₀ i stations charges gains → i < length totals
     → w ≡ wonBy (getD totals i 0) t i e → c ≡ max (getD least i 0) t → g ≡ gainFor w (getD totals i 0) c
     → v1 ≡ pick (getD gains i 0 <? g) s (getD stations i 0)
@@ -92,7 +104,7 @@ offers-more {i = i} o h l ew ec eg e1 e2 e3 = record {
 }
 
 pub offers-end : {totals least : List ℕ} {t e s : ℕ} {stations₀ charges₀ gains₀ : List ℕ} {i : ℕ} {stations charges gains : List ℕ}
-    → Offerable totals least stations₀ charges₀ gains₀ → Offering totals least t e s stations₀ charges₀ gains₀ i stations charges gains → length totals ≤ i
+    → Offerable totals least t e stations₀ charges₀ gains₀ → Offering totals least t e s stations₀ charges₀ gains₀ i stations charges gains → length totals ≤ i
     → Offered totals least t e s stations₀ charges₀ gains₀ stations charges gains
 offers-end o h b = record {
   stations-are = filled-list _ (h .stations-are) (o .stations-long) b;

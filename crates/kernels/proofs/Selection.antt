@@ -1,17 +1,17 @@
 -- Laws of counts above a bar: the least number with few above it, and the bound on those at it.
-use Prim.Native.Nat.{ℕ, zero, suc, _+_, _≤_, _<_}
-use mathlib.Core.Bool.{Bool}
+use Prim.Native.Nat.{ℕ, zero, suc, _+_, _/_, _≤_, _<_, max}
+use mathlib.Core.Bool.{Bool, true, false}
 use mathlib.Core.List.{List}
-use mathlib.Core.Logic.{_⊎_, ⊎-elim}
-use mathlib.Core.Path.{_≡_, refl, sym, _∙_}
-use native.Mathlib.Nat.{le-refl, le-trans, eq-or-lt-of-le, le-of-suc-le-suc}
+use mathlib.Core.Logic.{_⊎_, inl, inr, ⊎-elim}
+use mathlib.Core.Path.{_≡_, refl, sym, ap, _∙_}
+use native.Mathlib.Nat.{le-refl, le-trans, le-antisymm, eq-or-lt-of-le, le-of-suc-le-suc}
 use native.Mathlib.Omega.{arith}
 use lib.ListN.{getD, length}
 use borrow.Author.Count.{below-more}
-use Rattle.auction.specs.Counting.{_<?_, _≤?_, _=?_, _and_, only, sum, greatest, count}
-use Rattle.auction.proofs.Tests.{first, second, both, clash, only-le, le-only, is-lt, not-lt, is-le, lt-yes, le-yes, lt-or-le}
-use Rattle.auction.proofs.Counting.{count-mono, count-strict, count-none, count-step, count-start, le-greatest, greatest-le, search-below}
-use Rattle.kernels.specs.Scans.{above, ties, greatestUpTo, LeastFew, TieBound}
+use Rattle.auction.specs.Counting.{_<?_, _≤?_, _=?_, _and_, only, sum, greatest, count, list}
+use Rattle.auction.proofs.Tests.{decide, first, second, both, clash, only-le, le-only, only-yes, only-no, is-lt, not-lt, is-le, lt-yes, le-yes, le-no, lt-or-le}
+use Rattle.auction.proofs.Counting.{count-mono, count-strict, count-none, count-step, count-start, length-list, getD-list, le-greatest, greatest-le, search-below}
+use Rattle.kernels.specs.Scans.{above, ties, greatestUpTo, LeastFew, Selected, TieBound}
 
 pub above-falls : (l : List ℕ) (s t : ℕ) → s ≤ t → above l t ≤ above l s
 unfolding above
@@ -37,22 +37,35 @@ unfolding greatestUpTo
 le-up-to l t k lk h = le-trans (le-only _ _ (is-le _ _ h)) (le-greatest (length l) (λ k. only (getD l k 0 ≤? t) (getD l k 0)) k lk)
 
 -- nothing is above the greatest of all
-pub above-greatest : (l : List ℕ) (t : ℕ) → ((k : ℕ) → k < length l → getD l k 0 ≤ t) → above l (greatestUpTo l t) ≡ 0
+pub above-greatest : (n : ℕ) (f : ℕ → ℕ) (l : List ℕ) → l ≡ list n f → above l (greatest n f) ≡ 0
 unfolding above
-above-greatest l t h = count-none (length l) _ (λ k lk p. omega (arith, lt-yes _ _ p, le-up-to l t k lk (h k lk)))
+above-greatest n f l e = count-none (length l) _ (λ k lk p.
+    let ln : k < n = omega (arith, ap length e ∙ length-list n f) in
+    omega (arith, lt-yes _ _ p, le-greatest n f k ln, ap (λ l. getD l k 0) e ∙ getD-list n f k ln))
+
+-- where nothing is above r, and something above 0, r is above 0
+pub greatest-positive : (l : List ℕ) (r n b : ℕ) → above l r ≡ 0 → n ≡ above l 0 → b < n → 1 ≤ r
+greatest-positive l r n b z e h = ⊎-elim (λ p. p) (λ (p : r ≤ 0). absurd (omega (arith, above-falls l r 0 p))) (lt-or-le 0 r)
+
+up-to-le : (l : List ℕ) (t : ℕ) → greatestUpTo l t ≤ t
+unfolding greatestUpTo
+up-to-le l t = greatest-le (length l) _ t (λ k lk. only-le _ _ _ (λ p. le-yes _ _ p))
+
+-- no element lies between the two
+above-up-to : (l : List ℕ) (t : ℕ) → above l (greatestUpTo l t) ≡ above l t
+unfolding above
+above-up-to l t = le-antisymm
+    (count-mono (length l) _ _ (λ k lk p. ⊎-elim
+    (λ (z : t < getD l k 0). is-lt _ _ z)
+    (λ (z : getD l k 0 ≤ t). absurd (omega (arith, lt-yes _ _ p, le-up-to l t k lk z)))
+    (lt-or-le t (getD l k 0))))
+    (above-falls l (greatestUpTo l t) t (up-to-le l t))
 
 -- where b elements are above t, the greatest up to t is the least with b above it
-pub up-to-least : (l : List ℕ) (b t : ℕ) → above l t ≡ b → LeastFew l b (greatestUpTo l t)
+pub up-to-selected : (l : List ℕ) (b t a : ℕ) → a ≡ above l t → a ≡ b → Selected l b (greatestUpTo l t) a
 unfolding above greatestUpTo
-up-to-least l b t e = record { few = omega (arith, same); least = λ u lu. omega (arith, less u lu) }
+up-to-selected l b t a e q = record { least-few = record { few = omega (arith, above-up-to l t); least = λ u lu. omega (arith, less u lu) }; counted = e ∙ sym (above-up-to l t) }
   where
-    -- no element lies between the two
-    same : above l (greatestUpTo l t) ≤ above l t
-    same = count-mono (length l) _ _ (λ k lk p. ⊎-elim
-        (λ (z : t < getD l k 0). is-lt _ _ z)
-        (λ (z : getD l k 0 ≤ t). absurd (omega (arith, lt-yes _ _ p, le-up-to l t k lk z)))
-        (lt-or-le t (getD l k 0)))
-
     less : (u : ℕ) → u < greatestUpTo l t → above l t < above l u
     less u lu = ⊎-elim
         (λ (k, lk, p).

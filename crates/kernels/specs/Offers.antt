@@ -4,7 +4,7 @@ use mathlib.Core.Bool.{Bool, true, false}
 use mathlib.Core.List.{List}
 use mathlib.Core.Path.{_≡_}
 use lib.ListN.{getD, length}
-use Rattle.auction.specs.Counting.{_<?_, _≤?_, _=?_, _and_, _or_, only, list}
+use Rattle.auction.specs.Counting.{_<?_, _≤?_, _=?_, _and_, _or_, only, greatest, list}
 use Rattle.auction.specs.Limits.{maxGuests, maxPrice, maxAmount}
 
 unfoldable pub pick : Bool → ℕ → ℕ → ℕ
@@ -18,6 +18,11 @@ totalFor bid amount cut = only (cut ≤? bid) (bid * amount)
 -- guest i's total at station j of m
 abbrev pub totalAt : (bids amounts : List ℕ) (m j cut i : ℕ) → ℕ
 totalAt bids amounts m j cut i = totalFor (getD bids (i * m + j) 0) (getD amounts i 0) cut
+
+-- n totals f in a list, and the greatest
+pub record Gathered (n : ℕ) (f : ℕ → ℕ) (totals : List ℕ) (top : ℕ) : Type 0 where
+  pub totals-are : totals ≡ list n f
+  pub greatest-is : top ≡ greatest n f
 
 -- cut times guest i's amount, the least charge
 abbrev pub leastAt : (amounts : List ℕ) (cut i : ℕ) → ℕ
@@ -42,14 +47,16 @@ gainAt totals least t e i = gainFor (wonBy (getD totals i 0) t i e) (getD totals
 unfoldable pub taken : (gains : List ℕ) (gain new : ℕ → ℕ) (old : List ℕ) → ℕ → ℕ
 taken gains gain new old i = pick (getD gains i 0 <? gain i) (new i) (getD old i 0)
 
--- what an offer asks of its lists
-pub record Offerable (totals least stations charges gains : List ℕ) : Type 0 where
+-- what an offer asks of its lists, the critical total t and the bound e
+pub record Offerable (totals least : List ℕ) (t e : ℕ) (stations charges gains : List ℕ) : Type 0 where
   pub few : length totals ≤ maxGuests
   pub least-long : length least ≡ length totals
   pub stations-long : length stations ≡ length totals
   pub charges-long : length charges ≡ length totals
   pub gains-long : length gains ≡ length totals
   pub totals-low : (k : ℕ) → k < length totals → getD totals k 0 ≤ maxPrice * maxAmount
+  pub covers : (k : ℕ) → k < length totals → 0 < getD totals k 0 → getD least k 0 ≤ getD totals k 0
+  pub no-tie : t ≡ 0 → e ≡ 0
 
 -- the lists after one station's offers: critical total t, bound e, station number s
 pub record Offered (totals least : List ℕ) (t e s : ℕ) (stations₀ charges₀ gains₀ stations charges gains : List ℕ) : Type 0 where

@@ -22,6 +22,11 @@ pub record LeastFew (l : List ℕ) (b r : ℕ) : Type 0 where
   pub few : above l r ≤ b
   pub least : (u : ℕ) → u < r → b < above l u
 
+-- t is that number, with a elements above it
+pub record Selected (l : List ℕ) (b t a : ℕ) : Type 0 where
+  pub least-few : LeastFew l b t
+  pub counted : a ≡ above l t
+
 -- of those at t, the ones below e are those with fewer than b before them: a above t, and the ones at t of a lower index; at 0 there is none
 pub record TieBound (l : List ℕ) (t a b e : ℕ) : Type 0 where
   pub none : t ≡ 0 → e ≡ 0

@@ -2,14 +2,15 @@
 // the crate `clearing` calls it, which checks its tables first. Slices hold plain numbers; inside, prices and money have their types.
 use auction::Mills;
 use auction::UnitPrice;
+ghost use mathlib.Core.Bool.{true};
 ghost use mathlib.Core.Path.{_≡_};
 ghost use Prim.Native.Nat.{ℕ, _+_, _*_, _-_, _<_, _≤_, max};
 ghost use lib.ListN.{length, getD};
 ghost use Rattle.auction.specs.Counting.{_<?_, _≤?_, _=?_, only, sum, any, list};
 ghost use Rattle.auction.specs.Limits.{maxGuests, maxStations, maxPrice, maxAmount};
 ghost use Rattle.auction.specs.Faults.{outside};
-ghost use Rattle.kernels.specs.Scans.{above, greatestUpTo, LeastFew, TieBound, kwhAt, under, eligible, medianAsk};
-ghost use Rattle.kernels.specs.Offers.{pick, totalFor, totalAt, leastAt, wonBy, gainFor, Offerable, Offered, PaidOut};
+ghost use Rattle.kernels.specs.Scans.{above, greatestUpTo, Selected, TieBound, kwhAt, under, eligible, medianAsk};
+ghost use Rattle.kernels.specs.Offers.{pick, totalFor, totalAt, Gathered, leastAt, wonBy, gainFor, Offerable, Offered, PaidOut};
 
 // Whether an element is outside low to high. No way out before the end: several elements a step.
 pub fn any_outside32(xs: &[u32], low: u32, high: u32) -> bool
@@ -110,23 +111,34 @@ fn total_for(bid: UnitPrice, amount: u16, cut: UnitPrice) -> u32
     }
 }
 
-// Every guest's total at station j of m.
-pub fn gather(bids: &[u32], amounts: &[u16], m: usize, j: usize, cut: UnitPrice, totals: &mut [u32])
+// Every guest's total at station j of m, and the greatest.
+pub fn gather(
+    bids: &[u32],
+    amounts: &[u16],
+    m: usize,
+    j: usize,
+    cut: UnitPrice,
+    totals: &mut [u32],
+) -> u32
     requires { ⌜ length (now bids) ≡ length (now amounts) * m ⌝ }
     requires { ⌜ (j < m) × (length (now totals) ≡ length (now amounts)) ⌝ }
     requires { ⌜ ((k : ℕ) → k < length (now bids) → getD (now bids) k 0 ≤ maxPrice) ⌝ }
     requires { ⌜ ((k : ℕ) → k < length (now amounts) → getD (now amounts) k 0 ≤ maxAmount) ⌝ }
-    ensures { λ _. ⌜ now (totals .exit) ≡ list (length (now (amounts .entry))) (totalAt (now (bids .entry)) (now (amounts .entry)) m j (cut .0)) ⌝ }
+    ensures { λ r. ⌜ Gathered (length (now (amounts .entry))) (totalAt (now (bids .entry)) (now (amounts .entry)) m j (cut .0)) (now (totals .exit)) r ⌝ }
 {
+    let mut top: u32 = 0;
     let mut i = 0;
     while i < amounts.len() {
         let bid = bids[i * m + j];
-        totals[i] = total_for(UnitPrice(bid), amounts[i], cut);
+        let total = total_for(UnitPrice(bid), amounts[i], cut);
+        totals[i] = total;
+        top = larger(top, total);
         i += 1;
     }
+    top
 }
 
-pub fn count_above(xs: &[u32], t: u32) -> u32
+fn count_above(xs: &[u32], t: u32) -> u32
     requires { ⌜ length (now xs) ≤ maxGuests ⌝ }
     ensures { λ r. ⌜ r ≡ above (now (xs .entry)) t ⌝ }
 {
@@ -166,22 +178,50 @@ fn largest_at_most(xs: &[u32], t: u32) -> u32
     r
 }
 
+// A station's critical total, and how many totals are above it.
+pub struct Critical {
+    pub total: u32,
+    pub above: u32,
+}
+
 // The critical total (document 01: the floor) of a station with b bays: the total at place b + 1 in falling order, 0 where there are
-// no more than b. By bisection on the value, with a count at each step.
-pub fn critical_total(totals: &[u32], b: u32) -> u32
-    requires { ⌜ length (now totals) ≤ maxGuests ⌝ }
-    ensures { λ r. ⌜ LeastFew (now (totals .entry)) b r ⌝ }
+// no more than b; no total is above top. By bisection on the value, with a count at each step. The first probe is just below the greatest:
+// many may be tied there, and a single bay needs no other.
+pub fn critical_total(totals: &[u32], top: u32, b: u32) -> Critical
+    requires { ⌜ (length (now totals) ≤ maxGuests) × (above (now totals) top ≡ 0) ⌝ }
+    ensures { λ r. ⌜ Selected (now (totals .entry)) b (r .total) (r .above) ⌝ }
 {
-    if count_above(totals, 0) <= b {
-        return 0;
+    let candidates = count_above(totals, 0);
+    if candidates <= b {
+        return Critical {
+            total: 0,
+            above: candidates,
+        };
+    }
+    let last = top - 1;
+    let near = count_above(totals, last);
+    if b < near {
+        return Critical {
+            total: top,
+            above: 0,
+        };
+    }
+    if near == b {
+        return Critical {
+            total: largest_at_most(totals, last),
+            above: near,
+        };
     }
     let mut low: u32 = 0;
-    let mut high = largest_at_most(totals, 4_294_967_295);
+    let mut high = top;
     while low < high {
         let mid = low + (high - low) / 2;
         let c = count_above(totals, mid);
         if c == b {
-            return largest_at_most(totals, mid);
+            return Critical {
+                total: largest_at_most(totals, mid),
+                above: c,
+            };
         }
         if c < b {
             high = mid;
@@ -189,7 +229,10 @@ pub fn critical_total(totals: &[u32], b: u32) -> u32
             low = mid + 1;
         }
     }
-    high
+    Critical {
+        total: high,
+        above: count_above(totals, high),
+    }
 }
 
 // s and one more where x is t.
@@ -237,7 +280,7 @@ fn wins(total: u32, critical: u32, k: u32, bound: u32) -> bool
 
 // One more than total less charge where a place is won, so that 0 is no place.
 fn gain_for(won: bool, total: u32, charge: u32) -> u32
-    requires { ⌜ total ≤ maxPrice * maxAmount ⌝ }
+    requires { ⌜ (total ≤ maxPrice * maxAmount) × (won ≡ true → charge ≤ total) ⌝ }
     ensures { λ r. ⌜ r ≡ gainFor won total charge ⌝ }
 {
     if won {
@@ -270,7 +313,7 @@ pub fn offer(
     charges: &mut [u32],
     gains: &mut [u32],
 )
-    requires { ⌜ Offerable (now totals) (now least) (now stations) (now charges) (now gains) ⌝ }
+    requires { ⌜ Offerable (now totals) (now least) critical bound (now stations) (now charges) (now gains) ⌝ }
     ensures { λ _. ⌜ Offered (now (totals .entry)) (now (least .entry)) critical bound station (now (stations .entry)) (now (charges .entry)) (now (gains .entry)) (now (stations .exit)) (now (charges .exit)) (now (gains .exit)) ⌝ }
 {
     let mut i = 0;
@@ -354,7 +397,8 @@ pub fn sell(stations: &[u16], amounts: &[u16], cut: UnitPrice, sold: &mut [u32],
 fn excess(charge: u32, least: u32) -> Mills
     ensures { λ r. ⌜ r .0 ≡ charge - least ⌝ }
 {
-    Mills::wide(charge).less(Mills::wide(least))
+    let other = Mills::wide(least);
+    Mills::wide(charge).larger(other).less(other)
 }
 
 // What the charges exceed the least charges by, in all: whoever is charged nothing adds nothing.

@@ -2,6 +2,7 @@ use mathlib.Core.Path.{refl, sym, _∙_}
 use native.Mathlib.Omega.{arith}
 use borrow.Author.Needs.{needs}
 use borrow.Author.Tests.{ltb-true, ltb-false}
+use Rattle.kernels.proofs.Selection.{above-greatest}
 use Rattle.clearing.specs.Stages.{regular}
 use Rattle.clearing.proofs.Turns.{long, few-above, offerable, shut, turned}
 use Rattle.clearing.proofs.station.Statement.{statement}
@@ -29,24 +30,23 @@ cast-b : tie.Need-cast-b
 cast-b c = omega (arith, c .shared-slice-known7 .given (c .before .before .before .before .before .before .before .before .before .before .before .before .before .before .before .before .before .args .j))
 
 critical-total-requires : tie.Need-critical-total-requires
-critical-total-requires c κs = omega (arith, long _ _ (c .before .before .before .before .gather .ensures), c .before .before .before .before .before .before .before .before .before .before .before .before .before .before .before .before .before .before .pre .0 .within .guests-most)
-
-count-above-requires : tie.Need-count-above-requires
-count-above-requires c κs = omega (arith, long _ _ (c .before .before .before .before .before .before .gather .ensures), c .before .before .before .before .before .before .before .before .before .before .before .before .before .before .before .before .before .before .before .before .pre .0 .within .guests-most)
+critical-total-requires c κs =
+    let g = c .before .before .before .before .gather .ensures in
+    (omega (arith, long _ _ (g .totals-are), c .before .before .before .before .before .before .before .before .before .before .before .before .before .before .before .before .before .before .pre .0 .within .guests-most), rw (g .greatest-is) (above-greatest _ _ _ (g .totals-are)))
 
 tie-bound-requires : tie.Need-tie-bound-requires
 tie-bound-requires c κs =
-    let l = long _ _ (c .before .before .before .before .before .before .before .before .gather .ensures) in
-    (omega (arith, l, c .before .before .before .before .before .before .before .before .before .before .before .before .before .before .before .before .before .before .before .before .before .before .pre .0 .within .guests-most), few-above _ _ _ 200 (c .before .count-above .ensures) (omega (arith, l, c .before .before .before .before .before .before .before .before .before .before .before .before .before .before .before .before .before .before .before .before .before .before .pre .0 .within .guests-most)))
+    let n = long _ _ (c .before .before .before .before .before .before .gather .ensures .totals-are) in
+    (omega (arith, n, c .before .before .before .before .before .before .before .before .before .before .before .before .before .before .before .before .before .before .before .before .pre .0 .within .guests-most), few-above _ (c .before .critical-total .ensures) (omega (arith, n, c .before .before .before .before .before .before .before .before .before .before .before .before .before .before .before .before .before .before .before .before .pre .0 .within .guests-most)))
 
 add-offer : tie.Need-add-offer
-add-offer c = omega (arith, c .before .before .before .before .before .before .before .before .before .before .before .before .before .before .before .before .before .before .before .before .before .before .before .before .pre .1 .0 .0, c .before .before .before .before .before .before .before .before .before .before .before .before .before .before .before .before .before .before .before .before .before .before .before .before .pre .0 .within .stations-most)
+add-offer c = omega (arith, c .before .before .before .before .before .before .before .before .before .before .before .before .before .before .before .before .before .before .before .before .before .before .pre .1 .0 .0, c .before .before .before .before .before .before .before .before .before .before .before .before .before .before .before .before .before .before .before .before .before .before .pre .0 .within .stations-most)
 
 cast-offer : tie.Need-cast-offer
-cast-offer c = omega (arith, c .before .before .before .before .before .before .before .before .before .before .before .before .before .before .before .before .before .before .before .before .before .before .before .before .pre .1 .0 .0, c .before .before .before .before .before .before .before .before .before .before .before .before .before .before .before .before .before .before .before .before .before .before .before .before .pre .0 .within .stations-most)
+cast-offer c = omega (arith, c .before .before .before .before .before .before .before .before .before .before .before .before .before .before .before .before .before .before .before .before .before .before .pre .1 .0 .0, c .before .before .before .before .before .before .before .before .before .before .before .before .before .before .before .before .before .before .before .before .before .before .pre .0 .within .stations-most)
 
 offer-requires : tie.Need-offer-requires
-offer-requires c κs = offerable (regular _ _ _ _) _ _ (c .before .before .before .before .before .before .before .before .before .before .before .before .before .before .before .before .before .before .before .before .before .before .before .before .before .before .before .pre .0) (c .before .before .before .before .before .before .before .before .before .before .before .before .before .before .before .before .before .before .before .before .before .before .before .before .before .before .before .pre .1 .0 .0) (c .before .before .before .before .before .before .before .before .before .before .before .before .before .gather .ensures) (c .before .before .before .before .before .before .before .before .before .before .before .before .before .before .before .before .before .before .before .before .before .before .before .before .before .before .before .pre .1 .1)
+offer-requires c κs = offerable (regular _ _ _ _) _ _ (c .before .before .before .before .before .before .before .before .before .before .before .before .before .before .before .before .before .before .before .before .before .before .before .before .before .pre .0) (c .before .before .before .before .before .before .before .before .before .before .before .before .before .before .before .before .before .before .before .before .before .before .before .before .before .pre .1 .0 .0) (c .before .before .before .before .before .before .before .before .before .before .before .gather .ensures .totals-are) (c .before .before .before .before .tie-bound .ensures) (c .before .before .before .before .before .before .before .before .before .before .before .before .before .before .before .before .before .before .before .before .before .before .before .before .before .pre .1 .1)
 
 same-length : tie.Need-same-length
 same-length c = search needs
@@ -61,8 +61,10 @@ same-length-4 : tie.Need-same-length-4
 same-length-4 c = search needs
 
 returns : tie.Need-returns
-returns c = turned (regular _ _ _ _) _ _ (c .before .before .before .before .before .before .before .before .before .before .before .before .before .before .before .before .before .before .before .before .before .before .before .before .before .before .before .before .before .before .before .before .before .before .pre .0) _ (c .before .before .before .before .before .before .before .before .before .before .before .before .before .before .before .before .before .before .before .before .before .before .before .before .before .before .before .before .before .before .before .before .before .before .pre .1 .0 .0) (ltb-true _ _ (sym (c .before .before .before .before .before .before .before .before .before .before .before .before .before .before .before .before .before .before .before .before .before .before .before .below .ensures) ∙ c .before .before .before .before .before .before .before .before .before .before .before .before .before .before .before .before .before .before .before .before .before .before .if1 .taken))
-    _ (c .before .before .before .before .before .before .before .before .before .before .before .before .before .before .before .before .before .before .before .before .gather .ensures) _ _ _ refl (c .before .before .before .before .before .before .before .before .before .before .before .before .before .before .before .critical-total .ensures) (rw (← c .before .before .before .before .before .before .before .before .before .before .before .before .before .count-above .ensures) (c .before .before .before .before .before .before .before .before .before .before .before .tie-bound .ensures)) _ refl (c .before .before .before .before .before .before .before .before .before .before .before .before .before .before .before .before .before .before .before .before .before .before .before .before .before .before .before .before .before .before .before .before .before .before .pre .1 .1) (c .before .before .before .before .before .before .offer .ensures)
+returns c =
+    let critical = c .before .before .before .before .before .before .before .before .before .before .before .before .before .critical-total .ensures in
+    turned (regular _ _ _ _) _ _ (c .before .before .before .before .before .before .before .before .before .before .before .before .before .before .before .before .before .before .before .before .before .before .before .before .before .before .before .before .before .before .before .before .pre .0) _ (c .before .before .before .before .before .before .before .before .before .before .before .before .before .before .before .before .before .before .before .before .before .before .before .before .before .before .before .before .before .before .before .before .pre .1 .0 .0) (ltb-true _ _ (sym (c .before .before .before .before .before .before .before .before .before .before .before .before .before .before .before .before .before .before .before .before .before .below .ensures) ∙ c .before .before .before .before .before .before .before .before .before .before .before .before .before .before .before .before .before .before .before .before .if1 .taken))
+    _ (c .before .before .before .before .before .before .before .before .before .before .before .before .before .before .before .before .before .before .gather .ensures .totals-are) _ _ _ refl (critical .least-few) (rw (← critical .counted) (c .before .before .before .before .before .before .before .before .before .before .before .tie-bound .ensures)) _ refl (c .before .before .before .before .before .before .before .before .before .before .before .before .before .before .before .before .before .before .before .before .before .before .before .before .before .before .before .before .before .before .before .before .pre .1 .1) (c .before .before .before .before .before .before .offer .ensures)
 
 returns-2 : tie.Need-returns-2
 returns-2 c = shut (regular _ _ _ _) _ _ (c .before .before .before .before .before .before .before .before .before .before .before .before .pre .0) (ltb-false _ _ (sym (c .before .below .ensures) ∙ c .if1 .left)) (c .before .before .before .before .before .before .before .before .before .before .before .before .pre .1 .1)
@@ -79,7 +81,6 @@ station-spec =
     shared-slice-read-b
     cast-b
     critical-total-requires
-    count-above-requires
     tie-bound-requires
     add-offer
     cast-offer

@@ -11,7 +11,7 @@ wide-requires-2 : tie.Need-wide-requires-2
 wide-requires-2 c κs = search needs
 
 less-requires : tie.Need-less-requires
-less-requires c κs = search needs
+less-requires c κs = omega (arith, c .before .before .before .pre .1 (c .before .before .if1 .taken), c .wide2 .ensures, c .before .wide .ensures)
 
 narrow-requires : tie.Need-narrow-requires
 narrow-requires c κs = search needs

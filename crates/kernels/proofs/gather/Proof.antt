@@ -1,18 +1,20 @@
 use Prim.Native.Nat.{_+_, _*_, _-_, _≤_, _<_}
+use mathlib.Core.Path.{_≡_, refl}
 use native.Mathlib.Omega.{arith}
 use lib.ListN.{length}
 use borrow.Author.Needs.{needs}
+use Rattle.auction.specs.Counting.{greatest}
 use Rattle.kernels.specs.Offers.{totalAt}
-use Rattle.kernels.proofs.Loops.{Filled, filled-none, filled-more, filled-list, in-table}
+use Rattle.kernels.proofs.Loops.{greatest-none, greatest-more, greatest-end, Filled, filled-none, filled-more, filled-list, in-table}
 use Rattle.kernels.proofs.gather.Statement.{statement}
 use Rattle.kernels.proofs.gather.Tie as tie
 
 abbrev Inv-loop : tie.InvT-loop
-Inv-loop bids amounts m j cut totals₀ i₀ totals i =
-    (i ≤ length amounts) × Filled (totalAt bids amounts m j (cut .0)) totals₀ totals i
+Inv-loop bids amounts m j cut totals₀ top₀ i₀ totals top i =
+    (i ≤ length amounts) × Filled (totalAt bids amounts m j (cut .0)) totals₀ totals i × (top ≡ greatest i (totalAt bids amounts m j (cut .0)))
 
 abbrev μ-loop : tie.MeasureT-loop
-μ-loop bids amounts m j cut totals₀ i₀ totals i = length amounts - i
+μ-loop bids amounts m j cut totals₀ top₀ i₀ totals top i = length amounts - i
 
 abbrev start : tie.In-loop Inv-loop μ-loop → tie.Start Inv-loop μ-loop
 start c = c .before .before .before .before .before
@@ -22,7 +24,7 @@ inside : (c : tie.In-loop Inv-loop μ-loop) → c .before .loop .i * start c .ar
 inside c = omega (arith, in-table (length (start c .args .amounts .now)) (start c .args .m) (c .before .loop .i) (start c .args .j) (c .loop-test .taken) (start c .pre .1 .0 .0))
 
 loop-holds : tie.Need-loop-holds Inv-loop μ-loop
-loop-holds c = (search needs, filled-none)
+loop-holds c = (search needs, filled-none, greatest-none _)
 
 mul-bid : tie.Need-mul-bid Inv-loop μ-loop
 mul-bid c = omega (arith, inside c)
@@ -53,6 +55,9 @@ mul-totals c = search needs
 slice-write-totals : tie.Need-slice-write-totals Inv-loop μ-loop
 slice-write-totals c = search needs
 
+larger-requires : tie.Need-larger-requires Inv-loop μ-loop
+larger-requires c κs = search needs
+
 add-i : tie.Need-add-i Inv-loop μ-loop
 add-i c = search needs
 
@@ -60,13 +65,16 @@ loop-less : tie.Need-loop-less Inv-loop μ-loop
 loop-less c = search needs
 
 loop-again : tie.Need-loop-again Inv-loop μ-loop
-loop-again c = (search needs, filled-more (c .before .before .before .before .loop .inv .1) (omega arith) (c .total-for .ensures))
+loop-again c = (search needs, filled-more (c .before .before .before .before .before .loop .inv .1) (omega arith) (c .before .total-for .ensures), greatest-more _ _ _ _ _ (c .before .before .before .before .before .loop .inv .2) (c .before .total-for .ensures) (c .larger .ensures))
 
 same-length : tie.Need-same-length Inv-loop μ-loop
 same-length c = c .before .loop .inv .1 .same
 
 returns : tie.Need-returns Inv-loop μ-loop
-returns c = filled-list _ (c .before .loop .inv .1) (c .before .before .before .before .before .pre .1 .0 .1) (c .loop-test .left)
+returns c = record {
+  totals-are = filled-list _ (c .before .loop .inv .1) (c .before .before .before .before .before .pre .1 .0 .1) (c .loop-test .left);
+  greatest-is = greatest-end _ _ _ _ (c .before .loop .inv .2) (c .before .loop .inv .0) (c .loop-test .left);
+}
 
 pub gather-spec : {M : Type 1} → statement M
 gather-spec =
@@ -84,6 +92,7 @@ gather-spec =
     total-for-requires
     mul-totals
     slice-write-totals
+    larger-requires
     add-i
     loop-less
     loop-again

@@ -1,8 +1,9 @@
 use Prim.Native.Nat.{_-_, _≤_}
+use mathlib.Core.Path.{sym, _∙_}
 use native.Mathlib.Omega.{arith}
 use lib.ListN.{length}
 use borrow.Author.Needs.{needs}
-use Rattle.kernels.proofs.Offers.{Offering, offers-none, offers-more, offers-end}
+use Rattle.kernels.proofs.Offers.{won-pays, Offering, offers-none, offers-more, offers-end}
 use Rattle.kernels.proofs.offer.Statement.{statement}
 use Rattle.kernels.proofs.offer.Tie as tie
 
@@ -38,7 +39,10 @@ wins-requires : tie.Need-wins-requires Inv-loop μ-loop
 wins-requires c κs = search needs
 
 gain-for-requires : tie.Need-gain-for-requires Inv-loop μ-loop
-gain-for-requires c κs = c .before .before .before .before .before .before .before .before .before .before .before .pre .totals-low _ (c .before .before .before .before .loop-test .taken)
+gain-for-requires c κs = (
+  c .before .before .before .before .before .before .before .before .before .before .before .pre .totals-low _ (c .before .before .before .before .loop-test .taken),
+  (λ w. rw (c .before .charge-for .ensures) (won-pays _ _ _ _ _ (c .before .before .before .before .before .before .before .before .before .before .before .pre .covers _ (c .before .before .before .before .loop-test .taken)) (c .before .before .before .before .before .before .before .before .before .before .before .pre .no-tie) (sym (c .wins .ensures) ∙ w))),
+)
 
 mul-old : tie.Need-mul-old Inv-loop μ-loop
 mul-old c = search needs
