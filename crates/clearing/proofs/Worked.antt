@@ -65,9 +65,9 @@ guest-worked = guest-truthful-calls honest overbid (calls .0) (calls .1) 1 (omeg
 alike-station : AlikeButForStation honest overask 0
 alike-station = record { same-count = refl; same-asks = same; same-bays = refl; same-amounts = refl; same-bids = refl }
   where
-    same : (k : ℕ) → (k ≡ 0 → ⊥) → getD (overask .asks) k 0 ≡ getD (honest .asks) k 0
-    same zero n = absurd (n refl)
-    same (suc k) n = refl
+    same : (k : ℕ) → k < 2 → (k ≡ 0 → ⊥) → getD (overask .asks) k 0 ≡ getD (honest .asks) k 0
+    same zero l n = absurd (n refl)
+    same (suc k) l n = refl
 
 pub station-worked : pos 0 ≤ℤ pos 12
 unfolding calls stationGainIn
