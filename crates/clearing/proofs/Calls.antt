@@ -1,24 +1,23 @@
 -- Demand 3's first two sentences, proved of calls: a call that was answered as cleared leaves the outcome.
-use Prim.Native.Nat.{ℕ, suc, _+_, _*_, _≤_, _<_}
+use Prim.Native.Nat.{ℕ, suc, _+_, _*_, _<_}
 use mathlib.Core.Path.{_≡_, refl, sym, ap, ap₂, _∙_}
 use native.Mathlib.Omega.{arith}
-use lib.IntN.{ℤ, subℕ}
+use lib.IntN.{subℕ}
 use lib.ListN.{getD, length}
-use lib.Signed.{_≤ℤ_}
-use Rattle.auction.specs.Counting.{_=?_, only, sum, count}
+use Rattle.auction.specs.Counting.{_=?_, only}
 use Rattle.auction.specs.Refusals.{Verdict, accepted, refused, firstFault}
 use Rattle.auction.specs.Market.{Tables, bidAt, marketBy, median, market, screen}
 use Rattle.auction.specs.Mechanism.{at, charged, obtained, served, sold, paid, margin}
-use Rattle.auction.specs.Outcome.{Results, settle, seen, decided, outcome}
+use Rattle.auction.specs.Outcome.{settle, seen, decided, outcome}
 use Rattle.auction.specs.Faults.{Accepted, clearingFaults}
 use Rattle.auction.specs.Gains.{guestGain, stationGain}
-use Rattle.auction.specs.Truth.{AlikeButForGuest, AlikeButForStation, ClearsWithin}
+use Rattle.auction.specs.Truth.{ClearsWithin}
 use Rattle.auction.proofs.Counting.{sum-cong, count-cong, getD-list}
 use Rattle.auction.proofs.Acceptance.{accepted-reads}
 use Rattle.auction.proofs.Truth.{guest-truthful, station-truthful, clearing-limits}
 use Rattle.clearing.specs.Clears.{answerTo, resultsOf}
 use Rattle.clearing.specs.Calls.{ClearedCall, guestGainIn, stationGainIn, GuestTruthfulCalls, StationTruthfulCalls, CallWithin, CallLimits}
-use Rattle.clearing.specs.declared.Clearing.the-variants.{Cleared, Refused}
+use Rattle.clearing.specs.declared.Clearing.the-variants.{Cleared}
 use Rattle.clearing.proofs.Answers.{accepts}
 
 module _ (t : Tables) (k : ClearedCall t) where

@@ -7,25 +7,22 @@ use mathlib.Core.Path.{_≡_, refl, sym, ap, ap₂, _∙_}
 use native.Mathlib.Nat.{le-antisymm, mul-le-mul, mul-le-mul-right}
 use native.Mathlib.Numerals.{add-one}
 use native.Mathlib.Omega.{arith}
-use borrow.Author.Tests.{ltb-true, ltb-false}
-use lib.Dec.{ltb}
 use lib.ListN.{getD, length, take, replicate, length-replicate, getD-replicate}
 use lib.Seq.{length-take-le, getD-take}
 use Rattle.auction.specs.Counting.{_<?_, _≤?_, _and_, only, list}
 use Rattle.auction.specs.Limits.{maxGuests, maxPrice, maxAmount}
-use Rattle.auction.specs.Market.{Tables, bidAt, Market, marketBy, median, byNumber, market, cut, opens, Screened, screen, Queue, queue, provisional, critical}
+use Rattle.auction.specs.Market.{Tables, bidAt, Market, marketBy, byNumber, market, cut, opens, Screened, screen, Queue, queue, provisional, critical}
 use Rattle.auction.specs.Mechanism.{at, charge, better, best, surplus, truthful, charged}
 use Rattle.auction.specs.Outcome.{seen, decided, outcome, settle}
-use Rattle.auction.specs.Readings.{WithinLimits}
-use Rattle.auction.proofs.Tests.{decide, and-no, first, lt-yes, le-yes, le-no, is-lt, not-lt, only-yes, only-no, lt-or-le}
+use Rattle.auction.proofs.Tests.{and-no, le-yes, le-no, is-lt, not-lt, lt-or-le}
 use Rattle.auction.proofs.Counting.{length-list, getD-list, list-cong}
 use Rattle.auction.proofs.Queues.{provisional-candidate}
 use Rattle.kernels.specs.Scans.{above, LeastFew, Selected, TieBound}
-use Rattle.kernels.specs.Offers.{pick, totalFor, totalAt, leastAt, wonBy, gainFor, chargeAt, gainAt, taken, Offerable, Offered}
+use Rattle.kernels.specs.Offers.{pick, totalFor, totalAt, wonBy, gainFor, chargeAt, gainAt, taken, Offerable, Offered}
 use Rattle.kernels.proofs.Loops.{is-list, in-table}
 use Rattle.kernels.proofs.Selection.{above-most}
 use Rattle.kernels.proofs.Offers.{total-yes, total-no, product}
-use Rattle.clearing.specs.Stages.{regular, AtCut, stationBy, chargeBy, gainBy, After, Assigned}
+use Rattle.clearing.specs.Stages.{AtCut, stationBy, chargeBy, gainBy, After, Assigned}
 use Rattle.clearing.proofs.Winners.{Shows, critical-is, provisional-is}
 
 -- ---- lists

@@ -10,9 +10,9 @@ use lib.ListN.{getD, length}
 use Rattle.auction.specs.Counting.{_<?_, _=?_, _and_, _or_, only, sum, count}
 use Rattle.auction.specs.Market.{Queue, before, rank, provisional, critical}
 use Rattle.auction.specs.Readings.{CriticalIsFirstOut}
-use Rattle.auction.proofs.Tests.{decide, both, first, second, and-no, and-false, only-no, lt-yes, is-lt, not-lt, is-eq, not-eq, lt-or-le, eq-or-ne}
+use Rattle.auction.proofs.Tests.{decide, both, first, second, and-false, only-no, lt-yes, is-lt, not-lt, is-eq, not-eq, lt-or-le, eq-or-ne}
 use Rattle.auction.proofs.Counting.{sum-cong, sum-add, count-mono, count-strict, count-cong}
-use Rattle.auction.proofs.Queues.{Distinct, Ahead, ahead, is-before, before-self, rank-taken, critical-is-first-out}
+use Rattle.auction.proofs.Queues.{Distinct, ahead, is-before, before-self, rank-taken, critical-is-first-out}
 use Rattle.kernels.specs.Scans.{above, ties, LeastFew, TieBound}
 use Rattle.kernels.specs.Offers.{wonBy}
 

@@ -3,19 +3,18 @@ use Prim.Native.Nat.{ℕ, _+_, _*_, _-_, _/_, _≤_, _<_, max}
 use mathlib.Core.Bool.{Bool, true, false, _&&_, _||_}
 use mathlib.Core.List.{List}
 use mathlib.Core.Logic.{⊎-elim}
-use mathlib.Core.Path.{_≡_, refl, sym, ap, ap₂, _∙_}
+use mathlib.Core.Path.{_≡_, refl, sym, ap, _∙_}
 use native.Mathlib.Nat.{le-refl, mul-le-mul}
-use native.Mathlib.Numerals.{add-one}
 use native.Mathlib.Omega.{arith}
 use lib.Dec.{ltb, eqb}
 use lib.ListN.{getD, length, set, length-set, replicate, length-replicate, getD-replicate}
 use lib.Seq.{getD-set-same, getD-set-other}
-use Rattle.auction.specs.Counting.{_<?_, _≤?_, _=?_, _and_, _or_, only, sum, count, list}
+use Rattle.auction.specs.Counting.{_<?_, _=?_, _and_, _or_, only, sum, list}
 use Rattle.auction.specs.Limits.{maxPrice, maxAmount}
 use Rattle.auction.specs.Market.{median}
 use Rattle.auction.proofs.Tests.{first, second, or-cases, only-yes, only-no, lt-yes, eq-yes, is-lt, not-lt, is-le, is-eq, not-eq, lt-or-le, eq-or-ne}
 use Rattle.auction.proofs.Counting.{getD-list, list-cong}
-use Rattle.kernels.specs.Scans.{kwhAt, under, eligible, medianAsk}
+use Rattle.kernels.specs.Scans.{kwhAt, under, eligible}
 use Rattle.kernels.specs.Offers.{pick, totalFor, wonBy, gainFor, chargeAt, gainAt, taken, Offerable, Offered, PaidOut}
 use Rattle.kernels.proofs.Loops.{not-le, or-is, sum-more, sum-end, Filled, filled-none, filled-more, filled-list, is-list}
 

@@ -1,17 +1,17 @@
 -- Laws of counts above a bar: the least number with few above it, and the bound on those at it.
-use Prim.Native.Nat.{ℕ, zero, suc, _+_, _/_, _≤_, _<_, max}
-use mathlib.Core.Bool.{Bool, true, false}
+use Prim.Native.Nat.{ℕ, zero, suc, _+_, _≤_, _<_}
+use mathlib.Core.Bool.{Bool}
 use mathlib.Core.List.{List}
-use mathlib.Core.Logic.{_⊎_, inl, inr, ⊎-elim}
+use mathlib.Core.Logic.{_⊎_, ⊎-elim}
 use mathlib.Core.Path.{_≡_, refl, sym, ap, _∙_}
 use native.Mathlib.Nat.{le-refl, le-trans, le-antisymm, eq-or-lt-of-le, le-of-suc-le-suc}
 use native.Mathlib.Omega.{arith}
 use lib.ListN.{getD, length}
 use borrow.Author.Count.{below-more}
 use Rattle.auction.specs.Counting.{_<?_, _≤?_, _=?_, _and_, only, sum, greatest, count, list}
-use Rattle.auction.proofs.Tests.{decide, first, second, both, clash, only-le, le-only, only-yes, only-no, is-lt, not-lt, is-le, lt-yes, le-yes, le-no, lt-or-le}
+use Rattle.auction.proofs.Tests.{first, second, both, clash, only-le, le-only, is-lt, not-lt, is-le, lt-yes, le-yes, lt-or-le}
 use Rattle.auction.proofs.Counting.{count-mono, count-strict, count-none, count-step, count-start, length-list, getD-list, le-greatest, greatest-le, search-below}
-use Rattle.kernels.specs.Scans.{above, ties, greatestUpTo, LeastFew, Selected, TieBound}
+use Rattle.kernels.specs.Scans.{above, ties, greatestUpTo, Selected, TieBound}
 
 pub above-falls : (l : List ℕ) (s t : ℕ) → s ≤ t → above l t ≤ above l s
 unfolding above

@@ -32,8 +32,8 @@ pub fn any_outside16(xs: &[u16], low: u16, high: u16) -> bool
     let mut bad = false;
     let mut i = 0;
     while i < xs.len() {
-        let x = xs[i];
-        bad = bad | ((x < low) | (high < x));
+        let y = xs[i];
+        bad = bad | ((y < low) | (high < y));
         i += 1;
     }
     bad
@@ -339,12 +339,12 @@ pub fn zero16(xs: &mut [u16])
     }
 }
 
-pub fn zero32(xs: &mut [u32])
-    ensures { λ _. ⌜ now (xs .exit) ≡ list (length (now (xs .entry))) (λ _. 0) ⌝ }
+pub fn zero32(ys: &mut [u32])
+    ensures { λ _. ⌜ now (ys .exit) ≡ list (length (now (ys .entry))) (λ _. 0) ⌝ }
 {
     let mut i = 0;
-    while i < xs.len() {
-        xs[i] = 0;
+    while i < ys.len() {
+        ys[i] = 0;
         i += 1;
     }
 }

@@ -8,19 +8,19 @@ use Rattle.kernels.proofs.zero32.Statement.{statement}
 use Rattle.kernels.proofs.zero32.Tie as tie
 
 abbrev Inv-loop : tie.InvT-loop
-Inv-loop xs₀ i₀ xs i = (i ≤ length xs₀) × Filled (λ _. 0) xs₀ xs i
+Inv-loop ys₀ i₀ ys i = (i ≤ length ys₀) × Filled (λ _. 0) ys₀ ys i
 
 abbrev μ-loop : tie.MeasureT-loop
-μ-loop xs₀ i₀ xs i = length xs₀ - i
+μ-loop ys₀ i₀ ys i = length ys₀ - i
 
 loop-holds : tie.Need-loop-holds Inv-loop μ-loop
 loop-holds c = (search needs, filled-none)
 
-mul-xs : tie.Need-mul-xs Inv-loop μ-loop
-mul-xs c = search needs
+mul-ys : tie.Need-mul-ys Inv-loop μ-loop
+mul-ys c = search needs
 
-slice-write-xs : tie.Need-slice-write-xs Inv-loop μ-loop
-slice-write-xs c = search needs
+slice-write-ys : tie.Need-slice-write-ys Inv-loop μ-loop
+slice-write-ys c = search needs
 
 add-i : tie.Need-add-i Inv-loop μ-loop
 add-i c = search needs
@@ -44,8 +44,8 @@ zero32-spec =
     Inv-loop
     μ-loop
     loop-holds
-    mul-xs
-    slice-write-xs
+    mul-ys
+    slice-write-ys
     add-i
     loop-less
     loop-again
