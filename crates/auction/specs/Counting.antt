@@ -58,6 +58,6 @@ unfoldable pub list : ℕ → (ℕ → ℕ) → List ℕ
 list zero f = []
 list (suc n) f = f 0 ∷ list n (λ k. f (suc k))
 
-unfoldable pub joined : ℕ → (ℕ → List ℕ) → List ℕ
+unfoldable pub joined : {A : Type 0} → ℕ → (ℕ → List A) → List A
 joined zero f = []
 joined (suc n) f = joined n f ++ f n

@@ -6,7 +6,7 @@ use mathlib.Core.Path.{_≡_, refl, sym, ap, ap₂, _∙_}
 use native.Mathlib.Omega.{arith}
 use lib.ListN.{length, take, drop}
 use lib.Seq.{take-at}
-use Rattle.auction.specs.Counting.{_=?_, _or_}
+use Rattle.auction.specs.Counting.{_=?_, _or_, joined}
 use Rattle.auction.specs.Limits.{maxGuests, maxStations}
 use Rattle.auction.specs.Market.{Tables}
 use Rattle.auction.specs.Refusals.{Verdict, accepted, refused, firstFault}
@@ -14,7 +14,7 @@ use Rattle.auction.specs.declared.Refusal.the-variants.{LentLengths}
 use Rattle.auction.specs.declared.Refusal.{Refusal}
 use Rattle.auction.proofs.Counting.{length-list}
 use Rattle.auction.proofs.Tests.{is-eq, neither}
-use Rattle.sheet.specs.Sheet.{stations, bidOf, joined, tablesOf, sheetFaults, lentTables, tables, fault, contentBy, readSheet, readInto, over, written, Reads}
+use Rattle.sheet.specs.Sheet.{stations, bidOf, tablesOf, sheetFaults, lentTables, tables, fault, contentBy, readSheet, readInto, over, written, Reads}
 use Rattle.sheet.specs.declared.Reading.the-variants.{Read, Refused}
 use Rattle.sheet.specs.declared.Reading.{Reading}
 use Rattle.sheet.proofs.Faults.{sheet-sound}

@@ -1,13 +1,14 @@
 -- The cases, by computation.
 use mathlib.Core.Path.{refl}
-use Rattle.auction.specs.Counting.{_<?_, _=?_, _or_, only, sum, count, list}
+use Rattle.auction.specs.Counting.{_<?_, _=?_, _or_, only, sum, count, list, joined}
+use Rattle.auction.specs.Cases.{tables, tableI, pair, caseE}
 use Rattle.auction.specs.Faults.{counts}
 use Rattle.auction.specs.Refusals.{firstFault}
-use Rattle.sheet.specs.Cases.{sheetA, marketA, sheetE, sheetE0, marketE, sheetI, marketI, sheetNine, marketNine, MarketsRead, TruncationsRefused, FaultsRefused}
-use Rattle.sheet.specs.Sheet.{number, guests, stations, mapWidth, hasBit, mapAt, bidsAt, nextAt, rowAt, askOf, baysOf, amountOf, bidBy, bidOf, joined, tablesOf, rowFaults, rowsFaults, sheetFaults, lentTables, contentBy, readSheet, readInto}
+use Rattle.sheet.specs.Cases.{sheetA, sheetE, sheetE0, sheetI, sheetNine, marketNine, MarketsRead, TruncationsRefused, FaultsRefused}
+use Rattle.sheet.specs.Sheet.{number, guests, stations, mapWidth, hasBit, mapAt, bidsAt, nextAt, rowAt, askOf, baysOf, amountOf, bidBy, bidOf, tablesOf, rowFaults, rowsFaults, sheetFaults, lentTables, contentBy, readSheet, readInto}
 
 pub markets-read : MarketsRead
-unfolding _<?_ _=?_ _or_ only sum count list firstFault counts number guests stations mapWidth hasBit mapAt bidsAt nextAt rowAt askOf baysOf amountOf bidBy bidOf joined tablesOf rowFaults rowsFaults sheetFaults lentTables contentBy readSheet readInto sheetA marketA sheetE sheetE0 marketE sheetI marketI sheetNine marketNine
+unfolding _<?_ _=?_ _or_ only sum count list firstFault counts number guests stations mapWidth hasBit mapAt bidsAt nextAt rowAt askOf baysOf amountOf bidBy bidOf joined tablesOf rowFaults rowsFaults sheetFaults lentTables contentBy readSheet readInto sheetA tables tableI sheetE sheetE0 pair caseE sheetI sheetNine marketNine
 markets-read = refl
 
 pub truncations-refused : TruncationsRefused

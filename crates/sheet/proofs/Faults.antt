@@ -8,7 +8,7 @@ use native.Mathlib.Nat.{not-suc-le-zero, eq-or-lt-of-le, le-of-suc-le-suc}
 use native.Mathlib.Numerals.{add-one}
 use native.Mathlib.Omega.{arith}
 use lib.ListN.{length}
-use Rattle.auction.specs.Counting.{_<?_, _=?_, _or_, count}
+use Rattle.auction.specs.Counting.{_<?_, _=?_, _or_, count, joined}
 use Rattle.auction.specs.Faults.{counts}
 use Rattle.auction.specs.Limits.{maxGuests, maxStations}
 use Rattle.auction.specs.Refusals.{Row, _gives_, Verdict, accepted, refused, firstFault}
@@ -16,7 +16,7 @@ use Rattle.auction.specs.declared.Refusal.the-variants.{SheetEnds, CountsOutOfR
 use Rattle.auction.specs.declared.Refusal.{Refusal}
 use Rattle.auction.proofs.Tests.{lt-no, eq-no, is-lt, not-lt, not-eq, or-no, neither}
 use Rattle.sheet.specs.Passes.{Taken, stepBy}
-use Rattle.sheet.specs.Sheet.{guests, stations, mapWidth, hasBit, mapAt, bidsAt, nextAt, rowAt, joined, rowFaults, rowsFaults, sheetFaults}
+use Rattle.sheet.specs.Sheet.{guests, stations, mapWidth, hasBit, mapAt, bidsAt, nextAt, rowAt, rowFaults, rowsFaults, sheetFaults}
 use Rattle.sheet.specs.declared.Cursor.{Cursor}
 use Rattle.sheet.specs.declared.Step.the-variants.{Next, Fault}
 use Rattle.sheet.specs.declared.Step.{Step}

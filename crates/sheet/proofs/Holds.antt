@@ -9,11 +9,11 @@ use native.Mathlib.Omega.{arith}
 use lib.ListN.{length, getD, length-append}
 use lib.Pow.{pow-mono}
 use lib.Seq.{ext-getD}
-use Rattle.auction.specs.Counting.{_=?_, only}
+use Rattle.auction.specs.Counting.{_=?_, only, joined}
 use Rattle.auction.proofs.Counting.{up, here}
 use Rattle.auction.proofs.Tests.{is-eq, not-eq, only-le}
 use Rattle.sheet.specs.Layout.{bytesOf, pack, Bytes}
-use Rattle.sheet.specs.Sheet.{number, mapWidth, hasBit, joined}
+use Rattle.sheet.specs.Sheet.{number, mapWidth, hasBit}
 use Rattle.sheet.proofs.Fields.{bytes-pow, first-bit, next-bit}
 
 -- xs stands at p in s

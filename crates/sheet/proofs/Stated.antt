@@ -5,12 +5,12 @@ use mathlib.Core.List.{List, _++_}
 use mathlib.Core.Path.{_≡_, refl, sym, ap, _∙_, subst}
 use native.Mathlib.Omega.{arith}
 use lib.ListN.{length, getD, length-append}
-use Rattle.auction.specs.Counting.{only, sum, count}
+use Rattle.auction.specs.Counting.{only, sum, count, joined}
 use Rattle.auction.specs.Market.{Tables}
 use Rattle.auction.proofs.Counting.{count-start}
 use Rattle.auction.proofs.Tests.{clash}
 use Rattle.sheet.specs.Layout.{bytesOf, pack, station, bid, stated, row, layout, Fitting, Bytes}
-use Rattle.sheet.specs.Sheet.{number, guests, stations, mapWidth, hasBit, mapAt, bidsAt, nextAt, rowAt, joined}
+use Rattle.sheet.specs.Sheet.{number, guests, stations, mapWidth, hasBit, mapAt, bidsAt, nextAt, rowAt}
 use Rattle.sheet.proofs.Faults.{first-row, bids-at}
 use Rattle.sheet.proofs.Holds.{Holds, holds-left, holds-then, holds-next, holds-all, holds-self, bytes-length, holds-number, number-holds, joined-place, joined-holds, joined-each, pack-bit, pack-fits}
 

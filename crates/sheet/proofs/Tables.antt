@@ -7,7 +7,7 @@ use native.Mathlib.Nat.{mul-le-mul-right}
 use native.Mathlib.Numerals.{add-one}
 use native.Mathlib.Omega.{arith}
 use lib.ListN.{length, length-append}
-use Rattle.auction.specs.Counting.{_=?_, _or_, list}
+use Rattle.auction.specs.Counting.{_=?_, _or_, list, joined}
 use Rattle.auction.specs.Market.{Tables}
 use Rattle.auction.specs.Refusals.{_gives_, Verdict, accepted, refused, firstFault}
 use Rattle.auction.specs.declared.Refusal.the-variants.{LentLengths}
@@ -15,7 +15,7 @@ use Rattle.auction.specs.declared.Refusal.{Refusal}
 use Rattle.auction.proofs.Counting.{length-list}
 use Rattle.auction.proofs.Tests.{eq-yes, or-no}
 use Rattle.sheet.specs.Passes.{placed}
-use Rattle.sheet.specs.Sheet.{guests, stations, rowAt, askOf, baysOf, amountOf, bidBy, bidOf, joined, tablesOf, rowsFaults, sheetFaults, lentTables, contentBy, readSheet, readInto, answerOf, over, written, Reads}
+use Rattle.sheet.specs.Sheet.{guests, stations, rowAt, askOf, baysOf, amountOf, bidBy, bidOf, tablesOf, rowsFaults, sheetFaults, lentTables, contentBy, readSheet, readInto, answerOf, over, written, Reads}
 use Rattle.sheet.specs.declared.Reading.the-variants.{Read, Refused}
 use Rattle.sheet.specs.declared.Reading.{Reading}
 use Rattle.sheet.proofs.Faults.{MapTaken, Sound}

@@ -8,14 +8,14 @@ use native.Mathlib.Nat.{not-suc-le-zero, eq-or-lt-of-le, le-of-suc-le-suc, le-an
 use native.Mathlib.Omega.{arith}
 use lib.ListN.{length, getD, List·getD-append}
 use lib.Seq.{ext-getD, getD-append-add}
-use Rattle.auction.specs.Counting.{only, list}
+use Rattle.auction.specs.Counting.{only, list, joined}
 use Rattle.auction.specs.Faults.{counts}
 use Rattle.auction.specs.Market.{Tables}
 use Rattle.auction.specs.Refusals.{Verdict, accepted, refused, firstFault}
 use Rattle.auction.proofs.Counting.{up, here, length-list, getD-list}
 use Rattle.auction.proofs.Tests.{decide, only-le, only-yes, only-no}
 use Rattle.sheet.specs.Layout.{bid, Fitting, States, Bytes, ReadsExactlyWhatIsStated, StatesOneMarket}
-use Rattle.sheet.specs.Sheet.{number, guests, stations, hasBit, mapAt, bidsAt, nextAt, rowAt, askOf, baysOf, amountOf, bidBy, bidOf, joined, tablesOf, rowsFaults, sheetFaults, tables, fault, contentBy, readSheet}
+use Rattle.sheet.specs.Sheet.{number, guests, stations, hasBit, mapAt, bidsAt, nextAt, rowAt, askOf, baysOf, amountOf, bidBy, bidOf, tablesOf, rowsFaults, sheetFaults, tables, fault, contentBy, readSheet}
 use Rattle.sheet.proofs.Faults.{bids-at, RowSound, sound-row, sound-at, rows-none, rows-suc, first-row, counts-good, whole, Sound, sheet-sound}
 use Rattle.sheet.proofs.Fields.{number-low}
 use Rattle.sheet.proofs.Holds.{pack-bit, pack-low, pack-bits}

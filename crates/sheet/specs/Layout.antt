@@ -4,10 +4,10 @@ use mathlib.Core.Bool.{Bool, true, false}
 use mathlib.Core.List.{List, [], _∷_, _++_}
 use mathlib.Core.Path.{_≡_}
 use lib.ListN.{length, getD}
-use Rattle.auction.specs.Counting.{only}
+use Rattle.auction.specs.Counting.{only, joined}
 use Rattle.auction.specs.Limits.{maxGuests, maxStations}
 use Rattle.auction.specs.Market.{Tables}
-use Rattle.sheet.specs.Sheet.{mapWidth, joined, tables, readSheet}
+use Rattle.sheet.specs.Sheet.{mapWidth, tables, readSheet}
 
 -- x in k bytes, lowest byte first
 unfoldable pub bytesOf : (k x : ℕ) → List ℕ

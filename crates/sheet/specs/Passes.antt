@@ -4,9 +4,9 @@ use mathlib.Core.Bool.{Bool}
 use mathlib.Core.List.{List, _++_}
 use mathlib.Core.Path.{_≡_}
 use lib.ListN.{take}
-use Rattle.auction.specs.Counting.{only, list}
+use Rattle.auction.specs.Counting.{only, list, joined}
 use Rattle.auction.specs.Refusals.{Verdict, accepted, refused}
-use Rattle.sheet.specs.Sheet.{number, rowAt, askOf, baysOf, amountOf, bidOf, joined, over}
+use Rattle.sheet.specs.Sheet.{number, rowAt, askOf, baysOf, amountOf, bidOf, over}
 use Rattle.sheet.specs.declared.Cursor.{Cursor}
 use Rattle.sheet.specs.declared.Step.the-variants.{Next, Fault}
 use Rattle.sheet.specs.declared.Step.{Step}

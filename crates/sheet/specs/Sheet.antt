@@ -6,7 +6,7 @@ use mathlib.Core.Bool.{Bool, not}
 use mathlib.Core.List.{List, [], _∷_, _++_}
 use mathlib.Core.Path.{_≡_}
 use lib.ListN.{length, getD, drop}
-use Rattle.auction.specs.Counting.{_<?_, _=?_, _or_, only, count, list}
+use Rattle.auction.specs.Counting.{_<?_, _=?_, _or_, only, count, list, joined}
 use Rattle.auction.specs.Faults.{counts}
 use Rattle.auction.specs.Limits.{maxGuests, maxStations}
 use Rattle.auction.specs.Market.{Tables}
@@ -68,11 +68,6 @@ bidBy s map q j = only (hasBit map j) (number s (q + 4 * count j (hasBit map)) 4
 
 unfoldable pub bidOf : List ℕ → (m i j : ℕ) → ℕ
 bidOf s m i = bidBy s (mapAt s m (rowAt s m i)) (bidsAt m (rowAt s m i))
-
--- f 0, then f 1, .., then f (n - 1)
-unfoldable pub joined : {A : Type 0} → ℕ → (ℕ → List A) → List A
-joined zero f = []
-joined (suc n) f = joined n f ++ f n
 
 -- the market that the fields state
 unfoldable pub tablesOf : List ℕ → Tables

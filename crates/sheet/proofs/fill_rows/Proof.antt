@@ -4,8 +4,8 @@ use mathlib.Core.Path.{_≡_, _∙_}
 use borrow.Author.Needs.{needs}
 use native.Mathlib.Nat.{le-antisymm}
 use native.Mathlib.Omega.{arith}
-use Rattle.auction.specs.Counting.{list}
-use Rattle.sheet.specs.Sheet.{rowAt, amountOf, bidOf, joined}
+use Rattle.auction.specs.Counting.{list, joined}
+use Rattle.sheet.specs.Sheet.{rowAt, amountOf, bidOf}
 use Rattle.sheet.proofs.Faults.{MapTaken, map-taken, RowSound, sound-at, bids-at, to-next, rows-to}
 use Rattle.sheet.proofs.Fields.{moved}
 use Rattle.sheet.proofs.Filled.{Filled, filled-start, filled-turn, filled-end}
