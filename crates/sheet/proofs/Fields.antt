@@ -1,6 +1,6 @@
 -- Laws of fields and bit maps.
 use Prim.Native.Nat.{ℕ, zero, suc, _+_, _*_, _-_, _/_, _%_, _^_, _≤_, _<_}
-use mathlib.Core.Bool.{true, false}
+use mathlib.Core.Bool.{Bool, true, false}
 use mathlib.Core.List.{List}
 use mathlib.Core.Logic.{⊎-elim}
 use mathlib.Core.Path.{_≡_, refl, sym, ap, _∙_}
@@ -81,14 +81,13 @@ narrow x m h = omega (arith, div-lt-iff-lt-mul {x = x} {y = 1} (pow-pos m) .0 (o
 pub wide : (x m : ℕ) → x < 2 ^ m → x / 2 ^ m ≤ 0
 wide x m h = omega (arith, div-lt-iff-lt-mul {x = x} {y = 1} (pow-pos m) .1 (omega arith))
 
-pub first-bit : (x : ℕ) → only (hasBit x 0) 1 ≡ x % 2
+pub bit-is : (x j : ℕ) → only (hasBit x j) 1 ≡ x / 2 ^ j % 2
 unfolding hasBit
-first-bit x =
-    let e : x / 2 ^ 0 % 2 ≡ x % 2 = omega arith in
+bit-is x j =
     ⊎-elim
-    (λ (t : (x / 2 ^ 0 % 2 =? 1) ≡ true). omega (arith, only-yes _ 1 t, eq-yes (x / 2 ^ 0 % 2) 1 t))
-    (λ (t : (x / 2 ^ 0 % 2 =? 1) ≡ false). omega (arith, only-no _ 1 t, one-or-none (x / 2 ^ 0 % 2) (omega arith) (eq-no (x / 2 ^ 0 % 2) 1 t)))
-    (decide (x / 2 ^ 0 % 2 =? 1))
+    (λ (t : (x / 2 ^ j % 2 =? 1) ≡ true). omega (arith, only-yes _ 1 t, eq-yes (x / 2 ^ j % 2) 1 t))
+    (λ (t : (x / 2 ^ j % 2 =? 1) ≡ false). omega (arith, only-no _ 1 t, one-or-none (x / 2 ^ j % 2) (omega arith) (eq-no (x / 2 ^ j % 2) 1 t)))
+    (decide (x / 2 ^ j % 2 =? 1))
   where
     one-or-none : (y : ℕ) → y < 2 → (y ≡ 1 → ⊥) → y ≡ 0
     one-or-none zero h n = refl
@@ -104,7 +103,7 @@ pub ones-count : (m x : ℕ) → x < 2 ^ m → ones x ≡ count m (hasBit x)
 unfolding ones onesIn
 ones-count zero x h = let e : x ≡ 0 = omega arith in rw e (sym (count-start (hasBit 0)))
 ones-count (suc m) x h = ones-step x
-    ∙ sym (count-front m (hasBit x) ∙ omega (arith, first-bit x, count-cong m (λ k. hasBit x (suc k)) (hasBit (x / 2)) (λ k l. next-bit x k), ones-count m (x / 2) (omega arith)))
+    ∙ sym (count-front m (hasBit x) ∙ omega (arith, bit-is x 0, count-cong m (λ k. hasBit x (suc k)) (hasBit (x / 2)) (λ k l. next-bit x k), ones-count m (x / 2) (omega arith)))
 
 pub count-narrow : (m x : ℕ) → m ≤ 64 → x < 2 ^ m → count 64 (hasBit x) ≡ count m (hasBit x)
 count-narrow m x w h = sym (ones-count 64 x (omega (arith, pow-mono {i = m} {j = 64} w))) ∙ ones-count m x h
@@ -119,3 +118,25 @@ bid-is s map q j p v e f = rw (← e) f
 pub bid-full : (s : List ℕ) (map q m : ℕ) → count m (hasBit map) ≡ m → (j : ℕ) → j < m → number s (q + 4 * j) 4 ≡ bidBy s map q j
 unfolding bidBy
 bid-full s map q m e j l = let (c, b) = count-all m (hasBit map) e j l in rw c (sym (only-yes _ _ b))
+
+-- ---- a field that is there if a bit is set; where it is not, the first bytes are read
+
+pub only-less : (b : Bool) (x : ℕ) → only b x ≤ x
+unfolding only
+only-less true x = omega arith
+only-less false x = omega arith
+
+pub scaled : (b : Bool) (x k : ℕ) → k ≡ only b 1 → x * k ≡ only b x
+unfolding only
+scaled true x k e = rw e (omega arith)
+scaled false x k e = rw e (omega arith)
+
+pub field-in : (b : Bool) (p n : ℕ) → p + 4 * only b 1 ≤ n → 4 ≤ n → only b p + 4 ≤ n
+unfolding only
+field-in true p n h l = omega (arith, h)
+field-in false p n h l = l
+
+pub field-value : (s : List ℕ) (b : Bool) (p : ℕ) → only b (number s (only b p) 4) ≡ only b (number s p 4)
+unfolding only
+field-value s true p = refl
+field-value s false p = refl

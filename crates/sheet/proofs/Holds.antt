@@ -14,7 +14,7 @@ use Rattle.auction.proofs.Counting.{up, here}
 use Rattle.auction.proofs.Tests.{is-eq, not-eq, only-le}
 use Rattle.sheet.specs.Layout.{bytesOf, pack, Bytes}
 use Rattle.sheet.specs.Sheet.{number, mapWidth, hasBit}
-use Rattle.sheet.proofs.Fields.{bytes-pow, first-bit, next-bit}
+use Rattle.sheet.proofs.Fields.{bytes-pow, bit-is, next-bit}
 
 -- xs stands at p in s
 abbrev pub Holds : List ℕ → ℕ → List ℕ → Type 0
@@ -146,7 +146,7 @@ pub pack-bits : (m x : ℕ) → x < 2 ^ m → pack m (hasBit x) ≡ x
 unfolding pack
 pack-bits zero x h = omega arith
 pack-bits (suc m) x h =
-    omega (arith, first-bit x, pack-same m (λ j. hasBit x (suc j)) (hasBit (x / 2)) (λ j. next-bit x j), pack-bits m (x / 2) (omega arith))
+    omega (arith, bit-is x 0, pack-same m (λ j. hasBit x (suc j)) (hasBit (x / 2)) (λ j. next-bit x j), pack-bits m (x / 2) (omega arith))
 
 pub pack-fits : (m : ℕ) (b : ℕ → Bool) → pack m b < 256 ^ mapWidth m
 unfolding mapWidth

@@ -126,12 +126,12 @@ fn map_width(stations: usize) -> usize
     (stations + 7) / 8
 }
 
-// Whether a map has the bit of a station set, the first being 0.
-fn has_bit(bits: u64, station: usize) -> bool
+// A station's bit of a map, the first station being 0. It is a number: bits follow no pattern, and a branch on them would be slow.
+fn bit(bits: u64, station: usize) -> usize
     requires { ⌜ station < 64 ⌝ }
-    ensures { λ r. ⌜ r ≡ hasBit bits station ⌝ }
+    ensures { λ r. ⌜ r ≡ only (hasBit bits station) 1 ⌝ }
 {
-    (bits >> station) % 2 == 1
+    ((bits >> station) % 2) as usize
 }
 
 // How many bits of a map are set.
@@ -247,15 +247,17 @@ fn fill_stations(s: &[u8], c: Cursor, stations: usize, asks: &mut [u32], bays: &
     d
 }
 
-// The bid of a station by its row's map, with c where its field stands if it has one.
+// The bid of a station by its row's map, with c where its field stands if it has one; if not, the sheet's first bytes are read in its place.
 fn take_bid(s: &[u8], c: Cursor, bits: u64, station: usize) -> Long
-    requires { ⌜ (station < 64) × (c .at + 4 * only (hasBit bits station) 1 ≤ length (now s)) ⌝ }
+    requires { ⌜ (station < 64) × (c .at + 4 * only (hasBit bits station) 1 ≤ length (now s)) × (4 ≤ length (now s)) ⌝ }
     ensures { λ r. ⌜ BidTaken (now (s .entry)) (c .at) (hasBit bits station) (r .value) (r .next) ⌝ }
 {
-    if has_bit(bits, station) {
-        c.four(s)
-    } else {
-        Long { value: 0, next: c }
+    let set = bit(bits, station);
+    let from = Cursor { at: c.at * set };
+    let field = from.four(s);
+    Long {
+        value: field.value * (set as u32),
+        next: c.skip(4 * set),
     }
 }
 
@@ -268,7 +270,7 @@ fn fill_some(
     base: usize,
     bids: &mut [u32],
 ) -> Cursor
-    requires { ⌜ (stations ≤ maxStations) × (c .at + 4 * count stations (hasBit bits) ≤ length (now s)) × (base + stations ≤ length (now bids)) ⌝ }
+    requires { ⌜ (stations ≤ maxStations) × (c .at + 4 * count stations (hasBit bits) ≤ length (now s)) × (base + stations ≤ length (now bids)) × (4 ≤ length (now s)) ⌝ }
     ensures { λ r. ⌜ RowFilled (c .at + 4 * count stations (hasBit bits)) base stations (bidBy (now (s .entry)) bits (c .at)) (now (bids .entry)) r (now (bids .exit)) ⌝ }
 {
     let mut d = c;
@@ -306,7 +308,7 @@ fn fill_row(
     base: usize,
     bids: &mut [u32],
 ) -> Cursor
-    requires { ⌜ (stations ≤ maxStations) × (bits < 2 ^ stations) × (c .at + 4 * count stations (hasBit bits) ≤ length (now s)) × (base + stations ≤ length (now bids)) ⌝ }
+    requires { ⌜ (stations ≤ maxStations) × (bits < 2 ^ stations) × (c .at + 4 * count stations (hasBit bits) ≤ length (now s)) × (base + stations ≤ length (now bids)) × (4 ≤ length (now s)) ⌝ }
     ensures { λ r. ⌜ RowFilled (c .at + 4 * count stations (hasBit bits)) base stations (bidBy (now (s .entry)) bits (c .at)) (now (bids .entry)) r (now (bids .exit)) ⌝ }
 {
     if count_bits(bits) == stations {
@@ -323,7 +325,7 @@ fn fill_rows(
     amounts: &mut [u16],
     bids: &mut [u32],
 )
-    requires { ⌜ (stations ≤ maxStations) × (c .at ≡ rowAt (now s) stations 0) × (firstFault (rowsFaults (now s) stations guests) ≡ accepted) × (guests ≤ length (now amounts)) × (guests * stations ≤ length (now bids)) ⌝ }
+    requires { ⌜ (stations ≤ maxStations) × (c .at ≡ rowAt (now s) stations 0) × (firstFault (rowsFaults (now s) stations guests) ≡ accepted) × (guests ≤ length (now amounts)) × (guests * stations ≤ length (now bids)) × (4 ≤ length (now s)) ⌝ }
     ensures { λ _. ⌜ RowsFilled (now (s .entry)) guests stations (now (amounts .entry)) (now (bids .entry)) (now (amounts .exit)) (now (bids .exit)) ⌝ }
 {
     let mut d = c;

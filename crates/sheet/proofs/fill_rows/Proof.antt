@@ -50,6 +50,7 @@ fill-row-requires c κs =
       rw (t .map) (r .no-stray),
       omega (arith, to-next t, r .bids-in),
       omega (arith, c .before .before .before .before .loop .inv .3 .same, room _ _ _ _ (c .before .before .before .loop-test .taken) (c .before .before .before .before .before .before .before .before .pre .4)),
+      omega arith,
     )
 
 add-i : tie.Need-add-i Inv-loop μ-loop

@@ -27,7 +27,7 @@ loop-holds c = (search needs, omega (arith, count-start (hasBit (c .before .befo
 take-bid-requires : tie.Need-take-bid-requires Inv-loop μ-loop
 take-bid-requires c κs =
     let f = hasBit (c .before .before .before .before .args .bits) in
-    (omega arith, omega (arith, count-step (c .before .loop .j) f, count-up (c .before .loop .j + 1) (c .before .before .before .before .args .stations) f (omega arith)))
+    (omega arith, omega (arith, count-step (c .before .loop .j) f, count-up (c .before .loop .j + 1) (c .before .before .before .before .args .stations) f (omega arith)), omega arith)
 
 add-bids : tie.Need-add-bids Inv-loop μ-loop
 add-bids c = search needs

@@ -44,6 +44,7 @@ fill-rows-requires c κs =
       rows-good t (g .1) (g .2),
       omega (arith, t .few, g .1, l .0),
       room-for _ _ _ (omega (arith, t .few, g .1)) (omega (arith, t .narrow, g .2)) (l .3),
+      omega (arith, t .stations-in),
     )
 
 enum-known-r : tie.Need-enum-known-r
