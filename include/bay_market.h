@@ -77,7 +77,7 @@ uint8_t bay_market_read(const uint8_t *sheet, size_t sheet_len,
 /*
  * Clears a market. n is amounts_len and m is asks_len; guest i's bid at station j, both from 0, is
  * bids[i * width + j], and 0 is no bid. Result lists: for each guest its station (0 for none) and its
- * charge (0 for none), for each station the kWh sold and its payment. *cut is the threshold price per kWh.
+ * charge (0 for none), for each station the kWh sold and its payment. *cut is the cut, per kWh.
  *
  * Refusals in this order: 2 for n or m; 5 where bays_len or width is not m or bids_len is not n times m;
  * 10 for a result list that is not n or m long; then 6 for any ask, 7 for any bays, 8 for any amount,
@@ -101,7 +101,7 @@ uint8_t bay_market_clear(const uint32_t *asks, size_t asks_len,
  *
  * Refusals in this order: 2, 5 and 6 to 9 as in clearing; 13 for a ledger over 200 guests or 40 stations
  * or smaller than the market; 11 where round is not *last + 1, and always after 4,294,967,295;
- * 12 where any account is above 10^15 before the posting or would be after it.
+ * 12 where any account or kWh sum is above 10^15 before the posting or would be after it.
  */
 uint8_t bay_market_post(const uint32_t *asks, size_t asks_len,
                         const uint16_t *bays, size_t bays_len,

@@ -92,16 +92,16 @@ limits =
     ∷ []
 
 -- a posting of case E
-pub record Posted : Type 0 where
+pub record PostingCase : Type 0 where
   pub round : ℕ
   pub book : Book
   pub expected : Verdict
 
-unfoldable pub posted : (round : ℕ) (guests sold paid : List ℕ) (house last : ℕ) → Verdict → Posted
+unfoldable pub posted : (round : ℕ) (guests sold paid : List ℕ) (house last : ℕ) → Verdict → PostingCase
 posted round guests sold paid house last v = record { round = round; book = record { guests = guests; sold = sold; paid = paid; house = house; last = last }; expected = v }
 
 -- the first posting of document 01's example and its repetition; then the book's size, the round after the last, and the limit of each kind of account
-unfoldable pub postings : List Posted
+unfoldable pub postings : List PostingCase
 postings =
     posted 1 (0 ∷ 0 ∷ []) (0 ∷ 0 ∷ []) (0 ∷ 0 ∷ []) 0 0 accepted
     ∷ posted 1 (24 ∷ 0 ∷ []) (3 ∷ 0 ∷ []) (18 ∷ 0 ∷ []) 6 1 (refused RoundOutOfTurn)

@@ -54,7 +54,7 @@ byNumber i = i
 unfoldable pub market : Tables → Market
 market t = marketBy median byNumber t
 
--- 1. the cut: the greatest ask that fewer than `position` asks lie below (`CutAtPosition`: the ask at that position in rising order)
+-- 1. the cut: the greatest ask that fewer than `position` asks lie below (`CutReads`: the ask at that position in rising order)
 unfoldable pub cut : Market → ℕ
 cut M = greatest (M .stations) (λ j. only (count (M .stations) (λ k. M .ask k <? M .ask j) <? M .position) (M .ask j))
 

@@ -10,18 +10,33 @@ use Rattle.auction.specs.Outcome.{settle, seen, decided}
 use Rattle.auction.specs.Faults.{outside, counts, lengths, values, marketFaults, raised, entered, overLimit, bookSize, outOfTurn, postingFaults}
 use Rattle.auction.specs.Cases.{tables, pair, caseE}
 use Rattle.ledger.specs.PlainBook.{Posting, posting, empty, answer, settled, after, answers, final}
-use Rattle.ledger.specs.LentBook.{book, account, soldOf, paidOf, plain}
-use Rattle.ledger.specs.Ledger.{ExampleKept}
+use Rattle.ledger.specs.LentBook.{LentBook, book, account, blank, soldOf, paidOf, plain}
+use Rattle.ledger.specs.Ledger.{Posted, none, call, ExampleCalled, ExampleKept}
 use Rattle.ledger.proofs.Ledger.{from-blank}
 use Rattle.ledger.proofs.Stations.{plain-determines}
 
 abbrev twice : List Posting
 twice = posting caseE 1 ∷ posting caseE 1 ∷ []
 
+-- the book after the first
+abbrev once : LentBook
+once = book (24 ∷ 0 ∷ []) (account 3 18 ∷ account 0 0 ∷ []) 6 1
+
 -- the plain book's answers, and its numbers after both
-plain-twice : (answers (empty 2 2) twice ≡ accepted ∷ refused RoundOutOfTurn ∷ []) × (final (empty 2 2) twice ≡ plain (book (24 ∷ 0 ∷ []) (account 3 18 ∷ account 0 0 ∷ []) 6 1))
+plain-twice : (answers (empty 2 2) twice ≡ accepted ∷ refused RoundOutOfTurn ∷ []) × (final (empty 2 2) twice ≡ plain once)
 unfolding _<?_ _≤?_ _=?_ _and_ _or_ only sum greatest count some any list firstFault bidAt marketBy median byNumber market cut opens screen queue before rank provisional critical at charge charged sold paid margin better best surplus truthful settle seen decided outside counts lengths values marketFaults raised entered overLimit bookSize outOfTurn postingFaults tables pair caseE empty answer settled after answers final plain soldOf paidOf
 plain-twice = (refl, refl)
+
+posted-once : Posted (blank 2 2) (posting caseE 1) accepted once
+unfolding _<?_ _≤?_ _=?_ _and_ _or_ only sum greatest count some any list firstFault bidAt marketBy median byNumber market cut opens screen queue before rank provisional critical at charge charged sold paid margin better best surplus truthful settle seen decided outside counts lengths values marketFaults raised entered overLimit bookSize outOfTurn postingFaults tables pair caseE empty answer settled after plain soldOf paidOf blank
+posted-once = record { answered = refl; left = refl }
+
+refused-again : Posted once (posting caseE 1) (refused RoundOutOfTurn) once
+unfolding _<?_ _≤?_ _=?_ _and_ _or_ only sum greatest count some any list firstFault bidAt marketBy median byNumber market cut opens screen queue before rank provisional critical at charge charged sold paid margin better best surplus truthful settle seen decided outside counts lengths values marketFaults raised entered overLimit bookSize outOfTurn postingFaults tables pair caseE empty answer settled after plain soldOf paidOf
+refused-again = record { answered = refl; left = refl }
+
+pub example-called : ExampleCalled
+example-called = call posted-once (call refused-again none)
 
 pub example-kept : ExampleKept
 example-kept vs B c =

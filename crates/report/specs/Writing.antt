@@ -21,7 +21,7 @@ pub record Wrote (l : List ℕ) (p : ℕ) (t : List ℕ) (l′ : List ℕ) (q : 
 abbrev pub outcomeOf : (cut margin : ℕ) (stations charges sold paid : List ℕ) → Outcome
 outcomeOf cut margin stations charges sold paid = record { cut = cut; margin = margin; results = record { stations = stations; charges = charges; sold = sold; paid = paid } }
 
--- the greatest length of a printed text: the cut, 200 guests, 40 stations and the margin, each number of at most 20 digits
+-- a bound on the length of a printed text: the cut, 200 guests, 40 stations and the margin, each number taken as 20 digits
 abbrev pub maxText : ℕ
 maxText = 20_093
 
