@@ -51,7 +51,7 @@ pub struct UnitPrice(pub u32);
 pub struct Mills(pub u64);
 
 impl UnitPrice {
-    // The only way from a unit price to whole mills.
+    // The way from a unit price to whole mills.
     pub fn times(self, kwh: u32) -> Mills
         ensures { λ r. ⌜ r .0 ≡ self .0 * kwh ⌝ }
     {
@@ -66,7 +66,7 @@ impl UnitPrice {
 }
 
 impl Mills {
-    // From a table of 32-bit numbers, and back into one.
+    // From a table of 32-bit numbers, and back into one. Here and below a `requires` is for `kernels`, which knows that its sums fit.
     pub fn wide(x: u32) -> Mills
         ensures { λ r. ⌜ r .0 ≡ x ⌝ }
     {

@@ -1,5 +1,5 @@
 -- A field where the bit is set, 0 where it is clear.
-use mathlib.Core.Path.{_≡_, ap, _∙_}
+use mathlib.Core.Path.{ap, _∙_}
 use borrow.Author.Needs.{needs}
 use native.Mathlib.Omega.{arith}
 use Rattle.auction.specs.Counting.{only}
