@@ -21,7 +21,6 @@ use Rattle.auction.specs.Readings.{WithinLimits}
 use Rattle.auction.proofs.Tests.{or-no, lt-no, eq-yes, only-le}
 use Rattle.auction.proofs.Counting.{sum-cong, greatest-le}
 use Rattle.auction.proofs.Acceptance.{clear-of, clear, accepted-reads}
-use Rattle.auction.proofs.Truthful.{assignment-reads}
 use Rattle.kernels.specs.Scans.{kwhAt, under, eligible, medianAsk}
 use Rattle.kernels.specs.Offers.{leastAt, PaidOut}
 use Rattle.clearing.specs.Clears.{tables, results, answerTo, resultsOf, Clears}
@@ -30,7 +29,7 @@ use Rattle.clearing.specs.declared.Clearing.{Clearing}
 use Rattle.clearing.specs.declared.Clearing.the-variants as clearings
 use Rattle.clearing.specs.declared.Verdict.{Verdict}
 use Rattle.clearing.specs.declared.Verdict.the-variants as verdicts
-use Rattle.clearing.proofs.Turns.{long, element, relist}
+use Rattle.clearing.proofs.Turns.{long, element, relist, numbered}
 
 -- ---- the table of refusals
 
@@ -106,12 +105,7 @@ module _ (t : Tables) {stations charges : List ℕ} (a : Assigned t stations cha
   charges-count = long _ _ (a .charges-are)
 
   pub stations-low : WithinLimits t → (k : ℕ) → k < length (t .amounts) → getD stations k 0 ≤ maxStations
-  unfolding seen screen market marketBy
-  stations-low w k l = go (getD stations k 0) (sym (station-is k l))
-    where
-      go : (s : ℕ) → (decided t) .assigned k ≡ s → s ≤ maxStations
-      go zero e = omega arith
-      go (suc j) e = let lj : j < length (t .asks) = assignment-reads t k .somewhere j e .0 in omega (arith, w .stations-most)
+  stations-low w k l = numbered t w k _ (sym (station-is k l))
 
   kwh-is : (j : ℕ) → kwhAt stations (t .amounts) (j + 1) ≡ sold (seen t) (decided t) j
   unfolding kwhAt sold seen screen market marketBy

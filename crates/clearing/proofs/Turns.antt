@@ -4,25 +4,28 @@ use mathlib.Core.Bool.{Bool, true, false}
 use mathlib.Core.List.{List}
 use mathlib.Core.Logic.{⊎-elim}
 use mathlib.Core.Path.{_≡_, refl, sym, ap, ap₂, _∙_}
-use native.Mathlib.Nat.{le-antisymm, mul-le-mul, mul-le-mul-right}
+use native.Mathlib.Nat.{le-refl, le-antisymm, mul-le-mul, mul-le-mul-right}
 use native.Mathlib.Numerals.{add-one}
 use native.Mathlib.Omega.{arith}
-use lib.ListN.{getD, length, take, replicate, length-replicate, getD-replicate}
-use lib.Seq.{length-take-le, getD-take}
+use lib.ListN.{getD, length, set, length-set, take, replicate, length-replicate, getD-replicate}
+use lib.Seq.{length-take-le, getD-take, getD-set-same, getD-set-other}
+use borrow.Author.Count.{below-none, below-more}
 use Rattle.auction.specs.Counting.{_<?_, _≤?_, _and_, only, list}
-use Rattle.auction.specs.Limits.{maxGuests, maxPrice, maxAmount}
+use Rattle.auction.specs.Limits.{maxGuests, maxStations, maxPrice, maxAmount}
 use Rattle.auction.specs.Market.{Tables, bidAt, Market, marketBy, byNumber, market, cut, opens, Screened, screen, Queue, queue, provisional, critical}
 use Rattle.auction.specs.Mechanism.{at, charge, better, best, surplus, truthful, charged}
 use Rattle.auction.specs.Outcome.{seen, decided, outcome, settle}
-use Rattle.auction.proofs.Tests.{and-no, le-yes, le-no, is-lt, not-lt, lt-or-le}
-use Rattle.auction.proofs.Counting.{length-list, getD-list, list-cong}
+use Rattle.auction.specs.Readings.{WithinLimits}
+use Rattle.auction.proofs.Tests.{clash, first, and-no, only-le, only-yes, only-no, le-yes, le-no, is-lt, not-lt, lt-or-le}
+use Rattle.auction.proofs.Counting.{greatest-le, length-list, getD-list, list-cong}
 use Rattle.auction.proofs.Queues.{provisional-candidate}
+use Rattle.auction.proofs.Truthful.{assignment-reads}
 use Rattle.kernels.specs.Scans.{above, LeastFew, Selected, TieBound}
-use Rattle.kernels.specs.Offers.{pick, totalFor, totalAt, wonBy, gainFor, chargeAt, gainAt, taken, Offerable, Offered}
+use Rattle.kernels.specs.Offers.{pick, totalFor, totalAt, wonBy, gainFor, chargeAt, gainAt, taken, Offerable, Offered, Chargeable, chargedAt, Charged}
 use Rattle.kernels.proofs.Loops.{is-list, in-table}
 use Rattle.kernels.proofs.Selection.{above-most}
 use Rattle.kernels.proofs.Offers.{total-yes, total-no, product}
-use Rattle.clearing.specs.Stages.{AtCut, stationBy, chargeBy, gainBy, After, Assigned}
+use Rattle.clearing.specs.Stages.{AtCut, stationBy, gainBy, After, Assigned}
 use Rattle.clearing.proofs.Winners.{Shows, critical-is, provisional-is}
 
 -- ---- lists
@@ -63,26 +66,34 @@ station-step S j i = rw add-one refl
 
 -- ---- the lists after a station
 
-module _ (S : Screened) (n j : ℕ) (totals least : List ℕ) (t e s : ℕ) (stations₀ charges₀ gains₀ : List ℕ)
-    (as-long : length totals ≡ n) (es : s ≡ j + 1)
+-- the critical totals with one more, at number j + 1
+set-critical : {n j v : ℕ} {S : Screened} {chosen gains criticals : List ℕ} → After S n j chosen gains criticals → j < maxStations → v ≡ critical (queue S j)
+    → (k : ℕ) → k < j + 1 → getD (set criticals (j + 1) v) (k + 1) 0 ≡ critical (queue S k)
+set-critical {n} {j} {v} {S} {criticals = criticals} h l e = below-more (λ k. getD (set criticals (j + 1) v) (k + 1) 0 ≡ critical (queue S k)) j
+    (λ k a. getD-set-other criticals (j + 1) (k + 1) v 0 (omega arith) ∙ h .criticals-are k a)
+    (getD-set-same criticals (j + 1) v 0 (omega (arith, h .criticals-long)) ∙ e)
+
+module _ (S : Screened) (n j : ℕ) (totals least : List ℕ) (t e s : ℕ) (chosen₀ gains₀ criticals : List ℕ)
+    (as-long : length totals ≡ n) (es : s ≡ j + 1) (few : j < maxStations)
     (gain-is : (k : ℕ) → k < n → gainAt totals least t e k ≡ only (provisional (queue S j) k) (surplus S k j + 1))
-    (charge-is : (k : ℕ) → k < n → chargeAt least t k ≡ charge S (truthful S) k j)
-    (h : After S n j stations₀ charges₀ gains₀) where
-  -- a value that is read at the station, before and after
-  step : (f : ℕ → ℕ) (new old k : ℕ) → k < n → new ≡ f j → old ≡ at f (stationBy S j k) → pick (getD gains₀ k 0 <? gainAt totals least t e k) new old ≡ at f (stationBy S (j + 1) k)
-  unfolding gainBy
-  step f new old k lk p q = rw (p, q, gain-is k lk, element _ _ (h .gains-are) k lk, station-step S j k) (take-at f (provisional (queue S j) k) (surplus S k) j (stationBy S j k))
+    (critical-is : t ≡ critical (queue S j))
+    (h : After S n j chosen₀ gains₀ criticals) where
+  chosen-step : (k : ℕ) → k < n → taken gains₀ (gainAt totals least t e) (λ _. s) chosen₀ k ≡ stationBy S (j + 1) k
+  unfolding taken gainBy
+  chosen-step k lk = rw (es ∙ add-one j, element n (stationBy S j) (h .chosen-are) k lk ∙ sym (at-suc _), gain-is k lk, element _ _ (h .gains-are) k lk, station-step S j k)
+      (take-at suc (provisional (queue S j) k) (surplus S k) j (stationBy S j k) ∙ at-suc _)
 
   gain-step : (k : ℕ) → k < n → taken gains₀ (gainAt totals least t e) (gainAt totals least t e) gains₀ k ≡ gainBy S (j + 1) k
   unfolding taken gainBy
   gain-step k lk = rw (gain-is k lk, element n (gainBy S j) (h .gains-are) k lk, station-step S j k) (take-gain (provisional (queue S j) k) (surplus S k) j (stationBy S j k))
 
-  after-offers : {stations charges gains : List ℕ} → Offered totals least t e s stations₀ charges₀ gains₀ stations charges gains → After S n (j + 1) stations charges gains
-  unfolding taken chargeBy gainBy
+  after-offers : {chosen gains : List ℕ} → Offered totals least t e s chosen₀ gains₀ chosen gains → After S n (j + 1) chosen gains (set criticals s t)
   after-offers o = record {
-    stations-are = relist _ n _ _ (o .stations-are) as-long (λ k lk. step suc s _ k lk (es ∙ add-one j) (element n (stationBy S j) (h .stations-are) k lk ∙ sym (at-suc _)) ∙ at-suc _);
-    charges-are = relist _ n _ _ (o .charges-are) as-long (λ k lk. step (charge S (truthful S) k) _ _ k lk (charge-is k lk) (element n (chargeBy S j) (h .charges-are) k lk));
+    chosen-are = relist _ n _ _ (o .chosen-are) as-long chosen-step;
     gains-are = relist _ n _ _ (o .gains-are) as-long gain-step;
+    criticals-long = length-set criticals s t ∙ h .criticals-long;
+    criticals-are = rw es (set-critical h few critical-is);
+    criticals-left = λ k l. getD-set-other criticals s (k + 1) t 0 (omega arith) ∙ h .criticals-left k (omega arith);
   }
 
 only-cong : (b : Bool) (x y : ℕ) → (b ≡ true → x ≡ y) → only b x ≡ only b y
@@ -99,12 +110,19 @@ stays : (M : Market) (j i : ℕ) → cut M ≤ M .ask j → stationBy (screen M)
 unfolding better
 stays M j i h = sym (station-step (screen M) j i ∙ ap (λ b. better b (surplus (screen M) i) j (stationBy (screen M) j i)) (closed M j i h))
 
-pub after-closed : (M : Market) (n j : ℕ) {stations charges gains : List ℕ} → cut M ≤ M .ask j → After (screen M) n j stations charges gains → After (screen M) n (j + 1) stations charges gains
-unfolding chargeBy gainBy
-after-closed M n j h a = record {
-  stations-are = a .stations-are ∙ list-cong n _ _ (λ k lk. stays M j k h);
-  charges-are = a .charges-are ∙ list-cong n _ _ (λ k lk. ap (at (charge (screen M) (truthful (screen M)) k)) (stays M j k h));
+-- and its critical total is 0
+closed-critical : (M : Market) (j : ℕ) → cut M ≤ M .ask j → 0 ≡ critical (queue (screen M) j)
+unfolding critical queue screen opens
+closed-critical M j h = le-antisymm (omega arith) (greatest-le (M .guests) _ 0 (λ k _. only-le _ _ _ (λ p. absurd (clash (first _ _ p) (and-no _ _ (not-lt _ _ h))))))
+
+pub after-closed : (M : Market) (n j : ℕ) {chosen gains criticals : List ℕ} → cut M ≤ M .ask j → After (screen M) n j chosen gains criticals → After (screen M) n (j + 1) chosen gains criticals
+unfolding gainBy
+after-closed M n j {criticals = criticals} h a = record {
+  chosen-are = a .chosen-are ∙ list-cong n _ _ (λ k lk. stays M j k h);
   gains-are = a .gains-are ∙ list-cong n _ _ (λ k lk. ap (at (λ i. surplus (screen M) k i + 1)) (stays M j k h));
+  criticals-long = a .criticals-long;
+  criticals-are = below-more (λ k. getD criticals (k + 1) 0 ≡ critical (queue (screen M) k)) j (a .criticals-are) (a .criticals-left j (le-refl j) ∙ closed-critical M j h);
+  criticals-left = λ k l. a .criticals-left k (omega arith);
 }
 
 -- ---- the queue of an open station, and the totals that the code gathers
@@ -160,15 +178,14 @@ module _ (t : Tables) (c : ℕ) (least : List ℕ) (A : AtCut t c least) (j : �
       unfolding gainAt gainFor
       gain-here k lk = rw (won-here k lk) (only-cong _ _ _ (λ p. ap (λ x. x + 1) (surplus-here k lk p)))
 
-      pub turned : (s : ℕ) {stations₀ charges₀ gains₀ stations charges gains : List ℕ} → s ≡ j + 1
-          → After (seen t) (length (t .amounts)) j stations₀ charges₀ gains₀ → Offered totals least f e s stations₀ charges₀ gains₀ stations charges gains
-          → After (seen t) (length (t .amounts)) (j + 1) stations charges gains
-      unfolding charge truthful
-      turned s es h o = after-offers (seen t) (length (t .amounts)) j totals least f e s _ _ _ (long _ _ gathered) es gain-here charge-here h o
+      pub turned : (s : ℕ) {chosen₀ gains₀ criticals chosen gains : List ℕ} → s ≡ j + 1
+          → After (seen t) (length (t .amounts)) j chosen₀ gains₀ criticals → Offered totals least f e s chosen₀ gains₀ chosen gains
+          → After (seen t) (length (t .amounts)) (j + 1) chosen gains (set criticals s f)
+      turned s es h o = after-offers (seen t) (length (t .amounts)) j totals least f e s _ _ _ (long _ _ gathered) es (omega (arith, A .within .stations-most)) gain-here critical-here h o
 
 -- the turn of a station that is not open
-pub shut : (t : Tables) (c j : ℕ) {least stations charges gains : List ℕ} → AtCut t c least → c ≤ getD (t .asks) j 0
-    → After (seen t) (length (t .amounts)) j stations charges gains → After (seen t) (length (t .amounts)) (j + 1) stations charges gains
+pub shut : (t : Tables) (c j : ℕ) {least chosen gains criticals : List ℕ} → AtCut t c least → c ≤ getD (t .asks) j 0
+    → After (seen t) (length (t .amounts)) j chosen gains criticals → After (seen t) (length (t .amounts)) (j + 1) chosen gains criticals
 unfolding seen market marketBy
 shut t c j A h a = after-closed (market t) (length (t .amounts)) j (omega (arith, A .is-cut)) a
 
@@ -185,16 +202,15 @@ total-covers bid amount cut p = ⊎-elim
     (λ (a : cut ≤ bid). omega (arith, total-yes bid amount cut a, mul-le-mul-right amount a))
     (lt-or-le bid cut)
 
-pub offerable : (t : Tables) (c j : ℕ) {f a b e : ℕ} {least totals stations charges gains : List ℕ} → AtCut t c least → j < length (t .asks)
+pub offerable : (t : Tables) (c j : ℕ) {f a b e : ℕ} {least totals chosen gains criticals : List ℕ} → AtCut t c least → j < length (t .asks)
     → totals ≡ list (length (t .amounts)) (totalAt (t .bids) (t .amounts) (length (t .asks)) j c) → TieBound totals f a b e
-    → After (seen t) (length (t .amounts)) j stations charges gains → Offerable totals least f e stations charges gains
+    → After (seen t) (length (t .amounts)) j chosen gains criticals → Offerable totals least f e chosen gains
 offerable t c j {totals = totals} A lj g tied a =
     let n : length totals ≡ length (t .amounts) = long _ _ g in
     record {
       few = omega (arith, A .within .guests-most);
       least-long = long _ _ (A .least-are) ∙ sym n;
-      stations-long = long _ _ (a .stations-are) ∙ sym n;
-      charges-long = long _ _ (a .charges-are) ∙ sym n;
+      chosen-long = long _ _ (a .chosen-are) ∙ sym n;
       gains-long = long _ _ (a .gains-are) ∙ sym n;
       totals-low = λ k lk. let l : k < length (t .amounts) = omega arith in
           rw (element _ _ g k l) (total-low _ _ c
@@ -208,7 +224,7 @@ offerable t c j {totals = totals} A lj g tied a =
 pub few-above : {l : List ℕ} {b t a : ℕ} (n : ℕ) → Selected l b t a → length l ≤ n → a ≤ n
 few-above {l} {t = t} n s h = omega (arith, s .counted, above-most l t)
 
-pub after-end : {S : Screened} {n j m : ℕ} {stations charges gains : List ℕ} → After S n j stations charges gains → j ≤ m → m ≤ j → After S n m stations charges gains
+pub after-end : {S : Screened} {n j m : ℕ} {chosen gains criticals : List ℕ} → After S n j chosen gains criticals → j ≤ m → m ≤ j → After S n m chosen gains criticals
 after-end h a b = rw (le-antisymm b a) h
 
 -- ---- before the first station, and after the last
@@ -220,15 +236,71 @@ zeros-long n h = length-take-le n _ (omega (arith, length-replicate {A = ℕ} ma
 zeros-are : (n : ℕ) → n ≤ maxGuests → take n (replicate {A = ℕ} maxGuests 0) ≡ list n (λ _. 0)
 zeros-are n h = is-list n _ _ (zeros-long n h) (λ k l. getD-take n _ k 0 l ∙ getD-replicate {A = ℕ} maxGuests k 0 0 (omega arith))
 
-pub after-none : {S : Screened} {n a b : ℕ} {stations charges : List ℕ} → n ≤ maxGuests → a ≡ n → b ≡ n
-    → stations ≡ list a (λ _. 0) → charges ≡ list b (λ _. 0) → After S n 0 stations charges (take n (replicate {A = ℕ} maxGuests 0))
-unfolding stationBy chargeBy gainBy best at
-after-none {n = n} h ea eb s c = record {
-  stations-are = s ∙ ap (λ n. list n (λ _. 0)) ea;
-  charges-are = c ∙ ap (λ n. list n (λ _. 0)) eb;
+pub after-none : {S : Screened} {n : ℕ} → n ≤ maxGuests → After S n 0 (take n (replicate {A = ℕ} maxGuests 0)) (take n (replicate {A = ℕ} maxGuests 0)) (replicate {A = ℕ} (maxStations + 1) 0)
+unfolding stationBy gainBy best at
+after-none {n = n} h = record {
+  chosen-are = zeros-are n h;
   gains-are = zeros-are n h;
+  criticals-long = length-replicate {A = ℕ} (maxStations + 1) 0;
+  criticals-are = below-none _;
+  criticals-left = λ k _. getD-zeros (maxStations + 1) (k + 1);
 }
+  where
+    getD-zeros : (n k : ℕ) → getD (replicate {A = ℕ} n 0) k 0 ≡ 0
+    getD-zeros zero k = refl
+    getD-zeros (suc n) zero = refl
+    getD-zeros (suc n) (suc k) = getD-zeros n k
 
-pub assigned : (t : Tables) {stations charges gains : List ℕ} → After (seen t) (length (t .amounts)) (length (t .asks)) stations charges gains → Assigned t stations charges
-unfolding stationBy chargeBy outcome settle seen decided screen market marketBy truthful charged
-assigned t a = record { stations-are = a .stations-are; charges-are = a .charges-are }
+-- the choice after the last station is the assignment
+last-choice : (t : Tables) (i : ℕ) → stationBy (seen t) (length (t .asks)) i ≡ (decided t) .assigned i
+unfolding stationBy decided truthful seen screen market marketBy
+last-choice t i = refl
+
+within : (t : Tables) (i j : ℕ) → (decided t) .assigned i ≡ suc j → j < length (t .asks)
+unfolding seen screen market marketBy
+within t i j e = assignment-reads t i .somewhere j e .0
+
+pub numbered : (t : Tables) → WithinLimits t → (i s : ℕ) → (decided t) .assigned i ≡ s → s ≤ maxStations
+numbered t w i zero e = omega arith
+numbered t w i (suc j) e = omega (arith, within t i j e, w .stations-most)
+
+module _ (t : Tables) {c : ℕ} {least chosen gains criticals : List ℕ} (A : AtCut t c least)
+    (a : After (seen t) (length (t .amounts)) (length (t .asks)) chosen gains criticals) where
+  choice : (k : ℕ) → k < length (t .amounts) → getD chosen k 0 ≡ (decided t) .assigned k
+  choice k l = element _ _ (a .chosen-are) k l ∙ last-choice t k
+
+  -- what charging asks of the choices, and what it leaves
+  pub chargeable : {stations charges : List ℕ} → length stations ≡ length (t .amounts) → length charges ≡ length (t .amounts) → Chargeable chosen least criticals stations charges
+  chargeable ls lc =
+      let n = long _ _ (a .chosen-are) in
+      record {
+        least-long = long _ _ (A .least-are) ∙ sym n;
+        stations-long = ls ∙ sym n;
+        charges-long = lc ∙ sym n;
+        numbers = λ k l. numbered t (A .within) k _ (sym (choice k (omega arith)));
+        criticals-long = omega (arith, a .criticals-long);
+      }
+
+  least-here : (k : ℕ) → k < length (t .amounts) → getD least k 0 ≡ (seen t) .cut * (seen t) .amount k
+  unfolding seen screen market marketBy
+  least-here k l = element _ _ (A .least-are) k l ∙ ap (λ x. x * getD (t .amounts) k 0) (A .is-cut)
+
+  critical-at : (j : ℕ) → j < length (t .asks) → getD criticals (suc j) 0 ≡ (decided t) .critical j
+  unfolding decided truthful
+  critical-at j l = ap (λ x. getD criticals x 0) (sym (add-one j)) ∙ a .criticals-are j l
+
+  charged-by : (k s : ℕ) → k < length (t .amounts) → (decided t) .assigned k ≡ s → only (0 <? s) (max (getD least k 0) (getD criticals s 0)) ≡ at (charge (seen t) (decided t) k) s
+  unfolding at charge
+  charged-by k zero l e = only-no _ _ (not-lt 0 0 (le-refl 0))
+  charged-by k (suc j) l e = only-yes _ _ (is-lt 0 (suc j) (omega arith)) ∙ ap₂ max (least-here k l) (critical-at j (within t k j e))
+
+  charged-here : (k : ℕ) → k < length (t .amounts) → chargedAt chosen least criticals k ≡ charged (seen t) (decided t) k
+  unfolding chargedAt charged
+  charged-here k l = rw (choice k l) (charged-by k _ l refl)
+
+  pub assigned : {stations charges : List ℕ} → Charged chosen least criticals stations charges → Assigned t stations charges
+  unfolding outcome settle seen screen market marketBy
+  assigned h = record {
+    stations-are = h .stations-are ∙ relist _ _ _ _ (a .chosen-are) refl (λ k _. last-choice t k);
+    charges-are = relist _ _ _ _ (h .charges-are) (long _ _ (a .chosen-are)) charged-here;
+  }

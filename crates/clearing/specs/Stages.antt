@@ -1,12 +1,13 @@
 -- What the contracts inside the crate cite.
-use Prim.Native.Nat.{ℕ, _+_}
+use Prim.Native.Nat.{ℕ, _+_, _≤_, _<_}
 use mathlib.Core.List.{List}
 use mathlib.Core.Path.{_≡_}
-use lib.ListN.{length}
+use lib.ListN.{getD, length}
 use Rattle.auction.specs.Counting.{list}
+use Rattle.auction.specs.Limits.{maxStations}
 use Rattle.auction.specs.Refusals as verdicts
-use Rattle.auction.specs.Market.{Tables, market, cut, Screened, queue, provisional}
-use Rattle.auction.specs.Mechanism.{at, charge, best, surplus, truthful}
+use Rattle.auction.specs.Market.{Tables, market, cut, Screened, queue, provisional, critical}
+use Rattle.auction.specs.Mechanism.{at, best, surplus}
 use Rattle.auction.specs.Outcome.{Results, outcome}
 use Rattle.auction.specs.Readings.{WithinLimits}
 use Rattle.kernels.specs.Offers.{leastAt}
@@ -38,21 +39,20 @@ pub record AtCut (t : Tables) (c : ℕ) (least : List ℕ) : Type 0 where
   pub is-cut : c ≡ cut (market t)
   pub least-are : least ≡ list (length (t .amounts)) (leastAt (t .amounts) c)
 
--- guest i's station among the first j, the charge there, and one more than the surplus there; 0 for none
+-- guest i's station among the first j, and one more than the surplus there; 0 for none
 unfoldable pub stationBy : Screened → (j i : ℕ) → ℕ
 stationBy S j i = best j (λ k. provisional (queue S k) i) (surplus S i)
-
-unfoldable pub chargeBy : Screened → (j i : ℕ) → ℕ
-chargeBy S j i = at (charge S (truthful S) i) (stationBy S j i)
 
 unfoldable pub gainBy : Screened → (j i : ℕ) → ℕ
 gainBy S j i = at (λ k. surplus S i k + 1) (stationBy S j i)
 
--- the three lists of n guests after the first j stations
-pub record After (S : Screened) (n j : ℕ) (stations charges gains : List ℕ) : Type 0 where
-  pub stations-are : stations ≡ list n (stationBy S j)
-  pub charges-are : charges ≡ list n (chargeBy S j)
+-- after the first j stations: the choices and gains of n guests, and the critical total of each of these stations at its number
+pub record After (S : Screened) (n j : ℕ) (chosen gains criticals : List ℕ) : Type 0 where
+  pub chosen-are : chosen ≡ list n (stationBy S j)
   pub gains-are : gains ≡ list n (gainBy S j)
+  pub criticals-long : length criticals ≡ maxStations + 1
+  pub criticals-are : (k : ℕ) → k < j → getD criticals (k + 1) 0 ≡ critical (queue S k)
+  pub criticals-left : (k : ℕ) → j ≤ k → getD criticals (k + 1) 0 ≡ 0
 
 -- every guest's station and charge
 pub record Assigned (t : Tables) (stations charges : List ℕ) : Type 0 where

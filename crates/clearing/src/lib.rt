@@ -105,14 +105,14 @@ fn station(
     least: &[u32],
     j: usize,
     totals: &mut [u32],
-    stations: &mut [u16],
-    charges: &mut [u32],
+    chosen: &mut [u32],
     gains: &mut [u32],
+    criticals: &mut [u32],
 )
     requires { ⌜ AtCut (regular (now asks) (now bays) (now amounts) (now bids)) (cut .0) (now least) ⌝ }
     requires { ⌜ (j < length (now asks)) × (length (now totals) ≡ length (now amounts)) ⌝ }
-    requires { ⌜ After (seen (regular (now asks) (now bays) (now amounts) (now bids))) (length (now amounts)) j (now stations) (now charges) (now gains) ⌝ }
-    ensures { λ _. ⌜ After (seen (regular (now (asks .entry)) (now (bays .entry)) (now (amounts .entry)) (now (bids .entry)))) (length (now (amounts .entry))) (j + 1) (now (stations .exit)) (now (charges .exit)) (now (gains .exit)) ⌝ }
+    requires { ⌜ After (seen (regular (now asks) (now bays) (now amounts) (now bids))) (length (now amounts)) j (now chosen) (now gains) (now criticals) ⌝ }
+    ensures { λ _. ⌜ After (seen (regular (now (asks .entry)) (now (bays .entry)) (now (amounts .entry)) (now (bids .entry)))) (length (now (amounts .entry))) (j + 1) (now (chosen .exit)) (now (gains .exit)) (now (criticals .exit)) ⌝ }
 {
     let ask = asks[j];
     if UnitPrice(ask).below(cut) {
@@ -120,14 +120,15 @@ fn station(
         let b = bays[j] as u32;
         let critical = kernels::critical_total(totals, top, b);
         let bound = kernels::tie_bound(totals, critical.total, critical.above, b);
+        let s = j + 1;
+        criticals[s] = critical.total;
         kernels::offer(
             totals,
             least,
             critical.total,
             bound,
-            (j + 1) as u16,
-            stations,
-            charges,
+            s as u32,
+            chosen,
             gains,
         );
     }
@@ -142,14 +143,14 @@ fn all_stations(
     cut: UnitPrice,
     least: &[u32],
     totals: &mut [u32],
-    stations: &mut [u16],
-    charges: &mut [u32],
+    chosen: &mut [u32],
     gains: &mut [u32],
+    criticals: &mut [u32],
 )
     requires { ⌜ AtCut (regular (now asks) (now bays) (now amounts) (now bids)) (cut .0) (now least) ⌝ }
     requires { ⌜ length (now totals) ≡ length (now amounts) ⌝ }
-    requires { ⌜ After (seen (regular (now asks) (now bays) (now amounts) (now bids))) (length (now amounts)) 0 (now stations) (now charges) (now gains) ⌝ }
-    ensures { λ _. ⌜ After (seen (regular (now (asks .entry)) (now (bays .entry)) (now (amounts .entry)) (now (bids .entry)))) (length (now (amounts .entry))) (length (now (asks .entry))) (now (stations .exit)) (now (charges .exit)) (now (gains .exit)) ⌝ }
+    requires { ⌜ After (seen (regular (now asks) (now bays) (now amounts) (now bids))) (length (now amounts)) 0 (now chosen) (now gains) (now criticals) ⌝ }
+    ensures { λ _. ⌜ After (seen (regular (now (asks .entry)) (now (bays .entry)) (now (amounts .entry)) (now (bids .entry)))) (length (now (amounts .entry))) (length (now (asks .entry))) (now (chosen .exit)) (now (gains .exit)) (now (criticals .exit)) ⌝ }
 {
     let mut j = 0;
     while j < asks.len() {
@@ -162,16 +163,51 @@ fn all_stations(
             least,
             j,
             totals,
-            stations,
-            charges,
+            chosen,
             gains,
+            criticals,
         );
         j += 1;
     }
 }
 
-// Every guest's station and charge.
+// Every guest's station and charge, with room for what is gathered and chosen on the way.
 fn assign(
+    asks: &[u32],
+    bays: &[u16],
+    amounts: &[u16],
+    bids: &[u32],
+    cut: UnitPrice,
+    least: &[u32],
+    totals: &mut [u32],
+    chosen: &mut [u32],
+    gains: &mut [u32],
+    criticals: &mut [u32],
+    stations: &mut [u16],
+    charges: &mut [u32],
+)
+    requires { ⌜ AtCut (regular (now asks) (now bays) (now amounts) (now bids)) (cut .0) (now least) ⌝ }
+    requires { ⌜ length (now totals) ≡ length (now amounts) ⌝ }
+    requires { ⌜ After (seen (regular (now asks) (now bays) (now amounts) (now bids))) (length (now amounts)) 0 (now chosen) (now gains) (now criticals) ⌝ }
+    requires { ⌜ (length (now stations) ≡ length (now amounts)) × (length (now charges) ≡ length (now amounts)) ⌝ }
+    ensures { λ _. ⌜ Assigned (regular (now (asks .entry)) (now (bays .entry)) (now (amounts .entry)) (now (bids .entry))) (now (stations .exit)) (now (charges .exit)) ⌝ }
+{
+    all_stations(
+        asks,
+        bays,
+        amounts,
+        bids,
+        cut,
+        least,
+        totals,
+        chosen,
+        gains,
+        criticals,
+    );
+    kernels::charge_guests(chosen, least, criticals, stations, charges);
+}
+
+fn assign_all(
     asks: &[u32],
     bays: &[u16],
     amounts: &[u16],
@@ -185,12 +221,12 @@ fn assign(
     requires { ⌜ (length (now stations) ≡ length (now amounts)) × (length (now charges) ≡ length (now amounts)) ⌝ }
     ensures { λ _. ⌜ Assigned (regular (now (asks .entry)) (now (bays .entry)) (now (amounts .entry)) (now (bids .entry))) (now (stations .exit)) (now (charges .exit)) ⌝ }
 {
-    kernels::zero16(stations);
-    kernels::zero32(charges);
     let mut totals = [0u32; MAX_GUESTS];
+    let mut chosen = [0u32; MAX_GUESTS];
     let mut gains = [0u32; MAX_GUESTS];
+    let mut criticals = [0u32; MAX_STATIONS + 1];
     let n = amounts.len();
-    all_stations(
+    assign(
         asks,
         bays,
         amounts,
@@ -198,9 +234,11 @@ fn assign(
         cut,
         least,
         &mut totals[..n],
+        &mut chosen[..n],
+        &mut gains[..n],
+        &mut criticals,
         stations,
         charges,
-        &mut gains[..n],
     );
 }
 
@@ -223,7 +261,7 @@ fn settle(
 {
     let cut = kernels::cut(asks);
     kernels::least_charges(amounts, cut, least);
-    assign(asks, bays, amounts, bids, cut, least, stations, charges);
+    assign_all(asks, bays, amounts, bids, cut, least, stations, charges);
     kernels::sell(stations, amounts, cut, sold, paid);
     let margin = kernels::margin(charges, least);
     Clearing::Cleared {

@@ -1,22 +1,22 @@
 -- Laws of the cut, totals, offers and sales.
 use Prim.Native.Nat.{ℕ, _+_, _*_, _-_, _/_, _≤_, _<_, max}
-use mathlib.Core.Bool.{Bool, true, false, _&&_, _||_}
+use mathlib.Core.Bool.{Bool, true, false}
 use mathlib.Core.List.{List}
 use mathlib.Core.Logic.{⊎-elim}
-use mathlib.Core.Path.{_≡_, refl, sym, ap, _∙_}
+use mathlib.Core.Path.{_≡_, refl, sym, ap, ap₂, _∙_}
 use native.Mathlib.Nat.{le-refl, mul-le-mul}
 use native.Mathlib.Omega.{arith}
-use lib.Dec.{ltb, eqb}
+use lib.Dec.{ltb}
 use lib.ListN.{getD, length, set, length-set, replicate, length-replicate, getD-replicate}
 use lib.Seq.{getD-set-same, getD-set-other}
 use Rattle.auction.specs.Counting.{_<?_, _=?_, _and_, _or_, only, sum, list}
-use Rattle.auction.specs.Limits.{maxPrice, maxAmount}
+use Rattle.auction.specs.Limits.{maxStations, maxPrice, maxAmount}
 use Rattle.auction.specs.Market.{median}
-use Rattle.auction.proofs.Tests.{first, second, or-cases, only-yes, only-no, lt-yes, eq-yes, is-lt, not-lt, is-le, is-eq, not-eq, lt-or-le, eq-or-ne}
-use Rattle.auction.proofs.Counting.{getD-list, list-cong}
-use Rattle.kernels.specs.Scans.{kwhAt, under, eligible}
-use Rattle.kernels.specs.Offers.{pick, totalFor, wonBy, gainFor, chargeAt, gainAt, taken, Offerable, Offered, PaidOut}
-use Rattle.kernels.proofs.Loops.{not-le, or-is, sum-more, sum-end, Filled, filled-none, filled-more, filled-list, is-list}
+use Rattle.auction.proofs.Tests.{both, first, second, and-no, or-cases, or-left, or-right, neither, only-yes, only-no, lt-yes, eq-yes, is-lt, not-lt, is-le, is-eq, not-eq, lt-or-le, eq-or-ne}
+use Rattle.auction.proofs.Counting.{length-list, getD-list, list-cong}
+use Rattle.kernels.specs.Scans.{kwhAt, slots, Tallied, under, eligible}
+use Rattle.kernels.specs.Offers.{pick, totalFor, wonBy, gainFor, chargeAt, gainAt, taken, Offerable, Offered, Chargeable, chargedAt, Charged, PaidOut}
+use Rattle.kernels.proofs.Loops.{not-le, sum-more, sum-end, Filled, filled-none, filled-more, filled-list, is-list}
 
 -- ---- the cut
 
@@ -48,15 +48,35 @@ product x y l h = mul-le-mul l h
 
 -- ---- offers
 
-and-is : (a b : Bool) → (a && b) ≡ (a and b)
-unfolding _and_
-and-is true b = refl
-and-is false b = refl
+or-and-false : (a b : Bool) → (a or (b and false)) ≡ a
+unfolding _or_ _and_
+or-and-false true b = refl
+or-and-false false true = refl
+or-and-false false false = refl
 
--- what the code finds: u and v are total and critical total as mills
-pub won-is : (x t k e : ℕ) {u v : ℕ} {a b : Bool} → a ≡ ltb v u → b ≡ eqb u v → u ≡ x → v ≡ t → (a || (b && ltb k e)) ≡ wonBy x t k e
-unfolding wonBy _<?_ _=?_
-won-is x t k e p q r s = rw (p, q, r, s) (or-is _ _ ∙ ap (λ b. ltb t x or b) (and-is _ _))
+-- above the bar is above the critical total, or at it and below the bound
+above-bar : (x t k e : ℕ) → (t ≡ 0 → e ≡ 0) → (t - only (k <? e) 1 <? x) ≡ wonBy x t k e
+unfolding wonBy only
+above-bar x t k e none = ⊎-elim
+    (λ (l : k < e). rw (is-lt k e l) (⊎-elim
+    (λ (p : t < x). is-lt _ _ (omega arith) ∙ sym (or-left _ _ (is-lt t x p)))
+    (λ (p : x ≤ t). ⊎-elim
+    (λ (q : x ≡ t). is-lt _ _ (above-none l q) ∙ sym (or-right _ _ (both (is-eq x t q) refl)))
+    (λ (q : x ≡ t → ⊥). not-lt _ _ (omega arith) ∙ sym (neither (not-lt t x p) (and-no _ _ (not-eq x t q))))
+    (eq-or-ne x t))
+    (lt-or-le t x)))
+    (λ (l : e ≤ k). rw (not-lt k e l, minus-zero t) (sym (or-and-false (t <? x) (x =? t))))
+    (lt-or-le k e)
+  where
+    minus-zero : (t : ℕ) → t - 0 ≡ t
+    minus-zero t = omega arith
+
+    above-none : k < e → x ≡ t → t - 1 < x
+    above-none l q = ⊎-elim (λ (z : 0 < t). omega arith) (λ (z : t ≤ 0). absurd (omega (arith, none (omega arith)))) (lt-or-le 0 t)
+
+pub won-is : (x t k e : ℕ) {r u v : ℕ} {b : Bool} → (t ≡ 0 → e ≡ 0) → r ≡ t - only (k <? e) 1 → u ≡ r → v ≡ x → b ≡ ltb u v → b ≡ wonBy x t k e
+unfolding _<?_
+won-is x t k e none er eu ev eb = eb ∙ ap₂ ltb (eu ∙ er) ev ∙ above-bar x t k e none
 
 -- whoever wins can pay: its charge is at most its total
 pub won-pays : (x t k e least : ℕ) → (0 < x → least ≤ x) → (t ≡ 0 → e ≡ 0) → wonBy x t k e ≡ true → max least t ≤ x
@@ -78,88 +98,101 @@ unfolding gainFor
 gain-lost w total charge e = sym (only-no w _ e)
 
 -- the lists after the first i guests have been offered a place
-pub record Offering (totals least : List ℕ) (t e s : ℕ) (stations₀ charges₀ gains₀ : List ℕ) (i : ℕ) (stations charges gains : List ℕ) : Type 0 where
-  pub stations-are : Filled (taken gains₀ (gainAt totals least t e) (λ _. s) stations₀) stations₀ stations i
-  pub charges-are : Filled (taken gains₀ (gainAt totals least t e) (chargeAt least t) charges₀) charges₀ charges i
+pub record Offering (totals least : List ℕ) (t e s : ℕ) (chosen₀ gains₀ : List ℕ) (i : ℕ) (chosen gains : List ℕ) : Type 0 where
+  pub chosen-are : Filled (taken gains₀ (gainAt totals least t e) (λ _. s) chosen₀) chosen₀ chosen i
   pub gains-are : Filled (taken gains₀ (gainAt totals least t e) (gainAt totals least t e) gains₀) gains₀ gains i
 
-pub offers-none : {totals least : List ℕ} {t e s : ℕ} {stations charges gains : List ℕ} → Offering totals least t e s stations charges gains 0 stations charges gains
-offers-none = record { stations-are = filled-none; charges-are = filled-none; gains-are = filled-none }
+pub offers-none : {totals least : List ℕ} {t e s : ℕ} {chosen gains : List ℕ} → Offering totals least t e s chosen gains 0 chosen gains
+offers-none = record { chosen-are = filled-none; gains-are = filled-none }
 
--- one guest more: w, c and g are what the code found, and v1, v2 and v3 what it stored
-pub offers-more : {totals least : List ℕ} {t e s : ℕ} {stations₀ charges₀ gains₀ : List ℕ} {i : ℕ} {stations charges gains : List ℕ} {w : Bool} {c g v1 v2 v3 : ℕ}
-    → Offerable totals least t e stations₀ charges₀ gains₀
-    → Offering totals least t e s stations₀ charges₀ gains₀ i stations charges gains → i < length totals
+-- one guest more: w, c and g are what the code found, and v1 and v2 what it stored
+pub offers-more : {totals least : List ℕ} {t e s : ℕ} {chosen₀ gains₀ : List ℕ} {i : ℕ} {chosen gains : List ℕ} {w : Bool} {c g v1 v2 : ℕ}
+    → Offerable totals least t e chosen₀ gains₀
+    → Offering totals least t e s chosen₀ gains₀ i chosen gains → i < length totals
     → w ≡ wonBy (getD totals i 0) t i e → c ≡ max (getD least i 0) t → g ≡ gainFor w (getD totals i 0) c
-    → v1 ≡ pick (getD gains i 0 <? g) s (getD stations i 0)
-    → v2 ≡ pick (getD gains i 0 <? g) c (getD charges i 0)
-    → v3 ≡ pick (getD gains i 0 <? g) g (getD gains i 0)
-    → Offering totals least t e s stations₀ charges₀ gains₀ (i + 1) (set stations i v1) (set charges i v2) (set gains i v3)
+    → v1 ≡ pick (getD gains i 0 <? g) s (getD chosen i 0)
+    → v2 ≡ pick (getD gains i 0 <? g) g (getD gains i 0)
+    → Offering totals least t e s chosen₀ gains₀ (i + 1) (set chosen i v1) (set gains i v2)
 unfolding taken gainAt chargeAt
-offers-more {i = i} o h l ew ec eg e1 e2 e3 = record {
-  stations-are = filled-more (h .stations-are) (omega (arith, o .stations-long)) (cc (h .gains-are .left i (le-refl i), h .stations-are .left i (le-refl i)));
-  charges-are = filled-more (h .charges-are) (omega (arith, o .charges-long)) (cc (h .gains-are .left i (le-refl i), h .charges-are .left i (le-refl i)));
+offers-more {i = i} o h l ew ec eg e1 e2 = record {
+  chosen-are = filled-more (h .chosen-are) (omega (arith, o .chosen-long)) (cc (h .gains-are .left i (le-refl i), h .chosen-are .left i (le-refl i)));
   gains-are = filled-more (h .gains-are) (omega (arith, o .gains-long)) (cc (h .gains-are .left i (le-refl i)));
 }
 
-pub offers-end : {totals least : List ℕ} {t e s : ℕ} {stations₀ charges₀ gains₀ : List ℕ} {i : ℕ} {stations charges gains : List ℕ}
-    → Offerable totals least t e stations₀ charges₀ gains₀ → Offering totals least t e s stations₀ charges₀ gains₀ i stations charges gains → length totals ≤ i
-    → Offered totals least t e s stations₀ charges₀ gains₀ stations charges gains
+pub offers-end : {totals least : List ℕ} {t e s : ℕ} {chosen₀ gains₀ : List ℕ} {i : ℕ} {chosen gains : List ℕ}
+    → Offerable totals least t e chosen₀ gains₀ → Offering totals least t e s chosen₀ gains₀ i chosen gains → length totals ≤ i
+    → Offered totals least t e s chosen₀ gains₀ chosen gains
 offers-end o h b = record {
-  stations-are = filled-list _ (h .stations-are) (o .stations-long) b;
-  charges-are = filled-list _ (h .charges-are) (o .charges-long) b;
+  chosen-are = filled-list _ (h .chosen-are) (o .chosen-long) b;
   gains-are = filled-list _ (h .gains-are) (o .gains-long) b;
 }
 
--- ---- sales by station number: what the first i guests take, in each place below w
+-- ---- charges
+
+pub charged-end : {chosen least criticals stations₀ charges₀ stations charges : List ℕ} {i : ℕ} → Chargeable chosen least criticals stations₀ charges₀
+    → Filled (λ k. getD chosen k 0) stations₀ stations i → Filled (chargedAt chosen least criticals) charges₀ charges i → length chosen ≤ i → Charged chosen least criticals stations charges
+charged-end {chosen} o s c b = record {
+  stations-are = filled-list _ s (o .stations-long) b ∙ sym (is-list _ _ chosen refl (λ k l. refl));
+  charges-are = filled-list _ c (o .charges-long) b;
+}
+
+-- ---- sales by station number: what the first i guests take
 
 unfoldable pub kwhBy : (stations amounts : List ℕ) → ℕ → ℕ → ℕ
 kwhBy stations amounts i s = sum i (λ k. only (getD stations k 0 =? s) (getD amounts k 0))
 
-pub record Tallied (stations amounts : List ℕ) (w i : ℕ) (kwh : List ℕ) : Type 0 where
-  pub long : length kwh ≡ w
-  pub is : (s : ℕ) → s < w → getD kwh s 0 ≡ kwhBy stations amounts i s
-  pub small : (s : ℕ) → s < w → getD kwh s 0 ≤ maxAmount * i
+pub record Tallying (stations amounts : List ℕ) (i : ℕ) (kwh : List ℕ) : Type 0 where
+  pub long : length kwh ≡ slots
+  pub is : (s : ℕ) → 0 < s → s ≤ maxStations → getD kwh s 0 ≡ kwhBy stations amounts i s
+  pub small : (s : ℕ) → s < slots → getD kwh s 0 ≤ maxAmount * i
 
-pub tallied-none : {stations amounts kwh : List ℕ} → kwh ≡ list (length kwh) (λ _. 0) → Tallied stations amounts (length kwh) 0 kwh
+pub tallied-none : {stations amounts kwh : List ℕ} → kwh ≡ list slots (λ _. 0) → Tallying stations amounts 0 kwh
 unfolding kwhBy sum
-tallied-none {kwh = kwh} e = record { long = refl; is = zero-at; small = λ s l. omega (arith, zero-at s l) }
+tallied-none {kwh = kwh} e = record { long = ap length e ∙ length-list slots (λ _. 0); is = λ s p l. zero-at s (omega arith); small = λ s l. omega (arith, zero-at s l) }
   where
-    zero-at : (s : ℕ) → s < length kwh → getD kwh s 0 ≡ 0
-    zero-at s l = ap (λ l. getD l s 0) e ∙ getD-list (length kwh) (λ _. 0) s l
+    zero-at : (s : ℕ) → s < slots → getD kwh s 0 ≡ 0
+    zero-at s l = ap (λ l. getD l s 0) e ∙ getD-list slots (λ _. 0) s l
 
-pub tallied-more : {stations amounts : List ℕ} {w i : ℕ} {kwh : List ℕ} {s v : ℕ} → Tallied stations amounts w i kwh → s ≡ getD stations i 0 → s < w → getD amounts i 0 ≤ maxAmount
-    → v ≡ getD kwh s 0 + getD amounts i 0 → Tallied stations amounts w (i + 1) (set kwh s v)
+-- guest i's kWh are added at r: its number, or past the last number where it has none
+pub tallied-more : {stations amounts : List ℕ} {i : ℕ} {kwh : List ℕ} {s r v : ℕ} → Tallying stations amounts i kwh → s ≡ getD stations i 0
+    → (r < slots) × (0 < s → r ≡ s) × (s ≡ 0 → maxStations < r) → getD amounts i 0 ≤ maxAmount → v ≡ getD kwh r 0 + getD amounts i 0
+    → Tallying stations amounts (i + 1) (set kwh r v)
 unfolding kwhBy
-tallied-more {stations} {amounts} {w} {i} {kwh} {s} {v} h e l a q = record {
-  long = length-set kwh s v ∙ h .long;
-  is = λ k lk. ⊎-elim (λ (z : k ≡ s). rw z here) (λ (z : k ≡ s → ⊥). other k lk z) (eq-or-ne k s);
+tallied-more {stations} {amounts} {i} {kwh} {s} {r} {v} h e (l, here, past) a q = record {
+  long = length-set kwh r v ∙ h .long;
+  is = λ k p lk. ⊎-elim (λ (z : k ≡ r). at-slot k p lk z) (λ (z : k ≡ r → ⊥). other k p lk z) (eq-or-ne k r);
   small = λ k lk. ⊎-elim
-      (λ (z : k ≡ s). rw (z, getD-set-same kwh s v 0 (omega (arith, h .long))) (omega (arith, h .small s l)))
-      (λ (z : k ≡ s → ⊥). rw (getD-set-other kwh s k v 0 z) (omega (arith, h .small k lk)))
-      (eq-or-ne k s);
+      (λ (z : k ≡ r). rw (z, getD-set-same kwh r v 0 (omega (arith, h .long))) (omega (arith, h .small r l)))
+      (λ (z : k ≡ r → ⊥). rw (getD-set-other kwh r k v 0 z) (omega (arith, h .small k lk)))
+      (eq-or-ne k r);
 }
   where
-    here : getD (set kwh s v) s 0 ≡ kwhBy stations amounts (i + 1) s
-    here = getD-set-same kwh s v 0 (omega (arith, h .long))
-        ∙ sum-more (λ k. only (getD stations k 0 =? s) (getD amounts k 0)) i _ v _ (h .is s l) (sym (only-yes _ _ (is-eq _ _ (sym e)))) q
+    -- whoever is added at a station number has it
+    own : r ≤ maxStations → r ≡ s
+    own m = ⊎-elim (λ (z : 0 < s). here z) (λ (z : s ≤ 0). absurd (omega (arith, past (omega arith)))) (lt-or-le 0 s)
 
-    other : (k : ℕ) → k < w → (k ≡ s → ⊥) → getD (set kwh s v) k 0 ≡ kwhBy stations amounts (i + 1) k
-    other k lk z = getD-set-other kwh s k v 0 z
-        ∙ sum-more (λ j. only (getD stations j 0 =? k) (getD amounts j 0)) i _ _ 0 (h .is k lk) (sym (only-no _ _ (not-eq _ _ (λ y. z (sym y ∙ sym e))))) (omega arith)
+    at-slot : (k : ℕ) → 0 < k → k ≤ maxStations → k ≡ r → getD (set kwh r v) k 0 ≡ kwhBy stations amounts (i + 1) k
+    at-slot k p lk z =
+        ap (λ k. getD (set kwh r v) k 0) z ∙ getD-set-same kwh r v 0 (omega (arith, h .long))
+        ∙ sum-more (λ j. only (getD stations j 0 =? k) (getD amounts j 0)) i _ v _ (ap (λ x. getD kwh x 0) (sym z) ∙ h .is k p lk) (sym (only-yes _ _ (is-eq _ _ (omega (arith, own (omega arith)))))) q
 
-pub tallied-end : {stations amounts : List ℕ} {w i : ℕ} {kwh : List ℕ} → Tallied stations amounts w i kwh → i ≤ length amounts → length amounts ≤ i → kwh ≡ list w (kwhAt stations amounts)
+    other : (k : ℕ) → 0 < k → k ≤ maxStations → (k ≡ r → ⊥) → getD (set kwh r v) k 0 ≡ kwhBy stations amounts (i + 1) k
+    other k p lk z = getD-set-other kwh r k v 0 z
+        ∙ sum-more (λ j. only (getD stations j 0 =? k) (getD amounts j 0)) i _ _ 0 (h .is k p lk) (sym (only-no _ _ (not-eq _ _ (λ y. z (sym (e ∙ y) ∙ sym (here (omega arith))))))) (omega arith)
+
+pub tallied-end : {stations amounts : List ℕ} {i : ℕ} {kwh : List ℕ} → Tallying stations amounts i kwh → i ≤ length amounts → length amounts ≤ i → Tallied stations amounts kwh
 unfolding kwhAt kwhBy
-tallied-end h a b = is-list _ _ _ (h .long) (λ s l. sum-end _ _ _ _ (h .is s l) a b)
+tallied-end h a b = record { long = h .long; sales-are = λ s p l. sum-end _ _ _ _ (h .is s p l) a b }
 
-pub zeros : (n : ℕ) → replicate n 0 ≡ list (length (replicate {A = ℕ} n 0)) (λ _. 0)
-zeros n = is-list _ _ _ refl (λ k l. getD-replicate {A = ℕ} n k 0 0 (omega (arith, length-replicate {A = ℕ} n 0)))
+pub zeros : (n : ℕ) → replicate n 0 ≡ list n (λ _. 0)
+zeros n = is-list _ _ _ (length-replicate {A = ℕ} n 0) (λ k l. getD-replicate {A = ℕ} n k 0 0 l)
 
-pub sells : {f : ℕ → ℕ} {w cut m : ℕ} {kwh sold paid : List ℕ} → kwh ≡ list w f → m < w → PaidOut (λ s. getD kwh s 0) cut m sold paid → PaidOut f cut m sold paid
-sells {f} {w} {cut} {m} {kwh} e l h = record {
+pub sells : {stations amounts : List ℕ} {cut m : ℕ} {kwh sold paid : List ℕ} → Tallied stations amounts kwh → m ≤ maxStations → PaidOut (λ s. getD kwh s 0) cut m sold paid
+    → PaidOut (kwhAt stations amounts) cut m sold paid
+sells {stations} {amounts} {cut} {m} {kwh} t l h = record {
   sold-are = h .sold-are ∙ list-cong m _ _ here;
   paid-are = h .paid-are ∙ list-cong m _ _ (λ j lj. ap (λ x. cut * x) (here j lj));
 }
   where
-    here : (j : ℕ) → j < m → getD kwh (j + 1) 0 ≡ f (j + 1)
-    here j lj = ap (λ l. getD l (j + 1) 0) e ∙ getD-list w f (j + 1) (omega arith)
+    here : (j : ℕ) → j < m → getD kwh (j + 1) 0 ≡ kwhAt stations amounts (j + 1)
+    here j lj = t .sales-are (j + 1) (omega arith) (omega arith)

@@ -5,7 +5,7 @@ use mathlib.Core.List.{List}
 use mathlib.Core.Path.{_≡_}
 use lib.ListN.{getD, length}
 use Rattle.auction.specs.Counting.{_<?_, _≤?_, _=?_, _and_, _or_, only, greatest, list}
-use Rattle.auction.specs.Limits.{maxGuests, maxPrice, maxAmount}
+use Rattle.auction.specs.Limits.{maxGuests, maxStations, maxPrice, maxAmount}
 
 unfoldable pub pick : Bool → ℕ → ℕ → ℕ
 pick true a b = a
@@ -48,21 +48,35 @@ unfoldable pub taken : (gains : List ℕ) (gain new : ℕ → ℕ) (old : List �
 taken gains gain new old i = pick (getD gains i 0 <? gain i) (new i) (getD old i 0)
 
 -- what an offer asks of its lists, the critical total t and the bound e
-pub record Offerable (totals least : List ℕ) (t e : ℕ) (stations charges gains : List ℕ) : Type 0 where
+pub record Offerable (totals least : List ℕ) (t e : ℕ) (chosen gains : List ℕ) : Type 0 where
   pub few : length totals ≤ maxGuests
   pub least-long : length least ≡ length totals
-  pub stations-long : length stations ≡ length totals
-  pub charges-long : length charges ≡ length totals
+  pub chosen-long : length chosen ≡ length totals
   pub gains-long : length gains ≡ length totals
   pub totals-low : (k : ℕ) → k < length totals → getD totals k 0 ≤ maxPrice * maxAmount
   pub covers : (k : ℕ) → k < length totals → 0 < getD totals k 0 → getD least k 0 ≤ getD totals k 0
   pub no-tie : t ≡ 0 → e ≡ 0
 
 -- the lists after one station's offers: critical total t, bound e, station number s
-pub record Offered (totals least : List ℕ) (t e s : ℕ) (stations₀ charges₀ gains₀ stations charges gains : List ℕ) : Type 0 where
-  pub stations-are : stations ≡ list (length totals) (taken gains₀ (gainAt totals least t e) (λ _. s) stations₀)
-  pub charges-are : charges ≡ list (length totals) (taken gains₀ (gainAt totals least t e) (chargeAt least t) charges₀)
+pub record Offered (totals least : List ℕ) (t e s : ℕ) (chosen₀ gains₀ chosen gains : List ℕ) : Type 0 where
+  pub chosen-are : chosen ≡ list (length totals) (taken gains₀ (gainAt totals least t e) (λ _. s) chosen₀)
   pub gains-are : gains ≡ list (length totals) (taken gains₀ (gainAt totals least t e) (gainAt totals least t e) gains₀)
+
+-- what charging asks of its lists: numbers of stations, and a critical total for each
+pub record Chargeable (chosen least criticals stations charges : List ℕ) : Type 0 where
+  pub least-long : length least ≡ length chosen
+  pub stations-long : length stations ≡ length chosen
+  pub charges-long : length charges ≡ length chosen
+  pub numbers : (k : ℕ) → k < length chosen → getD chosen k 0 ≤ maxStations
+  pub criticals-long : maxStations < length criticals
+
+-- guest i's charge at the station chosen, 0 for none
+unfoldable pub chargedAt : (chosen least criticals : List ℕ) → ℕ → ℕ
+chargedAt chosen least criticals i = only (0 <? getD chosen i 0) (max (getD least i 0) (getD criticals (getD chosen i 0) 0))
+
+pub record Charged (chosen least criticals stations charges : List ℕ) : Type 0 where
+  pub stations-are : stations ≡ chosen
+  pub charges-are : charges ≡ list (length chosen) (chargedAt chosen least criticals)
 
 -- what each of m stations sold, by the kWh of each station number, and what it is paid
 pub record PaidOut (kwh : ℕ → ℕ) (cut m : ℕ) (sold paid : List ℕ) : Type 0 where

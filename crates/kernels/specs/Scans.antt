@@ -4,6 +4,7 @@ use mathlib.Core.List.{List}
 use mathlib.Core.Path.{_≡_}
 use lib.ListN.{getD, length}
 use Rattle.auction.specs.Counting.{_<?_, _≤?_, _=?_, only, sum, greatest, count}
+use Rattle.auction.specs.Limits.{maxStations}
 use Rattle.auction.specs.Market.{median}
 
 -- how many elements are above t; how many of the first i are t
@@ -35,6 +36,14 @@ pub record TieBound (l : List ℕ) (t a b e : ℕ) : Type 0 where
 -- the amounts of the guests whose station number is s
 unfoldable pub kwhAt : (stations amounts : List ℕ) → ℕ → ℕ
 kwhAt stations amounts s = sum (length amounts) (λ k. only (getD stations k 0 =? s) (getD amounts k 0))
+
+-- the kWh of each station number in a table; those with none take the places past the last number
+abbrev pub slots : ℕ
+slots = 45
+
+pub record Tallied (stations amounts kwh : List ℕ) : Type 0 where
+  pub long : length kwh ≡ slots
+  pub sales-are : (s : ℕ) → 0 < s → s ≤ maxStations → getD kwh s 0 ≡ kwhAt stations amounts s
 
 -- how many asks lie below x; x where fewer than p do
 unfoldable pub under : List ℕ → ℕ → ℕ

@@ -1,5 +1,6 @@
 // Loops over slices for the clearing: scans, counts, totals, offers, sums. A function with `requires` is public only because
 // the crate `clearing` calls it, which checks its tables first. Slices hold plain numbers; inside, prices and money have their types.
+use auction::MAX_STATIONS;
 use auction::Mills;
 use auction::UnitPrice;
 ghost use mathlib.Core.Bool.{true};
@@ -9,8 +10,8 @@ ghost use lib.ListN.{length, getD};
 ghost use Rattle.auction.specs.Counting.{_<?_, _≤?_, _=?_, only, sum, any, list};
 ghost use Rattle.auction.specs.Limits.{maxGuests, maxStations, maxPrice, maxAmount};
 ghost use Rattle.auction.specs.Faults.{outside};
-ghost use Rattle.kernels.specs.Scans.{above, greatestUpTo, Selected, TieBound, kwhAt, under, eligible, medianAsk};
-ghost use Rattle.kernels.specs.Offers.{pick, totalFor, totalAt, Gathered, leastAt, wonBy, gainFor, Offerable, Offered, PaidOut};
+ghost use Rattle.kernels.specs.Scans.{above, greatestUpTo, Selected, TieBound, kwhAt, slots, Tallied, under, eligible, medianAsk};
+ghost use Rattle.kernels.specs.Offers.{pick, totalFor, totalAt, Gathered, leastAt, wonBy, gainFor, Offerable, Offered, Chargeable, Charged, PaidOut};
 
 // Whether an element is outside low to high. No way out before the end: several elements a step.
 pub fn any_outside32(xs: &[u32], low: u32, high: u32) -> bool
@@ -269,13 +270,20 @@ fn charge_for(least: u32, critical: u32) -> u32
     Mills::wide(least).larger(Mills::wide(critical)).narrow()
 }
 
+// The total that guest k must be above: the critical total, or one less for whoever wins its tie.
+fn bar(critical: u32, k: u32, bound: u32) -> u32
+    requires { ⌜ (critical ≡ 0 → bound ≡ 0) ⌝ }
+    ensures { λ r. ⌜ r ≡ critical - only (k <? bound) 1 ⌝ }
+{
+    if k < bound { critical - 1 } else { critical }
+}
+
 // Whether guest k of this total wins a place: above the critical total, or at it and below the bound.
 fn wins(total: u32, critical: u32, k: u32, bound: u32) -> bool
+    requires { ⌜ (critical ≡ 0 → bound ≡ 0) ⌝ }
     ensures { λ r. ⌜ r ≡ wonBy total critical k bound ⌝ }
 {
-    let own = Mills::wide(total);
-    let other = Mills::wide(critical);
-    other.below(own) | (own.same(other) & (k < bound))
+    Mills::wide(bar(critical, k, bound)).below(Mills::wide(total))
 }
 
 // One more than total less charge where a place is won, so that 0 is no place.
@@ -290,31 +298,24 @@ fn gain_for(won: bool, total: u32, charge: u32) -> u32
     }
 }
 
-fn pick16(old: u32, new: u32, a: u16, b: u16) -> u16
-    ensures { λ r. ⌜ r ≡ pick (old <? new) a b ⌝ }
-{
-    if old < new { a } else { b }
-}
-
 fn pick32(old: u32, new: u32, a: u32, b: u32) -> u32
     ensures { λ r. ⌜ r ≡ pick (old <? new) a b ⌝ }
 {
     if old < new { a } else { b }
 }
 
-// One station's offers to every guest: where an offer gains more than the best so far, it is taken.
+// One station's offers to every guest: where an offer gains more than the best so far, it is chosen.
 pub fn offer(
     totals: &[u32],
     least: &[u32],
     critical: u32,
     bound: u32,
-    station: u16,
-    stations: &mut [u16],
-    charges: &mut [u32],
+    station: u32,
+    chosen: &mut [u32],
     gains: &mut [u32],
 )
-    requires { ⌜ Offerable (now totals) (now least) critical bound (now stations) (now charges) (now gains) ⌝ }
-    ensures { λ _. ⌜ Offered (now (totals .entry)) (now (least .entry)) critical bound station (now (stations .entry)) (now (charges .entry)) (now (gains .entry)) (now (stations .exit)) (now (charges .exit)) (now (gains .exit)) ⌝ }
+    requires { ⌜ Offerable (now totals) (now least) critical bound (now chosen) (now gains) ⌝ }
+    ensures { λ _. ⌜ Offered (now (totals .entry)) (now (least .entry)) critical bound station (now (chosen .entry)) (now (gains .entry)) (now (chosen .exit)) (now (gains .exit)) ⌝ }
 {
     let mut i = 0;
     while i < totals.len() {
@@ -322,44 +323,64 @@ pub fn offer(
         let charge = charge_for(least[i], critical);
         let gain = gain_for(wins(total, critical, i as u32, bound), total, charge);
         let old = gains[i];
-        stations[i] = pick16(old, gain, station, stations[i]);
-        charges[i] = pick32(old, gain, charge, charges[i]);
+        chosen[i] = pick32(old, gain, station, chosen[i]);
         gains[i] = pick32(old, gain, gain, old);
         i += 1;
     }
 }
 
-pub fn zero16(xs: &mut [u16])
-    ensures { λ _. ⌜ now (xs .exit) ≡ list (length (now (xs .entry))) (λ _. 0) ⌝ }
+// The charge at a station by its number and critical total; nothing at number 0, which is none.
+fn charge_at(station: u32, least: u32, critical: u32) -> u32
+    ensures { λ r. ⌜ r ≡ only (0 <? station) (max least critical) ⌝ }
+{
+    if 0 < station {
+        charge_for(least, critical)
+    } else {
+        0
+    }
+}
+
+// Each guest's station and charge, from the station chosen and the critical total of each station number.
+pub fn charge_guests(
+    chosen: &[u32],
+    least: &[u32],
+    criticals: &[u32],
+    stations: &mut [u16],
+    charges: &mut [u32],
+)
+    requires { ⌜ Chargeable (now chosen) (now least) (now criticals) (now stations) (now charges) ⌝ }
+    ensures { λ _. ⌜ Charged (now (chosen .entry)) (now (least .entry)) (now (criticals .entry)) (now (stations .exit)) (now (charges .exit)) ⌝ }
 {
     let mut i = 0;
-    while i < xs.len() {
-        xs[i] = 0;
+    while i < chosen.len() {
+        let s = chosen[i];
+        let critical = criticals[s as usize];
+        stations[i] = s as u16;
+        charges[i] = charge_at(s, least[i], critical);
         i += 1;
     }
 }
 
-pub fn zero32(ys: &mut [u32])
-    ensures { λ _. ⌜ now (ys .exit) ≡ list (length (now (ys .entry))) (λ _. 0) ⌝ }
+// Where the kWh of guest i with station number s are added. Those with none spread over the places past the last number:
+// in one place, each addition would wait for the one before.
+fn slot(s: usize, i: usize) -> usize
+    requires { ⌜ s ≤ maxStations ⌝ }
+    ensures { λ r. ⌜ (r < slots) × (0 < s → r ≡ s) × (s ≡ 0 → maxStations < r) ⌝ }
 {
-    let mut i = 0;
-    while i < ys.len() {
-        ys[i] = 0;
-        i += 1;
-    }
+    if 0 < s { s } else { MAX_STATIONS + 1 + i % 4 }
 }
 
-// The kWh of each station number: kwh[s] is what the guests with that number take, 0 for those with none.
+// The kWh of each station number: kwh[s] is what the guests with that number take.
 fn tally_sales(stations: &[u16], amounts: &[u16], kwh: &mut [u32])
     requires { ⌜ (length (now stations) ≡ length (now amounts)) × (length (now amounts) ≤ maxGuests) ⌝ }
     requires { ⌜ ((k : ℕ) → k < length (now amounts) → getD (now amounts) k 0 ≤ maxAmount) ⌝ }
-    requires { ⌜ ((k : ℕ) → k < length (now amounts) → getD (now stations) k 0 < length (now kwh)) ⌝ }
-    requires { ⌜ now kwh ≡ list (length (now kwh)) (λ _. 0) ⌝ }
-    ensures { λ _. ⌜ now (kwh .exit) ≡ list (length (now (kwh .entry))) (kwhAt (now (stations .entry)) (now (amounts .entry))) ⌝ }
+    requires { ⌜ ((k : ℕ) → k < length (now amounts) → getD (now stations) k 0 ≤ maxStations) ⌝ }
+    requires { ⌜ now kwh ≡ list slots (λ _. 0) ⌝ }
+    ensures { λ _. ⌜ Tallied (now (stations .entry)) (now (amounts .entry)) (now (kwh .exit)) ⌝ }
 {
     let mut i = 0;
     while i < amounts.len() {
-        let s = stations[i] as usize;
+        let s = slot(stations[i] as usize, i);
         let x = amounts[i] as u32;
         kwh[s] = kwh[s] + x;
         i += 1;
@@ -389,7 +410,7 @@ pub fn sell(stations: &[u16], amounts: &[u16], cut: UnitPrice, sold: &mut [u32],
     requires { ⌜ (length (now sold) ≤ maxStations) × (length (now paid) ≡ length (now sold)) ⌝ }
     ensures { λ _. ⌜ PaidOut (kwhAt (now (stations .entry)) (now (amounts .entry))) (cut .0) (length (now (sold .entry))) (now (sold .exit)) (now (paid .exit)) ⌝ }
 {
-    let mut kwh = [0u32; 41];
+    let mut kwh = [0u32; 45];
     tally_sales(stations, amounts, &mut kwh);
     pay_out(&kwh, cut, sold, paid);
 }

@@ -1,20 +1,19 @@
+use borrow.Author.Needs.{needs}
+use Rattle.clearing.proofs.all_stations.Statement.{statement}
+use Rattle.clearing.proofs.all_stations.Tie as tie
 use Prim.Native.Nat.{_-_, _≤_}
 use mathlib.Core.Path.{_≡_, sym, _∙_}
 use native.Mathlib.Omega.{arith}
 use lib.ListN.{length}
-use borrow.Author.Needs.{needs}
 use Rattle.auction.specs.Outcome.{seen}
 use Rattle.clearing.specs.Stages.{regular, After}
 use Rattle.clearing.proofs.Turns.{long, after-end}
-use Rattle.clearing.proofs.all_stations.Statement.{statement}
-use Rattle.clearing.proofs.all_stations.Tie as tie
 
 abbrev Inv-loop : tie.InvT-loop
-Inv-loop asks bays amounts bids cut least totals₀ stations₀ charges₀ gains₀ j₀ totals stations charges gains j =
-    (j ≤ length asks) × (length totals ≡ length amounts) × After (seen (regular asks bays amounts bids)) (length amounts) j stations charges gains
+Inv-loop asks bays amounts bids cut least totals₀ chosen₀ gains₀ criticals₀ j₀ totals chosen gains criticals j = (j ≤ length asks) × (length totals ≡ length amounts) × After (seen (regular asks bays amounts bids)) (length amounts) j chosen gains criticals
 
 abbrev μ-loop : tie.MeasureT-loop
-μ-loop asks bays amounts bids cut least totals₀ stations₀ charges₀ gains₀ j₀ totals stations charges gains j = length asks - j
+μ-loop asks bays amounts bids cut least totals₀ chosen₀ gains₀ criticals₀ j₀ totals chosen gains criticals j = length asks - j
 
 loop-holds : tie.Need-loop-holds Inv-loop μ-loop
 loop-holds c = (search needs, c .before .before .before .before .before .before .before .before .before .pre .1 .0, c .before .before .before .before .before .before .before .before .before .pre .1 .1)
@@ -35,13 +34,13 @@ same-length : tie.Need-same-length Inv-loop μ-loop
 same-length c = search needs
 
 same-length-2 : tie.Need-same-length-2 Inv-loop μ-loop
-same-length-2 c = long _ _ (c .before .loop .inv .2 .stations-are) ∙ sym (long _ _ (c .before .before .before .before .before .before .before .before .before .before .before .pre .1 .1 .stations-are))
+same-length-2 c = long _ _ (c .before .loop .inv .2 .chosen-are) ∙ sym (long _ _ (c .before .before .before .before .before .before .before .before .before .before .before .pre .1 .1 .chosen-are))
 
 same-length-3 : tie.Need-same-length-3 Inv-loop μ-loop
-same-length-3 c = long _ _ (c .before .loop .inv .2 .charges-are) ∙ sym (long _ _ (c .before .before .before .before .before .before .before .before .before .before .before .pre .1 .1 .charges-are))
+same-length-3 c = long _ _ (c .before .loop .inv .2 .gains-are) ∙ sym (long _ _ (c .before .before .before .before .before .before .before .before .before .before .before .pre .1 .1 .gains-are))
 
 same-length-4 : tie.Need-same-length-4 Inv-loop μ-loop
-same-length-4 c = long _ _ (c .before .loop .inv .2 .gains-are) ∙ sym (long _ _ (c .before .before .before .before .before .before .before .before .before .before .before .pre .1 .1 .gains-are))
+same-length-4 c = c .before .loop .inv .2 .criticals-long ∙ sym (c .before .before .before .before .before .before .before .before .before .before .before .pre .1 .1 .criticals-long)
 
 returns : tie.Need-returns Inv-loop μ-loop
 returns c = after-end (c .before .loop .inv .2) (c .before .loop .inv .0) (c .loop-test .left)

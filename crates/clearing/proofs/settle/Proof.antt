@@ -13,15 +13,15 @@ cut-requires c κs = search needs
 least-charges-requires : tie.Need-least-charges-requires
 least-charges-requires c κs = ((c .before .before .before .before .before .before .before .before .before .before .before .pre .1 .1, cut-low (regular _ _ _ _) _ (c .before .before .before .before .before .before .before .before .before .before .before .pre .0) (c .before .cut .ensures)), c .before .before .before .before .before .before .before .before .before .before .before .pre .0 .amount-most)
 
-assign-requires : tie.Need-assign-requires
-assign-requires c κs =
+assign-all-requires : tie.Need-assign-all-requires
+assign-all-requires c κs =
     let start = c .before .before .before .before .before .before .before .before .before .before .before .before .before .before .before .before .before in
     (at-cut (regular _ _ _ _) (start .pre .0) (c .before .before .before .before .before .before .before .cut .ensures) (c .before .before .before .before .before .least-charges .ensures), (start .pre .1 .0 .stations-long, start .pre .1 .0 .charges-long))
 
 sell-requires : tie.Need-sell-requires
 sell-requires c κs =
     let start = c .before .before .before .before .before .before .before .before .before .before .before .before .before .before .before .before .before .before .before .before .before .before .before .before .before in
-    let done = c .before .before .before .before .before .before .before .assign .ensures in (
+    let done = c .before .before .before .before .before .before .before .assign-all .ensures in (
       (stations-count (regular _ _ _ _) done, start .pre .0 .guests-most),
       (
         start .pre .0 .amount-most,
@@ -31,7 +31,7 @@ sell-requires c κs =
 
 margin-requires : tie.Need-margin-requires
 margin-requires c κs =
-    let many = charges-count (regular _ _ _ _) (c .before .before .before .before .before .before .before .before .before .before .before .before .before .before .assign .ensures) in
+    let many = charges-count (regular _ _ _ _) (c .before .before .before .before .before .before .before .before .before .before .before .before .before .before .assign-all .ensures) in
     (long _ _ (c .before .before .before .before .before .before .before .before .before .before .before .before .before .before .before .before .before .before .before .before .least-charges .ensures) ∙ sym many, omega (arith, many, c .before .before .before .before .before .before .before .before .before .before .before .before .before .before .before .before .before .before .before .before .before .before .before .before .before .before .before .before .before .before .before .before .pre .0 .guests-most))
 
 same-length : tie.Need-same-length
@@ -50,7 +50,7 @@ same-length-5 : tie.Need-same-length-5
 same-length-5 c = search needs
 
 returns : tie.Need-returns
-returns c = settles (regular _ _ _ _) (c .before .before .before .before .before .before .before .before .before .before .before .before .before .before .before .assign .ensures) (at-cut (regular _ _ _ _) (c .before .before .before .before .before .before .before .before .before .before .before .before .before .before .before .before .before .before .before .before .before .before .before .before .before .before .before .before .before .before .before .before .before .pre .0) (c .before .before .before .before .before .before .before .before .before .before .before .before .before .before .before .before .before .before .before .before .before .before .before .cut .ensures) (c .before .before .before .before .before .before .before .before .before .before .before .before .before .before .before .before .before .before .before .before .before .least-charges .ensures)) (c .before .before .before .before .before .before .before .before .before .before .before .before .before .before .before .before .before .before .before .before .before .before .before .before .before .before .before .before .before .before .before .before .before .pre .1 .0 .sold-long) (c .before .before .before .before .before .before .before .sell .ensures) (c .margin .ensures)
+returns c = settles (regular _ _ _ _) (c .before .before .before .before .before .before .before .before .before .before .before .before .before .before .before .assign-all .ensures) (at-cut (regular _ _ _ _) (c .before .before .before .before .before .before .before .before .before .before .before .before .before .before .before .before .before .before .before .before .before .before .before .before .before .before .before .before .before .before .before .before .before .pre .0) (c .before .before .before .before .before .before .before .before .before .before .before .before .before .before .before .before .before .before .before .before .before .before .before .cut .ensures) (c .before .before .before .before .before .before .before .before .before .before .before .before .before .before .before .before .before .before .before .before .before .least-charges .ensures)) (c .before .before .before .before .before .before .before .before .before .before .before .before .before .before .before .before .before .before .before .before .before .before .before .before .before .before .before .before .before .before .before .before .before .pre .1 .0 .sold-long) (c .before .before .before .before .before .before .before .sell .ensures) (c .margin .ensures)
 
 pub settle-spec : {M : Type 1} → statement M
 settle-spec =
@@ -58,7 +58,7 @@ settle-spec =
     (tie.spec
     cut-requires
     least-charges-requires
-    assign-requires
+    assign-all-requires
     sell-requires
     margin-requires
     same-length

@@ -1,12 +1,13 @@
-use mathlib.Core.Path.{refl, sym, _∙_}
-use native.Mathlib.Omega.{arith}
 use borrow.Author.Needs.{needs}
-use borrow.Author.Tests.{ltb-true, ltb-false}
-use Rattle.kernels.proofs.Selection.{above-greatest}
-use Rattle.clearing.specs.Stages.{regular}
-use Rattle.clearing.proofs.Turns.{long, few-above, offerable, shut, turned}
 use Rattle.clearing.proofs.station.Statement.{statement}
 use Rattle.clearing.proofs.station.Tie as tie
+use mathlib.Core.Path.{refl, sym, _∙_}
+use native.Mathlib.Omega.{arith}
+use borrow.Author.Tests.{ltb-true, ltb-false}
+use Rattle.kernels.proofs.Selection.{above-greatest}
+use Rattle.auction.specs.Limits.{maxGuests}
+use Rattle.clearing.specs.Stages.{regular}
+use Rattle.clearing.proofs.Turns.{long, few-above, offerable, shut, turned}
 
 mul-ask : tie.Need-mul-ask
 mul-ask c = search needs
@@ -18,13 +19,13 @@ below-requires : tie.Need-below-requires
 below-requires c κs = search needs
 
 gather-requires : tie.Need-gather-requires
-gather-requires c κs = (c .before .before .before .before .before .before .before .before .before .before .before .before .before .pre .0 .within .bids-length, ((c .before .before .before .before .before .before .before .before .before .before .before .before .before .pre .1 .0 .0, c .before .before .before .before .before .before .before .before .before .before .before .before .before .pre .1 .0 .1), (c .before .before .before .before .before .before .before .before .before .before .before .before .before .pre .0 .within .bid-most, c .before .before .before .before .before .before .before .before .before .before .before .before .before .pre .0 .within .amount-most)))
+gather-requires c κs = search needs
 
 mul-b : tie.Need-mul-b
-mul-b c = omega (arith, c .before .before .before .before .before .before .before .before .before .before .before .before .before .before .before .before .pre .0 .within .bays-length, c .before .before .before .before .before .before .before .before .before .before .before .before .before .before .before .before .pre .1 .0 .0)
+mul-b c = search needs
 
 shared-slice-read-b : tie.Need-shared-slice-read-b
-shared-slice-read-b c = omega (arith, c .before .before .before .before .before .before .before .before .before .before .before .before .before .before .before .before .before .pre .0 .within .bays-length, c .before .before .before .before .before .before .before .before .before .before .before .before .before .before .before .before .before .pre .1 .0 .0)
+shared-slice-read-b c = search needs
 
 cast-b : tie.Need-cast-b
 cast-b c = omega (arith, c .shared-slice-known7 .given (c .before .before .before .before .before .before .before .before .before .before .before .before .before .before .before .before .before .args .j))
@@ -35,18 +36,22 @@ critical-total-requires c κs =
     (omega (arith, long _ _ (g .totals-are), c .before .before .before .before .before .before .before .before .before .before .before .before .before .before .before .before .before .before .pre .0 .within .guests-most), rw (g .greatest-is) (above-greatest _ _ _ (g .totals-are)))
 
 tie-bound-requires : tie.Need-tie-bound-requires
-tie-bound-requires c κs =
-    let n = long _ _ (c .before .before .before .before .before .before .gather .ensures .totals-are) in
-    (omega (arith, n, c .before .before .before .before .before .before .before .before .before .before .before .before .before .before .before .before .before .before .before .before .pre .0 .within .guests-most), few-above _ (c .before .critical-total .ensures) (omega (arith, n, c .before .before .before .before .before .before .before .before .before .before .before .before .before .before .before .before .before .before .before .before .pre .0 .within .guests-most)))
+tie-bound-requires c κs = (omega (arith, long _ _ (c .before .before .before .before .before .before .gather .ensures .totals-are), c .before .before .before .before .before .before .before .before .before .before .before .before .before .before .before .before .before .before .before .before .pre .0 .within .guests-most), few-above maxGuests (c .before .critical-total .ensures) (omega (arith, long _ _ (c .before .before .before .before .before .before .gather .ensures .totals-are), c .before .before .before .before .before .before .before .before .before .before .before .before .before .before .before .before .before .before .before .before .pre .0 .within .guests-most)))
 
-add-offer : tie.Need-add-offer
-add-offer c = omega (arith, c .before .before .before .before .before .before .before .before .before .before .before .before .before .before .before .before .before .before .before .before .before .before .pre .1 .0 .0, c .before .before .before .before .before .before .before .before .before .before .before .before .before .before .before .before .before .before .before .before .before .before .pre .0 .within .stations-most)
+add-s : tie.Need-add-s
+add-s c = search needs
+
+mul-criticals : tie.Need-mul-criticals
+mul-criticals c = search needs
+
+slice-write-criticals : tie.Need-slice-write-criticals
+slice-write-criticals c = search needs
 
 cast-offer : tie.Need-cast-offer
-cast-offer c = omega (arith, c .before .before .before .before .before .before .before .before .before .before .before .before .before .before .before .before .before .before .before .before .before .before .pre .1 .0 .0, c .before .before .before .before .before .before .before .before .before .before .before .before .before .before .before .before .before .before .before .before .before .before .pre .0 .within .stations-most)
+cast-offer c = search needs
 
 offer-requires : tie.Need-offer-requires
-offer-requires c κs = offerable (regular _ _ _ _) _ _ (c .before .before .before .before .before .before .before .before .before .before .before .before .before .before .before .before .before .before .before .before .before .before .before .before .before .pre .0) (c .before .before .before .before .before .before .before .before .before .before .before .before .before .before .before .before .before .before .before .before .before .before .before .before .before .pre .1 .0 .0) (c .before .before .before .before .before .before .before .before .before .before .before .gather .ensures .totals-are) (c .before .before .before .before .tie-bound .ensures) (c .before .before .before .before .before .before .before .before .before .before .before .before .before .before .before .before .before .before .before .before .before .before .before .before .before .pre .1 .1)
+offer-requires c κs = offerable (regular _ _ _ _) _ _ (c .before .before .before .before .before .before .before .before .before .before .before .before .before .before .before .before .before .before .before .before .before .before .before .before .pre .0) (c .before .before .before .before .before .before .before .before .before .before .before .before .before .before .before .before .before .before .before .before .before .before .before .before .pre .1 .0 .0) (c .before .before .before .before .before .before .before .before .before .before .gather .ensures .totals-are) (c .before .before .before .tie-bound .ensures) (c .before .before .before .before .before .before .before .before .before .before .before .before .before .before .before .before .before .before .before .before .before .before .before .before .pre .1 .1)
 
 same-length : tie.Need-same-length
 same-length c = search needs
@@ -62,9 +67,9 @@ same-length-4 c = search needs
 
 returns : tie.Need-returns
 returns c =
-    let critical = c .before .before .before .before .before .before .before .before .before .before .before .before .before .critical-total .ensures in
-    turned (regular _ _ _ _) _ _ (c .before .before .before .before .before .before .before .before .before .before .before .before .before .before .before .before .before .before .before .before .before .before .before .before .before .before .before .before .before .before .before .before .pre .0) _ (c .before .before .before .before .before .before .before .before .before .before .before .before .before .before .before .before .before .before .before .before .before .before .before .before .before .before .before .before .before .before .before .before .pre .1 .0 .0) (ltb-true _ _ (sym (c .before .before .before .before .before .before .before .before .before .before .before .before .before .before .before .before .before .before .before .before .before .below .ensures) ∙ c .before .before .before .before .before .before .before .before .before .before .before .before .before .before .before .before .before .before .before .before .if1 .taken))
-    _ (c .before .before .before .before .before .before .before .before .before .before .before .before .before .before .before .before .before .before .gather .ensures .totals-are) _ _ _ refl (critical .least-few) (rw (← critical .counted) (c .before .before .before .before .before .before .before .before .before .before .before .tie-bound .ensures)) _ refl (c .before .before .before .before .before .before .before .before .before .before .before .before .before .before .before .before .before .before .before .before .before .before .before .before .before .before .before .before .before .before .before .before .pre .1 .1) (c .before .before .before .before .before .before .offer .ensures)
+    let critical = c .before .before .before .before .before .before .before .before .before .before .critical-total .ensures in
+    turned (regular _ _ _ _) _ _ (c .before .before .before .before .before .before .before .before .before .before .before .before .before .before .before .before .before .before .before .before .before .before .before .before .before .before .before .before .before .pre .0) _ (c .before .before .before .before .before .before .before .before .before .before .before .before .before .before .before .before .before .before .before .before .before .before .before .before .before .before .before .before .before .pre .1 .0 .0) (ltb-true _ _ (sym (c .before .before .before .before .before .before .before .before .before .before .before .before .before .before .before .before .before .before .below .ensures) ∙ c .before .before .before .before .before .before .before .before .before .before .before .before .before .before .before .before .before .if1 .taken))
+    _ (c .before .before .before .before .before .before .before .before .before .before .before .before .before .before .before .gather .ensures .totals-are) _ _ _ refl (critical .least-few) (rw (← critical .counted) (c .before .before .before .before .before .before .before .before .tie-bound .ensures)) _ refl (c .before .before .before .before .before .before .before .before .before .before .before .before .before .before .before .before .before .before .before .before .before .before .before .before .before .before .before .before .before .pre .1 .1) (c .before .before .before .before .offer .ensures)
 
 returns-2 : tie.Need-returns-2
 returns-2 c = shut (regular _ _ _ _) _ _ (c .before .before .before .before .before .before .before .before .before .before .before .before .pre .0) (ltb-false _ _ (sym (c .before .below .ensures) ∙ c .if1 .left)) (c .before .before .before .before .before .before .before .before .before .before .before .before .pre .1 .1)
@@ -82,7 +87,9 @@ station-spec =
     cast-b
     critical-total-requires
     tie-bound-requires
-    add-offer
+    add-s
+    mul-criticals
+    slice-write-criticals
     cast-offer
     offer-requires
     same-length

@@ -1,18 +1,17 @@
+use borrow.Author.Needs.{needs}
+use Rattle.kernels.proofs.offer.Statement.{statement}
+use Rattle.kernels.proofs.offer.Tie as tie
 use Prim.Native.Nat.{_-_, _≤_}
 use mathlib.Core.Path.{sym, _∙_}
 use native.Mathlib.Omega.{arith}
 use lib.ListN.{length}
-use borrow.Author.Needs.{needs}
 use Rattle.kernels.proofs.Offers.{won-pays, Offering, offers-none, offers-more, offers-end}
-use Rattle.kernels.proofs.offer.Statement.{statement}
-use Rattle.kernels.proofs.offer.Tie as tie
 
 abbrev Inv-loop : tie.InvT-loop
-Inv-loop totals least critical bound station stations₀ charges₀ gains₀ i₀ stations charges gains i =
-    (i ≤ length totals) × Offering totals least critical bound station stations₀ charges₀ gains₀ i stations charges gains
+Inv-loop totals least critical bound station chosen₀ gains₀ i₀ chosen gains i = (i ≤ length totals) × Offering totals least critical bound station chosen₀ gains₀ i chosen gains
 
 abbrev μ-loop : tie.MeasureT-loop
-μ-loop totals least critical bound station stations₀ charges₀ gains₀ i₀ stations charges gains i = length totals - i
+μ-loop totals least critical bound station chosen₀ gains₀ i₀ chosen gains i = length totals - i
 
 loop-holds : tie.Need-loop-holds Inv-loop μ-loop
 loop-holds c = (search needs, offers-none)
@@ -40,8 +39,8 @@ wins-requires c κs = search needs
 
 gain-for-requires : tie.Need-gain-for-requires Inv-loop μ-loop
 gain-for-requires c κs = (
-  c .before .before .before .before .before .before .before .before .before .before .before .pre .totals-low _ (c .before .before .before .before .loop-test .taken),
-  (λ w. rw (c .before .charge-for .ensures) (won-pays _ _ _ _ _ (c .before .before .before .before .before .before .before .before .before .before .before .pre .covers _ (c .before .before .before .before .loop-test .taken)) (c .before .before .before .before .before .before .before .before .before .before .before .pre .no-tie) (sym (c .wins .ensures) ∙ w))),
+  c .before .before .before .before .before .before .before .before .before .before .pre .totals-low _ (c .before .before .before .before .loop-test .taken),
+  (λ w. rw (c .before .charge-for .ensures) (won-pays _ _ _ _ _ (c .before .before .before .before .before .before .before .before .before .before .pre .covers _ (c .before .before .before .before .loop-test .taken)) (c .before .before .before .before .before .before .before .before .before .before .pre .no-tie) (sym (c .wins .ensures) ∙ w))),
 )
 
 mul-old : tie.Need-mul-old Inv-loop μ-loop
@@ -49,21 +48,6 @@ mul-old c = search needs
 
 slice-read-old : tie.Need-slice-read-old Inv-loop μ-loop
 slice-read-old c = search needs
-
-mul-pick16 : tie.Need-mul-pick16 Inv-loop μ-loop
-mul-pick16 c = search needs
-
-slice-read-pick16 : tie.Need-slice-read-pick16 Inv-loop μ-loop
-slice-read-pick16 c = search needs
-
-pick16-requires : tie.Need-pick16-requires Inv-loop μ-loop
-pick16-requires c κs = search needs
-
-mul-stations : tie.Need-mul-stations Inv-loop μ-loop
-mul-stations c = search needs
-
-slice-write-stations : tie.Need-slice-write-stations Inv-loop μ-loop
-slice-write-stations c = search needs
 
 mul-pick32 : tie.Need-mul-pick32 Inv-loop μ-loop
 mul-pick32 c = search needs
@@ -74,11 +58,11 @@ slice-read-pick32 c = search needs
 pick32-requires : tie.Need-pick32-requires Inv-loop μ-loop
 pick32-requires c κs = search needs
 
-mul-charges : tie.Need-mul-charges Inv-loop μ-loop
-mul-charges c = search needs
+mul-chosen : tie.Need-mul-chosen Inv-loop μ-loop
+mul-chosen c = search needs
 
-slice-write-charges : tie.Need-slice-write-charges Inv-loop μ-loop
-slice-write-charges c = search needs
+slice-write-chosen : tie.Need-slice-write-chosen Inv-loop μ-loop
+slice-write-chosen c = search needs
 
 pick32-requires-2 : tie.Need-pick32-requires-2 Inv-loop μ-loop
 pick32-requires-2 c κs = search needs
@@ -98,8 +82,7 @@ loop-less c = search needs
 loop-again : tie.Need-loop-again Inv-loop μ-loop
 loop-again c = (
   omega arith,
-  offers-more (c .before .before .before .before .before .before .before .before .before .before .before .before .before .before .before .before .before .before .pre) (c .before .before .before .before .before .before .before .before .before .before .before .before .loop .inv .1) (c .before .before .before .before .before .before .before .before .before .before .before .loop-test .taken)
-      (c .before .before .before .before .before .before .before .wins .ensures) (c .before .before .before .before .before .before .before .before .charge-for .ensures) (c .before .before .before .before .before .before .gain-for .ensures) (c .before .before .before .pick16 .ensures) (c .before .pick32 .ensures) (c .pick322 .ensures),
+  offers-more (c .before .before .before .before .before .before .before .before .before .before .before .before .before .before .before .pre) (c .before .before .before .before .before .before .before .before .before .before .loop .inv .1) (c .before .before .before .before .before .before .before .before .before .loop-test .taken) (c .before .before .before .before .before .wins .ensures) (c .before .before .before .before .before .before .charge-for .ensures) (c .before .before .before .before .gain-for .ensures) (c .before .pick32 .ensures) (c .pick322 .ensures),
 )
 
 same-length : tie.Need-same-length Inv-loop μ-loop
@@ -108,11 +91,8 @@ same-length c = search needs
 same-length-2 : tie.Need-same-length-2 Inv-loop μ-loop
 same-length-2 c = search needs
 
-same-length-3 : tie.Need-same-length-3 Inv-loop μ-loop
-same-length-3 c = search needs
-
 returns : tie.Need-returns Inv-loop μ-loop
-returns c = offers-end (c .before .before .before .before .before .before .before .pre) (c .before .loop .inv .1) (c .loop-test .left)
+returns c = offers-end (c .before .before .before .before .before .before .pre) (c .before .loop .inv .1) (c .loop-test .left)
 
 pub offer-spec : {M : Type 1} → statement M
 offer-spec =
@@ -131,16 +111,11 @@ offer-spec =
     gain-for-requires
     mul-old
     slice-read-old
-    mul-pick16
-    slice-read-pick16
-    pick16-requires
-    mul-stations
-    slice-write-stations
     mul-pick32
     slice-read-pick32
     pick32-requires
-    mul-charges
-    slice-write-charges
+    mul-chosen
+    slice-write-chosen
     pick32-requires-2
     mul-gains
     slice-write-gains
@@ -149,5 +124,4 @@ offer-spec =
     loop-again
     same-length
     same-length-2
-    same-length-3
     returns)
