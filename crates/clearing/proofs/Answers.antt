@@ -85,7 +85,7 @@ unfolding medianAsk eligible
 cut-low t c w e = rw e (greatest-le (length (t .asks)) _ maxPrice (λ k l. only-le _ _ _ (λ _. w .ask-most k l)))
 
 pub at-cut : (t : Tables) {c : ℕ} {least : List ℕ} → WithinLimits t → c ≡ medianAsk (t .asks) → least ≡ list (length (t .amounts)) (leastAt (t .amounts) c) → AtCut t c least
-at-cut t w e l = record { within = w; is-cut = e ∙ cut-is t; least-are = l }
+at-cut t w e l = record { within = w; is-cut = e ∙ cut-is t; cut-low = cut-low t _ w e; least-are = l }
 
 module _ (t : Tables) {stations charges : List ℕ} (a : Assigned t stations charges) where
   station-is : (k : ℕ) → k < length (t .amounts) → getD stations k 0 ≡ (decided t) .assigned k

@@ -11,7 +11,7 @@ use lib.ListN.{getD, length, set, length-set, take, replicate, length-replicate,
 use lib.Seq.{length-take-le, getD-take, getD-set-same, getD-set-other}
 use borrow.Author.Count.{below-none, below-more}
 use Rattle.auction.specs.Counting.{_<?_, _≤?_, _and_, only, list}
-use Rattle.auction.specs.Limits.{maxGuests, maxStations, maxPrice, maxAmount}
+use Rattle.auction.specs.Limits.{maxGuests, maxStations}
 use Rattle.auction.specs.Market.{Tables, bidAt, Market, marketBy, byNumber, market, cut, opens, Screened, screen, Queue, queue, provisional, critical}
 use Rattle.auction.specs.Mechanism.{at, charge, better, best, surplus, truthful, charged}
 use Rattle.auction.specs.Outcome.{seen, decided, outcome, settle}
@@ -20,11 +20,11 @@ use Rattle.auction.proofs.Tests.{clash, first, and-no, only-le, only-yes, only-
 use Rattle.auction.proofs.Counting.{greatest-le, length-list, getD-list, list-cong}
 use Rattle.auction.proofs.Queues.{provisional-candidate}
 use Rattle.auction.proofs.Truthful.{assignment-reads}
-use Rattle.kernels.specs.Scans.{above, LeastFew, Selected, TieBound}
-use Rattle.kernels.specs.Offers.{pick, totalFor, totalAt, wonBy, gainFor, chargeAt, gainAt, taken, Offerable, Offered, Chargeable, chargedAt, Charged}
+use Rattle.kernels.specs.Scans.{maxTotal, Totals, above, LeastFew, Selected, TieBound}
+use Rattle.kernels.specs.Offers.{picked, totalFor, totalAt, Gathered, wonBy, gainFor, chargeAt, gainAt, taken, Offerable, Offered, Chargeable, chargedAt, Charged}
 use Rattle.kernels.proofs.Loops.{is-list, in-table}
-use Rattle.kernels.proofs.Selection.{above-most}
-use Rattle.kernels.proofs.Offers.{total-yes, total-no, product}
+use Rattle.kernels.proofs.Selection.{above-most, above-greatest, selected-low}
+use Rattle.kernels.proofs.Offers.{total-yes, total-no, product, total-low, gain-low}
 use Rattle.clearing.specs.Stages.{AtCut, stationBy, gainBy, After, Assigned}
 use Rattle.clearing.proofs.Winners.{Shows, critical-is, provisional-is}
 
@@ -41,8 +41,8 @@ relist m n f g e q h = e ∙ ap (λ n. list n f) q ∙ list-cong n f g h
 
 -- ---- one guest's choice: gains are kept as one more, so that 0 is no station
 
-take-at : (f : ℕ → ℕ) (h : Bool) (g : ℕ → ℕ) (j r : ℕ) → pick (at (λ k. g k + 1) r <? only h (g j + 1)) (f j) (at f r) ≡ at f (better h g j r)
-unfolding at better only pick
+take-at : (f : ℕ → ℕ) (h : Bool) (g : ℕ → ℕ) (j r : ℕ) → picked (at (λ k. g k + 1) r <? only h (g j + 1)) (f j) (at f r) ≡ at f (better h g j r)
+unfolding at better only picked
 take-at f false g j r = rw (not-lt (at (λ k. g k + 1) r) 0 (omega arith)) refl
 take-at f true g j zero = rw (is-lt 0 (g j + 1) (omega arith)) refl
 take-at f true g j (suc k) = ⊎-elim
@@ -50,8 +50,8 @@ take-at f true g j (suc k) = ⊎-elim
     (λ (l : g j ≤ g k). rw (not-lt (g k) (g j) l, not-lt (g k + 1) (g j + 1) (omega arith)) refl)
     (lt-or-le (g k) (g j))
 
-take-gain : (h : Bool) (g : ℕ → ℕ) (j r : ℕ) → pick (at (λ k. g k + 1) r <? only h (g j + 1)) (only h (g j + 1)) (at (λ k. g k + 1) r) ≡ at (λ k. g k + 1) (better h g j r)
-unfolding better only pick
+take-gain : (h : Bool) (g : ℕ → ℕ) (j r : ℕ) → picked (at (λ k. g k + 1) r <? only h (g j + 1)) (only h (g j + 1)) (at (λ k. g k + 1) r) ≡ at (λ k. g k + 1) (better h g j r)
+unfolding better only picked
 take-gain true g j r = take-at (λ k. g k + 1) true g j r
 take-gain false g j r = rw (not-lt (at (λ k. g k + 1) r) 0 (omega arith)) refl
 
@@ -73,10 +73,15 @@ set-critical {n} {j} {v} {S} {criticals = criticals} h l e = below-more (λ k. g
     (λ k a. getD-set-other criticals (j + 1) (k + 1) v 0 (omega arith) ∙ h .criticals-are k a)
     (getD-set-same criticals (j + 1) v 0 (omega (arith, h .criticals-long)) ∙ e)
 
+picked-le : (b : Bool) (x y m : ℕ) → x ≤ m → y ≤ m → picked b x y ≤ m
+unfolding picked
+picked-le true x y m p q = p
+picked-le false x y m p q = q
+
 module _ (S : Screened) (n j : ℕ) (totals least : List ℕ) (t e s : ℕ) (chosen₀ gains₀ criticals : List ℕ)
     (as-long : length totals ≡ n) (es : s ≡ j + 1) (few : j < maxStations)
     (gain-is : (k : ℕ) → k < n → gainAt totals least t e k ≡ only (provisional (queue S j) k) (surplus S k j + 1))
-    (critical-is : t ≡ critical (queue S j))
+    (critical-is : t ≡ critical (queue S j)) (totals-low : Totals totals)
     (h : After S n j chosen₀ gains₀ criticals) where
   chosen-step : (k : ℕ) → k < n → taken gains₀ (gainAt totals least t e) (λ _. s) chosen₀ k ≡ stationBy S (j + 1) k
   unfolding taken gainBy
@@ -87,10 +92,16 @@ module _ (S : Screened) (n j : ℕ) (totals least : List ℕ) (t e s : ℕ) (cho
   unfolding taken gainBy
   gain-step k lk = rw (gain-is k lk, element n (gainBy S j) (h .gains-are) k lk, station-step S j k) (take-gain (provisional (queue S j) k) (surplus S k) j (stationBy S j k))
 
+  -- a gain is the new one or the old one
+  gain-stays-low : (k : ℕ) → k < n → taken gains₀ (gainAt totals least t e) (gainAt totals least t e) gains₀ k ≤ maxTotal + 1
+  unfolding taken gainAt
+  gain-stays-low k lk = picked-le _ _ _ _ (gain-low _ _ _ (totals-low k (omega arith)) refl) (h .gains-low k lk)
+
   after-offers : {chosen gains : List ℕ} → Offered totals least t e s chosen₀ gains₀ chosen gains → After S n (j + 1) chosen gains (set criticals s t)
   after-offers o = record {
     chosen-are = relist _ n _ _ (o .chosen-are) as-long chosen-step;
     gains-are = relist _ n _ _ (o .gains-are) as-long gain-step;
+    gains-low = λ k lk. rw (element _ _ (relist _ n _ _ (o .gains-are) as-long (λ _ _. refl)) k lk) (gain-stays-low k lk);
     criticals-long = length-set criticals s t ∙ h .criticals-long;
     criticals-are = rw es (set-critical h few critical-is);
     criticals-left = λ k l. getD-set-other criticals s (k + 1) t 0 (omega arith) ∙ h .criticals-left k (omega arith);
@@ -119,6 +130,7 @@ pub after-closed : (M : Market) (n j : ℕ) {chosen gains criticals : List ℕ} 
 unfolding gainBy
 after-closed M n j {criticals = criticals} h a = record {
   chosen-are = a .chosen-are ∙ list-cong n _ _ (λ k lk. stays M j k h);
+  gains-low = a .gains-low;
   gains-are = a .gains-are ∙ list-cong n _ _ (λ k lk. ap (at (λ i. surplus (screen M) k i + 1)) (stays M j k h));
   criticals-long = a .criticals-long;
   criticals-are = below-more (λ k. getD criticals (k + 1) 0 ≡ critical (queue (screen M) k)) j (a .criticals-are) (a .criticals-left j (le-refl j) ∙ closed-critical M j h);
@@ -149,6 +161,13 @@ module _ (t : Tables) (c : ℕ) (least : List ℕ) (A : AtCut t c least) (j : �
       where
         positive : (x y : ℕ) → 1 ≤ x → 1 ≤ y → 0 < x * y
         positive x y a b = mul-le-mul a b
+
+    pub all-low : Totals totals
+    all-low k lk =
+        let l : k < length (t .amounts) = omega (arith, long _ _ gathered) in
+        rw (element _ _ gathered k l) (total-low _ _ c
+        (A .within .bid-most _ (omega (arith, A .within .bids-length, in-table (length (t .amounts)) (length (t .asks)) k j l lj)))
+        (A .within .amount-most k l))
 
     module _ (f b e : ℕ) (eb : b ≡ getD (t .bays) j 0) (few : LeastFew totals b f) (tied : TieBound totals f (above totals f) b e) where
       capacity-is : Q .capacity ≡ b
@@ -181,7 +200,7 @@ module _ (t : Tables) (c : ℕ) (least : List ℕ) (A : AtCut t c least) (j : �
       pub turned : (s : ℕ) {chosen₀ gains₀ criticals chosen gains : List ℕ} → s ≡ j + 1
           → After (seen t) (length (t .amounts)) j chosen₀ gains₀ criticals → Offered totals least f e s chosen₀ gains₀ chosen gains
           → After (seen t) (length (t .amounts)) (j + 1) chosen gains (set criticals s f)
-      turned s es h o = after-offers (seen t) (length (t .amounts)) j totals least f e s _ _ _ (long _ _ gathered) es (omega (arith, A .within .stations-most)) gain-here critical-here h o
+      turned s es h o = after-offers (seen t) (length (t .amounts)) j totals least f e s _ _ _ (long _ _ gathered) es (omega (arith, A .within .stations-most)) gain-here critical-here all-low h o
 
 -- the turn of a station that is not open
 pub shut : (t : Tables) (c j : ℕ) {least chosen gains criticals : List ℕ} → AtCut t c least → c ≤ getD (t .asks) j 0
@@ -190,36 +209,45 @@ unfolding seen market marketBy
 shut t c j A h a = after-closed (market t) (length (t .amounts)) j (omega (arith, A .is-cut)) a
 
 -- what `offer` asks of its lists
-total-low : (bid amount cut : ℕ) → bid ≤ maxPrice → amount ≤ maxAmount → totalFor bid amount cut ≤ maxPrice * maxAmount
-total-low bid amount cut p q = ⊎-elim
-    (λ (a : bid < cut). omega (arith, total-no bid amount cut a))
-    (λ (a : cut ≤ bid). omega (arith, total-yes bid amount cut a, product bid amount p q))
-    (lt-or-le bid cut)
-
 total-covers : (bid amount cut : ℕ) → 0 < totalFor bid amount cut → cut * amount ≤ totalFor bid amount cut
 total-covers bid amount cut p = ⊎-elim
     (λ (a : bid < cut). absurd (omega (arith, total-no bid amount cut a)))
     (λ (a : cut ≤ bid). omega (arith, total-yes bid amount cut a, mul-le-mul-right amount a))
     (lt-or-le bid cut)
 
-pub offerable : (t : Tables) (c j : ℕ) {f a b e : ℕ} {least totals chosen gains criticals : List ℕ} → AtCut t c least → j < length (t .asks)
-    → totals ≡ list (length (t .amounts)) (totalAt (t .bids) (t .amounts) (length (t .asks)) j c) → TieBound totals f a b e
+pub offerable : (t : Tables) (c j : ℕ) {f a b e : ℕ} {least totals chosen gains criticals : List ℕ} (A : AtCut t c least) → j < length (t .asks)
+    → totals ≡ list (length (t .amounts)) (totalAt (t .bids) (t .amounts) (length (t .asks)) j c) → Totals totals → f ≤ maxTotal → TieBound totals f a b e
     → After (seen t) (length (t .amounts)) j chosen gains criticals → Offerable totals least f e chosen gains
-offerable t c j {totals = totals} A lj g tied a =
+offerable t c j {least = least} {totals} A lj g low fl tied a =
     let n : length totals ≡ length (t .amounts) = long _ _ g in
+    let m : length least ≡ length (t .amounts) = long _ _ (A .least-are) in
     record {
       few = omega (arith, A .within .guests-most);
-      least-long = long _ _ (A .least-are) ∙ sym n;
+      least-long = m ∙ sym n;
       chosen-long = long _ _ (a .chosen-are) ∙ sym n;
       gains-long = long _ _ (a .gains-are) ∙ sym n;
-      totals-low = λ k lk. let l : k < length (t .amounts) = omega arith in
-          rw (element _ _ g k l) (total-low _ _ c
-          (A .within .bid-most _ (omega (arith, A .within .bids-length, in-table (length (t .amounts)) (length (t .asks)) k j l lj)))
-          (A .within .amount-most k l));
+      totals-low = low;
+      least-low = λ k lk. let l : k < length (t .amounts) = omega arith in
+          rw (element _ _ (A .least-are) k l) (product _ _ (A .cut-low) (A .within .amount-most k l));
+      gains-low = λ k lk. a .gains-low k (omega (arith, long _ _ (a .gains-are)));
+      critical-low = fl;
+      bound-low = omega (arith, tied .within, A .within .guests-most);
       covers = λ k lk p. let l : k < length (t .amounts) = omega arith in
           rw (element _ _ g k l, element _ _ (A .least-are) k l) (total-covers _ _ c (rw (element _ _ g k l) at p));
       no-tie = tied .none;
     }
+
+-- no total is above the greatest, which is within the limits, and so is the critical total
+module _ {n : ℕ} {f : ℕ → ℕ} {totals : List ℕ} {top : ℕ} (g : Gathered n f totals top) where
+  pub none-above : above totals top ≡ 0
+  none-above = rw (g .greatest-is) (above-greatest _ _ _ (g .totals-are))
+
+  module _ (low : Totals totals) where
+    pub top-low : top ≤ maxTotal
+    top-low = rw (g .greatest-is) (greatest-le n f maxTotal (λ k lk. omega (arith, element _ _ (g .totals-are) k lk, low k (omega (arith, long _ _ (g .totals-are))))))
+
+    pub critical-low : {b t a : ℕ} → Selected totals b t a → t ≤ maxTotal
+    critical-low s = omega (arith, selected-low {top = top} s none-above, top-low)
 
 pub few-above : {l : List ℕ} {b t a : ℕ} (n : ℕ) → Selected l b t a → length l ≤ n → a ≤ n
 few-above {l} {t = t} n s h = omega (arith, s .counted, above-most l t)
@@ -241,6 +269,7 @@ unfolding stationBy gainBy best at
 after-none {n = n} h = record {
   chosen-are = zeros-are n h;
   gains-are = zeros-are n h;
+  gains-low = λ k lk. rw (element _ _ (zeros-are n h) k lk) (omega arith);
   criticals-long = length-replicate {A = ℕ} (maxStations + 1) 0;
   criticals-are = below-none _;
   criticals-left = λ k _. getD-zeros (maxStations + 1) (k + 1);

@@ -4,12 +4,13 @@ use mathlib.Core.List.{List}
 use mathlib.Core.Path.{_≡_}
 use lib.ListN.{getD, length}
 use Rattle.auction.specs.Counting.{list}
-use Rattle.auction.specs.Limits.{maxStations}
+use Rattle.auction.specs.Limits.{maxStations, maxPrice}
 use Rattle.auction.specs.Refusals as verdicts
 use Rattle.auction.specs.Market.{Tables, market, cut, Screened, queue, provisional, critical}
 use Rattle.auction.specs.Mechanism.{at, best, surplus}
 use Rattle.auction.specs.Outcome.{Results, outcome}
 use Rattle.auction.specs.Readings.{WithinLimits}
+use Rattle.kernels.specs.Scans.{maxTotal}
 use Rattle.kernels.specs.Offers.{leastAt}
 use Rattle.clearing.specs.Clears.{tables}
 use Rattle.clearing.specs.declared.Clearing.{Clearing}
@@ -37,6 +38,7 @@ pub record Fits (t : Tables) (r : Results) : Type 0 where
 pub record AtCut (t : Tables) (c : ℕ) (least : List ℕ) : Type 0 where
   pub within : WithinLimits t
   pub is-cut : c ≡ cut (market t)
+  pub cut-low : c ≤ maxPrice
   pub least-are : least ≡ list (length (t .amounts)) (leastAt (t .amounts) c)
 
 -- guest i's station among the first j, and one more than the surplus there; 0 for none
@@ -50,6 +52,7 @@ gainBy S j i = at (λ k. surplus S i k + 1) (stationBy S j i)
 pub record After (S : Screened) (n j : ℕ) (chosen gains criticals : List ℕ) : Type 0 where
   pub chosen-are : chosen ≡ list n (stationBy S j)
   pub gains-are : gains ≡ list n (gainBy S j)
+  pub gains-low : (k : ℕ) → k < n → getD gains k 0 ≤ maxTotal + 1
   pub criticals-long : length criticals ≡ maxStations + 1
   pub criticals-are : (k : ℕ) → k < j → getD criticals (k + 1) 0 ≡ critical (queue S k)
   pub criticals-left : (k : ℕ) → j ≤ k → getD criticals (k + 1) 0 ≡ 0

@@ -3,19 +3,18 @@ use Prim.Native.Nat.{ℕ, _+_, _*_, _-_, _/_, _≤_, _<_, max}
 use mathlib.Core.Bool.{Bool, true, false}
 use mathlib.Core.List.{List}
 use mathlib.Core.Logic.{⊎-elim}
-use mathlib.Core.Path.{_≡_, refl, sym, ap, ap₂, _∙_}
+use mathlib.Core.Path.{_≡_, refl, sym, ap, _∙_}
 use native.Mathlib.Nat.{le-refl, mul-le-mul}
 use native.Mathlib.Omega.{arith}
-use lib.Dec.{ltb}
 use lib.ListN.{getD, length, set, length-set, replicate, length-replicate, getD-replicate}
 use lib.Seq.{getD-set-same, getD-set-other}
 use Rattle.auction.specs.Counting.{_<?_, _=?_, _and_, _or_, only, sum, list}
 use Rattle.auction.specs.Limits.{maxStations, maxPrice, maxAmount}
 use Rattle.auction.specs.Market.{median}
-use Rattle.auction.proofs.Tests.{both, first, second, and-no, or-cases, or-left, or-right, neither, only-yes, only-no, lt-yes, eq-yes, is-lt, not-lt, is-le, is-eq, not-eq, lt-or-le, eq-or-ne}
+use Rattle.auction.proofs.Tests.{both, first, second, and-no, or-cases, or-left, or-right, neither, only-le, only-yes, only-no, lt-yes, eq-yes, is-lt, not-lt, is-le, is-eq, not-eq, lt-or-le, eq-or-ne}
 use Rattle.auction.proofs.Counting.{length-list, getD-list, list-cong}
-use Rattle.kernels.specs.Scans.{kwhAt, slots, Tallied, under, eligible}
-use Rattle.kernels.specs.Offers.{pick, totalFor, wonBy, gainFor, chargeAt, gainAt, taken, Offerable, Offered, Chargeable, chargedAt, Charged, PaidOut}
+use Rattle.kernels.specs.Scans.{maxTotal, kwhAt, slots, Tallied, under, eligible}
+use Rattle.kernels.specs.Offers.{picked, totalFor, wonBy, gainFor, chargeAt, gainAt, taken, Offerable, Offered, Chargeable, chargedAt, Charged, PaidOut}
 use Rattle.kernels.proofs.Loops.{not-le, sum-more, sum-end, Filled, filled-none, filled-more, filled-list, is-list}
 
 -- ---- the cut
@@ -46,7 +45,18 @@ total-no bid amount cut h = sym (only-no _ _ (not-le _ _ h))
 pub product : (x y : ℕ) → x ≤ maxPrice → y ≤ maxAmount → x * y ≤ maxPrice * maxAmount
 product x y l h = mul-le-mul l h
 
+pub total-low : (bid amount cut : ℕ) → bid ≤ maxPrice → amount ≤ maxAmount → totalFor bid amount cut ≤ maxTotal
+total-low bid amount cut p q = ⊎-elim
+    (λ (a : bid < cut). omega (arith, total-no bid amount cut a))
+    (λ (a : cut ≤ bid). omega (arith, total-yes bid amount cut a, product bid amount p q))
+    (lt-or-le bid cut)
+
 -- ---- offers
+
+-- a gain is at most one more than the total
+pub gain-low : (w : Bool) (total charge : ℕ) {g : ℕ} → total ≤ maxTotal → g ≡ gainFor w total charge → g ≤ maxTotal + 1
+unfolding gainFor
+gain-low w total charge l e = rw e (only-le w _ _ (λ _. omega arith))
 
 or-and-false : (a b : Bool) → (a or (b and false)) ≡ a
 unfolding _or_ _and_
@@ -74,9 +84,8 @@ above-bar x t k e none = ⊎-elim
     above-none : k < e → x ≡ t → t - 1 < x
     above-none l q = ⊎-elim (λ (z : 0 < t). omega arith) (λ (z : t ≤ 0). absurd (omega (arith, none (omega arith)))) (lt-or-le 0 t)
 
-pub won-is : (x t k e : ℕ) {r u v : ℕ} {b : Bool} → (t ≡ 0 → e ≡ 0) → r ≡ t - only (k <? e) 1 → u ≡ r → v ≡ x → b ≡ ltb u v → b ≡ wonBy x t k e
-unfolding _<?_
-won-is x t k e none er eu ev eb = eb ∙ ap₂ ltb (eu ∙ er) ev ∙ above-bar x t k e none
+pub won-is : (x t k e : ℕ) {r : ℕ} {b : Bool} → (t ≡ 0 → e ≡ 0) → r ≡ t - only (k <? e) 1 → b ≡ (r <? x) → b ≡ wonBy x t k e
+won-is x t k e none er eb = eb ∙ ap (λ r. r <? x) er ∙ above-bar x t k e none
 
 -- whoever wins can pay: its charge is at most its total
 pub won-pays : (x t k e least : ℕ) → (0 < x → least ≤ x) → (t ≡ 0 → e ≡ 0) → wonBy x t k e ≡ true → max least t ≤ x
@@ -105,13 +114,18 @@ pub record Offering (totals least : List ℕ) (t e s : ℕ) (chosen₀ gains₀ 
 pub offers-none : {totals least : List ℕ} {t e s : ℕ} {chosen gains : List ℕ} → Offering totals least t e s chosen gains 0 chosen gains
 offers-none = record { chosen-are = filled-none; gains-are = filled-none }
 
+-- the next guest's gain is as it was
+pub gain-left : {totals least : List ℕ} {t e s : ℕ} {chosen₀ gains₀ : List ℕ} {i : ℕ} {chosen gains : List ℕ} → Offerable totals least t e chosen₀ gains₀
+    → Offering totals least t e s chosen₀ gains₀ i chosen gains → i < length totals → getD gains i 0 ≤ maxTotal + 1
+gain-left {i = i} o h l = rw (h .gains-are .left i (le-refl i)) (o .gains-low i (omega (arith, o .gains-long)))
+
 -- one guest more: w, c and g are what the code found, and v1 and v2 what it stored
 pub offers-more : {totals least : List ℕ} {t e s : ℕ} {chosen₀ gains₀ : List ℕ} {i : ℕ} {chosen gains : List ℕ} {w : Bool} {c g v1 v2 : ℕ}
     → Offerable totals least t e chosen₀ gains₀
     → Offering totals least t e s chosen₀ gains₀ i chosen gains → i < length totals
     → w ≡ wonBy (getD totals i 0) t i e → c ≡ max (getD least i 0) t → g ≡ gainFor w (getD totals i 0) c
-    → v1 ≡ pick (getD gains i 0 <? g) s (getD chosen i 0)
-    → v2 ≡ pick (getD gains i 0 <? g) g (getD gains i 0)
+    → v1 ≡ picked (getD gains i 0 <? g) s (getD chosen i 0)
+    → v2 ≡ picked (getD gains i 0 <? g) g (getD gains i 0)
     → Offering totals least t e s chosen₀ gains₀ (i + 1) (set chosen i v1) (set gains i v2)
 unfolding taken gainAt chargeAt
 offers-more {i = i} o h l ew ec eg e1 e2 = record {

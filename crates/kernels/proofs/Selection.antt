@@ -11,7 +11,7 @@ use borrow.Author.Count.{below-more}
 use Rattle.auction.specs.Counting.{_<?_, _≤?_, _=?_, _and_, only, sum, greatest, count, list}
 use Rattle.auction.proofs.Tests.{first, second, both, clash, only-le, le-only, is-lt, not-lt, is-le, lt-yes, le-yes, lt-or-le}
 use Rattle.auction.proofs.Counting.{count-mono, count-strict, count-none, count-step, count-start, length-list, getD-list, le-greatest, greatest-le, search-below}
-use Rattle.kernels.specs.Scans.{above, ties, greatestUpTo, Selected, TieBound}
+use Rattle.kernels.specs.Scans.{maxTotal, Totals, above, ties, greatestUpTo, Selected, TieBound}
 
 pub above-falls : (l : List ℕ) (s t : ℕ) → s ≤ t → above l t ≤ above l s
 unfolding above
@@ -92,7 +92,7 @@ ties-rise l t i (suc k) h = ⊎-elim
     (eq-or-lt-of-le h)
 
 pub no-tie : {l : List ℕ} {t a b : ℕ} → t ≡ 0 → TieBound l t a b 0
-no-tie z = record { none = λ _. refl; bound = λ p. absurd (omega arith) }
+no-tie z = record { within = omega arith; none = λ _. refl; bound = λ p. absurd (omega arith) }
 
 pub ties-none : (l : List ℕ) (t a : ℕ) → a ≡ a + ties l t 0
 unfolding ties
@@ -106,8 +106,9 @@ pub room-more : (l : List ℕ) (t a b s i : ℕ) → s ≡ a + ties l t i → s 
 room-more l t a b s i e r h = below-more (λ k. a + ties l t k < b) i h (omega arith)
 
 -- the loop stops at i: every guest passed had room, and the next has none or there is none
-pub bound-here : {l : List ℕ} {t a b s i : ℕ} → (t ≡ 0 → ⊥) → s ≡ a + ties l t i → ((k : ℕ) → k < i → a + ties l t k < b) → (b ≤ s) ⊎ (length l ≤ i) → TieBound l t a b i
-bound-here {l} {t} {a} {b} {s} {i} n e h c = record {
+pub bound-here : {l : List ℕ} {t a b s i : ℕ} → i ≤ length l → (t ≡ 0 → ⊥) → s ≡ a + ties l t i → ((k : ℕ) → k < i → a + ties l t k < b) → (b ≤ s) ⊎ (length l ≤ i) → TieBound l t a b i
+bound-here {l} {t} {a} {b} {s} {i} w n e h c = record {
+  within = w;
   none = λ z. absurd (n z);
   bound = λ _ k lk. ⊎-elim
       (λ (q : k < i). is-lt _ _ q ∙ sym (is-lt _ _ (h k q)))
@@ -117,3 +118,10 @@ bound-here {l} {t} {a} {b} {s} {i} n e h c = record {
       c)
       (lt-or-le k i);
 }
+
+-- the least number with few above it is no more than one with none above it
+pub selected-low : {l : List ℕ} {b t a top : ℕ} → Selected l b t a → above l top ≡ 0 → t ≤ top
+selected-low {l} {b} {t} {top = top} s z = ⊎-elim (λ (p : top < t). absurd (omega (arith, s .least-few .least top p))) (λ p. p) (lt-or-le top t)
+
+pub greatest-low : (l : List ℕ) (t i : ℕ) → Totals l → i ≤ length l → greatest i (λ k. only (getD l k 0 ≤? t) (getD l k 0)) ≤ maxTotal
+greatest-low l t i h m = greatest-le i _ maxTotal (λ k lk. only-le _ _ _ (λ _. h k (omega arith)))

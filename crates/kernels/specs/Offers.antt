@@ -5,11 +5,12 @@ use mathlib.Core.List.{List}
 use mathlib.Core.Path.{_≡_}
 use lib.ListN.{getD, length}
 use Rattle.auction.specs.Counting.{_<?_, _≤?_, _=?_, _and_, _or_, only, greatest, list}
-use Rattle.auction.specs.Limits.{maxGuests, maxStations, maxPrice, maxAmount}
+use Rattle.auction.specs.Limits.{maxGuests, maxStations}
+use Rattle.kernels.specs.Scans.{maxTotal, Totals}
 
-unfoldable pub pick : Bool → ℕ → ℕ → ℕ
-pick true a b = a
-pick false a b = b
+unfoldable pub picked : Bool → ℕ → ℕ → ℕ
+picked true a b = a
+picked false a b = b
 
 -- bid times amount for a candidate, 0 for whoever is none
 unfoldable pub totalFor : (bid amount cut : ℕ) → ℕ
@@ -45,7 +46,7 @@ gainAt totals least t e i = gainFor (wonBy (getD totals i 0) t i e) (getD totals
 
 -- what guest i has after the offer: the new value where the gain is greater than before
 unfoldable pub taken : (gains : List ℕ) (gain new : ℕ → ℕ) (old : List ℕ) → ℕ → ℕ
-taken gains gain new old i = pick (getD gains i 0 <? gain i) (new i) (getD old i 0)
+taken gains gain new old i = picked (getD gains i 0 <? gain i) (new i) (getD old i 0)
 
 -- what an offer asks of its lists, the critical total t and the bound e
 pub record Offerable (totals least : List ℕ) (t e : ℕ) (chosen gains : List ℕ) : Type 0 where
@@ -53,7 +54,11 @@ pub record Offerable (totals least : List ℕ) (t e : ℕ) (chosen gains : List 
   pub least-long : length least ≡ length totals
   pub chosen-long : length chosen ≡ length totals
   pub gains-long : length gains ≡ length totals
-  pub totals-low : (k : ℕ) → k < length totals → getD totals k 0 ≤ maxPrice * maxAmount
+  pub totals-low : Totals totals
+  pub least-low : Totals least
+  pub gains-low : (k : ℕ) → k < length gains → getD gains k 0 ≤ maxTotal + 1
+  pub critical-low : t ≤ maxTotal
+  pub bound-low : e ≤ maxGuests
   pub covers : (k : ℕ) → k < length totals → 0 < getD totals k 0 → getD least k 0 ≤ getD totals k 0
   pub no-tie : t ≡ 0 → e ≡ 0
 

@@ -1,11 +1,18 @@
 -- What the loops over slices find, by the counts, sums and tests of `auction`.
-use Prim.Native.Nat.{ℕ, _+_, _<_, _≤_}
+use Prim.Native.Nat.{ℕ, _+_, _*_, _<_, _≤_}
 use mathlib.Core.List.{List}
 use mathlib.Core.Path.{_≡_}
 use lib.ListN.{getD, length}
 use Rattle.auction.specs.Counting.{_<?_, _≤?_, _=?_, only, sum, greatest, count}
-use Rattle.auction.specs.Limits.{maxStations}
+use Rattle.auction.specs.Limits.{maxStations, maxPrice, maxAmount}
 use Rattle.auction.specs.Market.{median}
+
+-- the greatest total within the limits, and lists of totals up to it
+abbrev pub maxTotal : ℕ
+maxTotal = maxPrice * maxAmount
+
+abbrev pub Totals : List ℕ → Type 0
+Totals l = (k : ℕ) → k < length l → getD l k 0 ≤ maxTotal
 
 -- how many elements are above t; how many of the first i are t
 unfoldable pub above : List ℕ → ℕ → ℕ
@@ -30,6 +37,7 @@ pub record Selected (l : List ℕ) (b t a : ℕ) : Type 0 where
 
 -- of those at t, the ones below e are those with fewer than b before them: a above t, and the ones at t of a lower index; at 0 there is none
 pub record TieBound (l : List ℕ) (t a b e : ℕ) : Type 0 where
+  pub within : e ≤ length l
   pub none : t ≡ 0 → e ≡ 0
   pub bound : 0 < t → (i : ℕ) → i < length l → (i <? e) ≡ (a + ties l t i <? b)
 

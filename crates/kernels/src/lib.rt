@@ -5,13 +5,13 @@ use auction::Mills;
 use auction::UnitPrice;
 ghost use mathlib.Core.Bool.{true};
 ghost use mathlib.Core.Path.{_≡_};
-ghost use Prim.Native.Nat.{ℕ, _+_, _*_, _-_, _<_, _≤_, max};
+ghost use Prim.Native.Nat.{ℕ, _+_, _*_, _-_, _^_, _<_, _≤_, max};
 ghost use lib.ListN.{length, getD};
 ghost use Rattle.auction.specs.Counting.{_<?_, _≤?_, _=?_, only, sum, any, list};
 ghost use Rattle.auction.specs.Limits.{maxGuests, maxStations, maxPrice, maxAmount};
 ghost use Rattle.auction.specs.Faults.{outside};
-ghost use Rattle.kernels.specs.Scans.{above, greatestUpTo, Selected, TieBound, kwhAt, slots, Tallied, under, eligible, medianAsk};
-ghost use Rattle.kernels.specs.Offers.{pick, totalFor, totalAt, Gathered, leastAt, wonBy, gainFor, Offerable, Offered, Chargeable, Charged, PaidOut};
+ghost use Rattle.kernels.specs.Scans.{maxTotal, Totals, above, greatestUpTo, Selected, TieBound, kwhAt, slots, Tallied, under, eligible, medianAsk};
+ghost use Rattle.kernels.specs.Offers.{picked, totalFor, totalAt, Gathered, leastAt, wonBy, gainFor, Offerable, Offered, Chargeable, Charged, PaidOut};
 
 // Whether an element is outside low to high. No way out before the end: several elements a step.
 pub fn any_outside32(xs: &[u32], low: u32, high: u32) -> bool
@@ -139,14 +139,22 @@ pub fn gather(
     top
 }
 
+// Whether x is below y, of numbers that are the same when read as signed: the processor compares four signed numbers at once.
+fn below(x: u32, y: u32) -> bool
+    requires { ⌜ (x < 2 ^ 31) × (y < 2 ^ 31) ⌝ }
+    ensures { λ r. ⌜ r ≡ x <? y ⌝ }
+{
+    (x as i32) < (y as i32)
+}
+
 fn count_above(xs: &[u32], t: u32) -> u32
-    requires { ⌜ length (now xs) ≤ maxGuests ⌝ }
+    requires { ⌜ (length (now xs) ≤ maxGuests) × Totals (now xs) × (t ≤ maxTotal) ⌝ }
     ensures { λ r. ⌜ r ≡ above (now (xs .entry)) t ⌝ }
 {
     let mut n: u32 = 0;
     let mut i = 0;
     while i < xs.len() {
-        if t < xs[i] {
+        if below(t, xs[i]) {
             n += 1;
         }
         i += 1;
@@ -155,19 +163,22 @@ fn count_above(xs: &[u32], t: u32) -> u32
 }
 
 fn capped(x: u32, t: u32) -> u32
+    requires { ⌜ (x ≤ maxTotal) × (t ≤ maxTotal) ⌝ }
     ensures { λ r. ⌜ r ≡ only (x ≤? t) x ⌝ }
 {
-    if x <= t { x } else { 0 }
+    if below(t, x) { 0 } else { x }
 }
 
 fn larger(x: u32, y: u32) -> u32
+    requires { ⌜ (x ≤ maxTotal) × (y ≤ maxTotal) ⌝ }
     ensures { λ r. ⌜ r ≡ max x y ⌝ }
 {
-    if x < y { y } else { x }
+    if below(x, y) { y } else { x }
 }
 
 // The greatest element that is at most t, 0 for none.
 fn largest_at_most(xs: &[u32], t: u32) -> u32
+    requires { ⌜ Totals (now xs) × (t ≤ maxTotal) ⌝ }
     ensures { λ r. ⌜ r ≡ greatestUpTo (now (xs .entry)) t ⌝ }
 {
     let mut r: u32 = 0;
@@ -190,6 +201,7 @@ pub struct Critical {
 // many may be tied there, and a single bay needs no other.
 pub fn critical_total(totals: &[u32], top: u32, b: u32) -> Critical
     requires { ⌜ (length (now totals) ≤ maxGuests) × (above (now totals) top ≡ 0) ⌝ }
+    requires { ⌜ Totals (now totals) × (top ≤ maxTotal) ⌝ }
     ensures { λ r. ⌜ Selected (now (totals .entry)) b (r .total) (r .above) ⌝ }
 {
     let candidates = count_above(totals, 0);
@@ -264,31 +276,31 @@ pub fn tie_bound(totals: &[u32], t: u32, a: u32, b: u32) -> u32
     i as u32
 }
 
-fn charge_for(least: u32, critical: u32) -> u32
-    ensures { λ r. ⌜ r ≡ max least critical ⌝ }
-{
-    Mills::wide(least).larger(Mills::wide(critical)).narrow()
-}
-
 // The total that guest k must be above: the critical total, or one less for whoever wins its tie.
 fn bar(critical: u32, k: u32, bound: u32) -> u32
     requires { ⌜ (critical ≡ 0 → bound ≡ 0) ⌝ }
+    requires { ⌜ (k < 2 ^ 31) × (bound < 2 ^ 31) ⌝ }
     ensures { λ r. ⌜ r ≡ critical - only (k <? bound) 1 ⌝ }
 {
-    if k < bound { critical - 1 } else { critical }
+    if below(k, bound) {
+        critical - 1
+    } else {
+        critical
+    }
 }
 
 // Whether guest k of this total wins a place: above the critical total, or at it and below the bound.
 fn wins(total: u32, critical: u32, k: u32, bound: u32) -> bool
     requires { ⌜ (critical ≡ 0 → bound ≡ 0) ⌝ }
+    requires { ⌜ (k < 2 ^ 31) × (bound < 2 ^ 31) × (total ≤ maxTotal) × (critical ≤ maxTotal) ⌝ }
     ensures { λ r. ⌜ r ≡ wonBy total critical k bound ⌝ }
 {
-    Mills::wide(bar(critical, k, bound)).below(Mills::wide(total))
+    below(bar(critical, k, bound), total)
 }
 
 // One more than total less charge where a place is won, so that 0 is no place.
 fn gain_for(won: bool, total: u32, charge: u32) -> u32
-    requires { ⌜ (total ≤ maxPrice * maxAmount) × (won ≡ true → charge ≤ total) ⌝ }
+    requires { ⌜ (total ≤ maxTotal) × (won ≡ true → charge ≤ total) ⌝ }
     ensures { λ r. ⌜ r ≡ gainFor won total charge ⌝ }
 {
     if won {
@@ -298,10 +310,11 @@ fn gain_for(won: bool, total: u32, charge: u32) -> u32
     }
 }
 
-fn pick32(old: u32, new: u32, a: u32, b: u32) -> u32
-    ensures { λ r. ⌜ r ≡ pick (old <? new) a b ⌝ }
+fn pick(old: u32, new: u32, a: u32, b: u32) -> u32
+    requires { ⌜ (old ≤ maxTotal + 1) × (new ≤ maxTotal + 1) ⌝ }
+    ensures { λ r. ⌜ r ≡ picked (old <? new) a b ⌝ }
 {
-    if old < new { a } else { b }
+    if below(old, new) { a } else { b }
 }
 
 // One station's offers to every guest: where an offer gains more than the best so far, it is chosen.
@@ -320,11 +333,11 @@ pub fn offer(
     let mut i = 0;
     while i < totals.len() {
         let total = totals[i];
-        let charge = charge_for(least[i], critical);
+        let charge = larger(least[i], critical);
         let gain = gain_for(wins(total, critical, i as u32, bound), total, charge);
         let old = gains[i];
-        chosen[i] = pick32(old, gain, station, chosen[i]);
-        gains[i] = pick32(old, gain, gain, old);
+        chosen[i] = pick(old, gain, station, chosen[i]);
+        gains[i] = pick(old, gain, gain, old);
         i += 1;
     }
 }
@@ -334,7 +347,7 @@ fn charge_at(station: u32, least: u32, critical: u32) -> u32
     ensures { λ r. ⌜ r ≡ only (0 <? station) (max least critical) ⌝ }
 {
     if 0 < station {
-        charge_for(least, critical)
+        Mills::wide(least).larger(Mills::wide(critical)).narrow()
     } else {
         0
     }

@@ -4,10 +4,9 @@ use Rattle.clearing.proofs.station.Tie as tie
 use mathlib.Core.Path.{refl, sym, _∙_}
 use native.Mathlib.Omega.{arith}
 use borrow.Author.Tests.{ltb-true, ltb-false}
-use Rattle.kernels.proofs.Selection.{above-greatest}
 use Rattle.auction.specs.Limits.{maxGuests}
 use Rattle.clearing.specs.Stages.{regular}
-use Rattle.clearing.proofs.Turns.{long, few-above, offerable, shut, turned}
+use Rattle.clearing.proofs.Turns.{long, few-above, offerable, all-low, none-above, top-low, critical-low, shut, turned}
 
 mul-ask : tie.Need-mul-ask
 mul-ask c = search needs
@@ -33,7 +32,8 @@ cast-b c = omega (arith, c .shared-slice-known7 .given (c .before .before .befor
 critical-total-requires : tie.Need-critical-total-requires
 critical-total-requires c κs =
     let g = c .before .before .before .before .gather .ensures in
-    (omega (arith, long _ _ (g .totals-are), c .before .before .before .before .before .before .before .before .before .before .before .before .before .before .before .before .before .before .pre .0 .within .guests-most), rw (g .greatest-is) (above-greatest _ _ _ (g .totals-are)))
+    let low = all-low (regular _ _ _ _) _ _ (c .before .before .before .before .before .before .before .before .before .before .before .before .before .before .before .before .before .before .pre .0) _ (c .before .before .before .before .before .before .before .before .before .before .before .before .before .before .before .before .before .before .pre .1 .0 .0) (ltb-true _ _ (sym (c .before .before .before .before .before .before .before .below .ensures) ∙ c .before .before .before .before .before .before .if1 .taken)) _ (g .totals-are) in
+    ((omega (arith, long _ _ (g .totals-are), c .before .before .before .before .before .before .before .before .before .before .before .before .before .before .before .before .before .before .pre .0 .within .guests-most), none-above g), (low, top-low g low))
 
 tie-bound-requires : tie.Need-tie-bound-requires
 tie-bound-requires c κs = (omega (arith, long _ _ (c .before .before .before .before .before .before .gather .ensures .totals-are), c .before .before .before .before .before .before .before .before .before .before .before .before .before .before .before .before .before .before .before .before .pre .0 .within .guests-most), few-above maxGuests (c .before .critical-total .ensures) (omega (arith, long _ _ (c .before .before .before .before .before .before .gather .ensures .totals-are), c .before .before .before .before .before .before .before .before .before .before .before .before .before .before .before .before .before .before .before .before .pre .0 .within .guests-most)))
@@ -51,7 +51,10 @@ cast-offer : tie.Need-cast-offer
 cast-offer c = search needs
 
 offer-requires : tie.Need-offer-requires
-offer-requires c κs = offerable (regular _ _ _ _) _ _ (c .before .before .before .before .before .before .before .before .before .before .before .before .before .before .before .before .before .before .before .before .before .before .before .before .pre .0) (c .before .before .before .before .before .before .before .before .before .before .before .before .before .before .before .before .before .before .before .before .before .before .before .before .pre .1 .0 .0) (c .before .before .before .before .before .before .before .before .before .before .gather .ensures .totals-are) (c .before .before .before .tie-bound .ensures) (c .before .before .before .before .before .before .before .before .before .before .before .before .before .before .before .before .before .before .before .before .before .before .before .before .pre .1 .1)
+offer-requires c κs =
+    let g = c .before .before .before .before .before .before .before .before .before .before .gather .ensures in
+    let low = all-low (regular _ _ _ _) _ _ (c .before .before .before .before .before .before .before .before .before .before .before .before .before .before .before .before .before .before .before .before .before .before .before .before .pre .0) _ (c .before .before .before .before .before .before .before .before .before .before .before .before .before .before .before .before .before .before .before .before .before .before .before .before .pre .1 .0 .0) (ltb-true _ _ (sym (c .before .before .before .before .before .before .before .before .before .before .before .before .before .below .ensures) ∙ c .before .before .before .before .before .before .before .before .before .before .before .before .if1 .taken)) _ (g .totals-are) in
+    offerable (regular _ _ _ _) _ _ (c .before .before .before .before .before .before .before .before .before .before .before .before .before .before .before .before .before .before .before .before .before .before .before .before .pre .0) (c .before .before .before .before .before .before .before .before .before .before .before .before .before .before .before .before .before .before .before .before .before .before .before .before .pre .1 .0 .0) (g .totals-are) low (critical-low g low (c .before .before .before .before .before .critical-total .ensures)) (c .before .before .before .tie-bound .ensures) (c .before .before .before .before .before .before .before .before .before .before .before .before .before .before .before .before .before .before .before .before .before .before .before .before .pre .1 .1)
 
 same-length : tie.Need-same-length
 same-length c = search needs

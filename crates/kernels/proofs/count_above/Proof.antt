@@ -1,20 +1,18 @@
+use borrow.Author.Needs.{needs}
+use Rattle.kernels.proofs.count_above.Statement.{statement}
+use Rattle.kernels.proofs.count_above.Tie as tie
 use Prim.Native.Nat.{_≤_, _-_}
-use mathlib.Core.Path.{_≡_, sym, _∙_}
 use mathlib.Core.Logic.{⊎-elim}
+use mathlib.Core.Path.{_≡_, sym, _∙_}
 use native.Mathlib.Omega.{arith}
 use lib.ListN.{length, getD}
-use borrow.Author.Needs.{needs}
 use Rattle.auction.specs.Counting.{_<?_, count}
-use Rattle.auction.proofs.Tests.{is-lt, not-lt}
 use Rattle.auction.proofs.Counting.{count-start}
 use Rattle.kernels.specs.Scans.{above}
 use Rattle.kernels.proofs.Loops.{count-hit, count-miss, count-end}
-use Rattle.kernels.proofs.count_above.Statement.{statement}
-use Rattle.kernels.proofs.count_above.Tie as tie
 
 abbrev Inv-loop : tie.InvT-loop
-Inv-loop xs t n₀ i₀ n i =
-    (i ≤ length xs) × (n ≤ i) × (n ≡ count i (λ k. t <? getD xs k 0))
+Inv-loop xs t n₀ i₀ n i = (i ≤ length xs) × (n ≤ i) × (n ≡ count i (λ k. t <? getD xs k 0))
 
 abbrev μ-loop : tie.MeasureT-loop
 μ-loop xs t n₀ i₀ n i = length xs - i
@@ -22,11 +20,14 @@ abbrev μ-loop : tie.MeasureT-loop
 loop-holds : tie.Need-loop-holds Inv-loop μ-loop
 loop-holds c = (search needs, search needs, sym (count-start _))
 
-mul-if1 : tie.Need-mul-if1 Inv-loop μ-loop
-mul-if1 c = search needs
+mul-below : tie.Need-mul-below Inv-loop μ-loop
+mul-below c = search needs
 
-shared-slice-read-if1 : tie.Need-shared-slice-read-if1 Inv-loop μ-loop
-shared-slice-read-if1 c = search needs
+shared-slice-read-below : tie.Need-shared-slice-read-below Inv-loop μ-loop
+shared-slice-read-below c = search needs
+
+below-requires : tie.Need-below-requires Inv-loop μ-loop
+below-requires c κs = (omega (arith, c .before .before .before .before .pre .2), omega (arith, c .before .before .before .before .pre .1 _ (c .before .loop-test .taken)))
 
 add-n : tie.Need-add-n Inv-loop μ-loop
 add-n c = search needs
@@ -39,8 +40,8 @@ loop-less c = search needs
 
 loop-again : tie.Need-loop-again Inv-loop μ-loop
 loop-again c = ⊎-elim
-    (λ w. (omega arith, omega arith, w .1 ∙ count-hit _ _ _ (c .before .before .before .loop .inv .2) (is-lt _ _ (w .0 .taken))))
-    (λ w. (omega arith, omega arith, w .1 ∙ count-miss _ _ _ (c .before .before .before .loop .inv .2) (not-lt _ _ (w .0 .left))))
+    (λ w. (omega arith, omega arith, w .1 ∙ count-hit _ _ _ (c .before .before .before .before .loop .inv .2) (sym (c .before .below .ensures) ∙ w .0 .taken)))
+    (λ w. (omega arith, omega arith, w .1 ∙ count-miss _ _ _ (c .before .before .before .before .loop .inv .2) (sym (c .before .below .ensures) ∙ w .0 .left)))
     (c .if1 .came)
 
 returns : tie.Need-returns Inv-loop μ-loop
@@ -54,8 +55,9 @@ count-above-spec =
     Inv-loop
     μ-loop
     loop-holds
-    mul-if1
-    shared-slice-read-if1
+    mul-below
+    shared-slice-read-below
+    below-requires
     add-n
     add-i
     loop-less

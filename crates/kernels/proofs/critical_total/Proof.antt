@@ -1,16 +1,16 @@
-use Prim.Native.Nat.{ℕ, _≤_, _<_, _-_, _^_}
+use Prim.Native.Nat.{ℕ, _≤_, _<_, _-_}
 use mathlib.Core.Path.{sym}
 use native.Mathlib.Omega.{arith}
 use borrow.Author.Needs.{needs}
 use borrow.Author.Count.{below-none}
-use Rattle.kernels.specs.Scans.{above}
+use Rattle.kernels.specs.Scans.{maxTotal, above}
 use Rattle.kernels.proofs.Selection.{greatest-positive, up-to-selected, many-below}
 use Rattle.kernels.proofs.critical_total.Statement.{statement}
 use Rattle.kernels.proofs.critical_total.Tie as tie
 
 abbrev Inv-loop : tie.InvT-loop
 Inv-loop totals top b candidates last near low₀ high₀ low high =
-    (low ≤ high) × (high < 2 ^ 32) × (above totals high ≤ b) × ((u : ℕ) → u < low → b < above totals u)
+    (low ≤ high) × (high ≤ maxTotal) × (above totals high ≤ b) × ((u : ℕ) → u < low → b < above totals u)
 
 abbrev μ-loop : tie.MeasureT-loop
 μ-loop totals top b candidates last near low₀ high₀ low high = high - low
@@ -22,13 +22,13 @@ returns : tie.Need-returns Inv-loop μ-loop
 returns c = record { least-few = record { few = omega arith; least = below-none _ }; counted = c .before .count-above .ensures }
 
 sub-last : tie.Need-sub-last Inv-loop μ-loop
-sub-last c = greatest-positive _ _ _ _ (c .before .before .before .pre .1) (c .before .count-above .ensures) (c .if1 .left)
+sub-last c = greatest-positive _ _ _ _ (c .before .before .before .pre .0 .1) (c .before .count-above .ensures) (c .if1 .left)
 
 count-above-requires-2 : tie.Need-count-above-requires-2 Inv-loop μ-loop
 count-above-requires-2 c κs = search needs
 
 returns-2 : tie.Need-returns-2 Inv-loop μ-loop
-returns-2 c = record { least-few = record { few = omega (arith, c .before .before .before .before .before .pre .1); least = λ u l. many-below _ _ _ _ (c .before .count-above2 .ensures) (c .if2 .taken) u (omega arith) }; counted = sym (c .before .before .before .before .before .pre .1) }
+returns-2 c = record { least-few = record { few = omega (arith, c .before .before .before .before .before .pre .0 .1); least = λ u l. many-below _ _ _ _ (c .before .count-above2 .ensures) (c .if2 .taken) u (omega arith) }; counted = sym (c .before .before .before .before .before .pre .0 .1) }
 
 largest-at-most-requires : tie.Need-largest-at-most-requires Inv-loop μ-loop
 largest-at-most-requires c κs = search needs
@@ -37,7 +37,7 @@ returns-3 : tie.Need-returns-3 Inv-loop μ-loop
 returns-3 c = rw (c .largest-at-most .ensures) (up-to-selected _ _ _ _ (c .before .before .before .count-above2 .ensures) (c .before .if3 .taken))
 
 loop-holds : tie.Need-loop-holds Inv-loop μ-loop
-loop-holds c = (search needs, search needs, omega (arith, c .before .before .before .before .before .before .pre .1), below-none _)
+loop-holds c = (search needs, search needs, omega (arith, c .before .before .before .before .before .before .pre .0 .1), below-none _)
 
 sub-mid : tie.Need-sub-mid Inv-loop μ-loop
 sub-mid c = search needs
@@ -46,10 +46,10 @@ add-mid : tie.Need-add-mid Inv-loop μ-loop
 add-mid c = search needs
 
 count-above-requires-3 : tie.Need-count-above-requires-3 Inv-loop μ-loop
-count-above-requires-3 c κs = search needs
+count-above-requires-3 c κs = (c .before .before .before .before .before .before .before .before .pre .0 .0, c .before .before .before .before .before .before .before .before .pre .1 .0, omega (arith, c .before .loop .inv .1))
 
 largest-at-most-requires-2 : tie.Need-largest-at-most-requires-2 Inv-loop μ-loop
-largest-at-most-requires-2 c κs = search needs
+largest-at-most-requires-2 c κs = (c .before .before .before .before .before .before .before .before .before .before .pre .1 .0, omega (arith, c .before .before .before .loop .inv .1))
 
 returns-4 : tie.Need-returns-4 Inv-loop μ-loop
 returns-4 c = rw (c .largest-at-most2 .ensures) (up-to-selected _ _ _ _ (c .before .before .count-above3 .ensures) (c .before .if4 .taken))
@@ -70,7 +70,7 @@ loop-again-2 : tie.Need-loop-again-2 Inv-loop μ-loop
 loop-again-2 c = (omega arith, omega arith, omega arith, many-below _ _ _ _ (c .before .before .count-above3 .ensures) (omega arith))
 
 count-above-requires-4 : tie.Need-count-above-requires-4 Inv-loop μ-loop
-count-above-requires-4 c κs = search needs
+count-above-requires-4 c κs = (c .before .before .before .before .before .before .before .before .pre .0 .0, c .before .before .before .before .before .before .before .before .pre .1 .0, c .before .loop .inv .1)
 
 returns-5 : tie.Need-returns-5 Inv-loop μ-loop
 returns-5 c = record { least-few = record { few = c .before .before .loop .inv .2; least = λ u l. c .before .before .loop .inv .3 u (omega arith) }; counted = c .count-above4 .ensures }

@@ -1,17 +1,18 @@
+use borrow.Author.Needs.{needs}
+use Rattle.kernels.proofs.largest_at_most.Statement.{statement}
+use Rattle.kernels.proofs.largest_at_most.Tie as tie
 use Prim.Native.Nat.{_≤_, _-_}
 use mathlib.Core.Path.{_≡_}
 use native.Mathlib.Omega.{arith}
 use lib.ListN.{length, getD}
-use borrow.Author.Needs.{needs}
 use Rattle.auction.specs.Counting.{_≤?_, only, greatest}
-use Rattle.kernels.specs.Scans.{greatestUpTo}
+use Rattle.auction.proofs.Tests.{only-le}
+use Rattle.kernels.specs.Scans.{maxTotal, greatestUpTo}
 use Rattle.kernels.proofs.Loops.{greatest-none, greatest-more, greatest-end}
-use Rattle.kernels.proofs.largest_at_most.Statement.{statement}
-use Rattle.kernels.proofs.largest_at_most.Tie as tie
+use Rattle.kernels.proofs.Selection.{greatest-low}
 
 abbrev Inv-loop : tie.InvT-loop
-Inv-loop xs t r₀ i₀ r i =
-    (i ≤ length xs) × (r ≡ greatest i (λ k. only (getD xs k 0 ≤? t) (getD xs k 0)))
+Inv-loop xs t r₀ i₀ r i = (i ≤ length xs) × (r ≡ greatest i (λ k. only (getD xs k 0 ≤? t) (getD xs k 0)))
 
 abbrev μ-loop : tie.MeasureT-loop
 μ-loop xs t r₀ i₀ r i = length xs - i
@@ -26,10 +27,10 @@ shared-slice-read-capped : tie.Need-shared-slice-read-capped Inv-loop μ-loop
 shared-slice-read-capped c = search needs
 
 capped-requires : tie.Need-capped-requires Inv-loop μ-loop
-capped-requires c κs = search needs
+capped-requires c κs = (c .before .before .before .before .pre .0 _ (c .before .loop-test .taken), c .before .before .before .before .pre .1)
 
 larger-requires : tie.Need-larger-requires Inv-loop μ-loop
-larger-requires c κs = search needs
+larger-requires c κs = (rw (c .before .before .before .loop .inv .1) (greatest-low (c .before .before .before .before .before .args .xs .now) (c .before .before .before .before .before .args .t) (c .before .before .before .loop .i) (c .before .before .before .before .before .pre .0) (c .before .before .before .loop .inv .0)), rw (c .capped .ensures) (only-le _ _ maxTotal (λ _. c .before .before .before .before .before .pre .0 _ (c .before .before .loop-test .taken))))
 
 add-i : tie.Need-add-i Inv-loop μ-loop
 add-i c = search needs

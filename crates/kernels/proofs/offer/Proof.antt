@@ -5,7 +5,7 @@ use Prim.Native.Nat.{_-_, _≤_}
 use mathlib.Core.Path.{sym, _∙_}
 use native.Mathlib.Omega.{arith}
 use lib.ListN.{length}
-use Rattle.kernels.proofs.Offers.{won-pays, Offering, offers-none, offers-more, offers-end}
+use Rattle.kernels.proofs.Offers.{won-pays, gain-low, gain-left, Offering, offers-none, offers-more, offers-end}
 
 abbrev Inv-loop : tie.InvT-loop
 Inv-loop totals least critical bound station chosen₀ gains₀ i₀ chosen gains i = (i ≤ length totals) × Offering totals least critical bound station chosen₀ gains₀ i chosen gains
@@ -22,25 +22,25 @@ mul-total c = search needs
 shared-slice-read-total : tie.Need-shared-slice-read-total Inv-loop μ-loop
 shared-slice-read-total c = search needs
 
-mul-charge-for : tie.Need-mul-charge-for Inv-loop μ-loop
-mul-charge-for c = search needs
+mul-larger : tie.Need-mul-larger Inv-loop μ-loop
+mul-larger c = search needs
 
-shared-slice-read-charge-for : tie.Need-shared-slice-read-charge-for Inv-loop μ-loop
-shared-slice-read-charge-for c = search needs
+shared-slice-read-larger : tie.Need-shared-slice-read-larger Inv-loop μ-loop
+shared-slice-read-larger c = search needs
 
-charge-for-requires : tie.Need-charge-for-requires Inv-loop μ-loop
-charge-for-requires c κs = search needs
+larger-requires : tie.Need-larger-requires Inv-loop μ-loop
+larger-requires c κs = (c .before .before .before .before .before .before .before .before .pre .least-low _ (omega (arith, c .before .before .before .before .before .before .before .before .pre .least-long)), c .before .before .before .before .before .before .before .before .pre .critical-low)
 
 cast-wins : tie.Need-cast-wins Inv-loop μ-loop
 cast-wins c = search needs
 
 wins-requires : tie.Need-wins-requires Inv-loop μ-loop
-wins-requires c κs = search needs
+wins-requires c κs = (c .before .before .before .before .before .before .before .before .before .pre .no-tie, (omega (arith, c .before .before .before .before .before .before .before .before .before .pre .few), omega (arith, c .before .before .before .before .before .before .before .before .before .pre .bound-low), c .before .before .before .before .before .before .before .before .before .pre .totals-low _ (c .before .before .before .loop-test .taken), c .before .before .before .before .before .before .before .before .before .pre .critical-low))
 
 gain-for-requires : tie.Need-gain-for-requires Inv-loop μ-loop
 gain-for-requires c κs = (
   c .before .before .before .before .before .before .before .before .before .before .pre .totals-low _ (c .before .before .before .before .loop-test .taken),
-  (λ w. rw (c .before .charge-for .ensures) (won-pays _ _ _ _ _ (c .before .before .before .before .before .before .before .before .before .before .pre .covers _ (c .before .before .before .before .loop-test .taken)) (c .before .before .before .before .before .before .before .before .before .before .pre .no-tie) (sym (c .wins .ensures) ∙ w))),
+  (λ w. rw (c .before .larger .ensures) (won-pays _ _ _ _ _ (c .before .before .before .before .before .before .before .before .before .before .pre .covers _ (c .before .before .before .before .loop-test .taken)) (c .before .before .before .before .before .before .before .before .before .before .pre .no-tie) (sym (c .wins .ensures) ∙ w))),
 )
 
 mul-old : tie.Need-mul-old Inv-loop μ-loop
@@ -49,14 +49,14 @@ mul-old c = search needs
 slice-read-old : tie.Need-slice-read-old Inv-loop μ-loop
 slice-read-old c = search needs
 
-mul-pick32 : tie.Need-mul-pick32 Inv-loop μ-loop
-mul-pick32 c = search needs
+mul-pick : tie.Need-mul-pick Inv-loop μ-loop
+mul-pick c = search needs
 
-slice-read-pick32 : tie.Need-slice-read-pick32 Inv-loop μ-loop
-slice-read-pick32 c = search needs
+slice-read-pick : tie.Need-slice-read-pick Inv-loop μ-loop
+slice-read-pick c = search needs
 
-pick32-requires : tie.Need-pick32-requires Inv-loop μ-loop
-pick32-requires c κs = search needs
+pick-requires : tie.Need-pick-requires Inv-loop μ-loop
+pick-requires c κs = (gain-left (c .before .before .before .before .before .before .before .before .before .before .before .before .before .pre) (c .before .before .before .before .before .before .before .before .loop .inv .1) (c .before .before .before .before .before .before .before .loop-test .taken), gain-low _ _ _ (c .before .before .before .before .before .before .before .before .before .before .before .before .before .pre .totals-low _ (c .before .before .before .before .before .before .before .loop-test .taken)) (c .before .before .gain-for .ensures))
 
 mul-chosen : tie.Need-mul-chosen Inv-loop μ-loop
 mul-chosen c = search needs
@@ -64,8 +64,8 @@ mul-chosen c = search needs
 slice-write-chosen : tie.Need-slice-write-chosen Inv-loop μ-loop
 slice-write-chosen c = search needs
 
-pick32-requires-2 : tie.Need-pick32-requires-2 Inv-loop μ-loop
-pick32-requires-2 c κs = search needs
+pick-requires-2 : tie.Need-pick-requires-2 Inv-loop μ-loop
+pick-requires-2 c κs = (gain-left (c .before .before .before .before .before .before .before .before .before .before .before .before .before .before .pre) (c .before .before .before .before .before .before .before .before .before .loop .inv .1) (c .before .before .before .before .before .before .before .before .loop-test .taken), gain-low _ _ _ (c .before .before .before .before .before .before .before .before .before .before .before .before .before .before .pre .totals-low _ (c .before .before .before .before .before .before .before .before .loop-test .taken)) (c .before .before .before .gain-for .ensures))
 
 mul-gains : tie.Need-mul-gains Inv-loop μ-loop
 mul-gains c = search needs
@@ -82,7 +82,7 @@ loop-less c = search needs
 loop-again : tie.Need-loop-again Inv-loop μ-loop
 loop-again c = (
   omega arith,
-  offers-more (c .before .before .before .before .before .before .before .before .before .before .before .before .before .before .before .pre) (c .before .before .before .before .before .before .before .before .before .before .loop .inv .1) (c .before .before .before .before .before .before .before .before .before .loop-test .taken) (c .before .before .before .before .before .wins .ensures) (c .before .before .before .before .before .before .charge-for .ensures) (c .before .before .before .before .gain-for .ensures) (c .before .pick32 .ensures) (c .pick322 .ensures),
+  offers-more (c .before .before .before .before .before .before .before .before .before .before .before .before .before .before .before .pre) (c .before .before .before .before .before .before .before .before .before .before .loop .inv .1) (c .before .before .before .before .before .before .before .before .before .loop-test .taken) (c .before .before .before .before .before .wins .ensures) (c .before .before .before .before .before .before .larger .ensures) (c .before .before .before .before .gain-for .ensures) (c .before .pick .ensures) (c .pick2 .ensures),
 )
 
 same-length : tie.Need-same-length Inv-loop μ-loop
@@ -103,20 +103,20 @@ offer-spec =
     loop-holds
     mul-total
     shared-slice-read-total
-    mul-charge-for
-    shared-slice-read-charge-for
-    charge-for-requires
+    mul-larger
+    shared-slice-read-larger
+    larger-requires
     cast-wins
     wins-requires
     gain-for-requires
     mul-old
     slice-read-old
-    mul-pick32
-    slice-read-pick32
-    pick32-requires
+    mul-pick
+    slice-read-pick
+    pick-requires
     mul-chosen
     slice-write-chosen
-    pick32-requires-2
+    pick-requires-2
     mul-gains
     slice-write-gains
     add-i

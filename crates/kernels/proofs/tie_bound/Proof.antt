@@ -27,7 +27,7 @@ cast-result : tie.Need-cast-result Inv-loop μ-loop
 cast-result c = search needs
 
 returns-2 : tie.Need-returns-2 Inv-loop μ-loop
-returns-2 c = bound-here (c .before .before .before .if1 .left) (c .before .before .loop .inv .2) (c .before .before .loop .inv .3) (inl (c .if2 .taken))
+returns-2 c = bound-here (c .before .before .loop .inv .0) (c .before .before .before .if1 .left) (c .before .before .loop .inv .2) (c .before .before .loop .inv .3) (inl (c .if2 .taken))
 
 mul-tally : tie.Need-mul-tally Inv-loop μ-loop
 mul-tally c = search needs
@@ -56,7 +56,7 @@ cast-result-2 : tie.Need-cast-result-2 Inv-loop μ-loop
 cast-result-2 c = search needs
 
 returns-3 : tie.Need-returns-3 Inv-loop μ-loop
-returns-3 c = bound-here (c .before .before .if1 .left) (c .before .loop .inv .2) (c .before .loop .inv .3) (inr (c .loop-test .left))
+returns-3 c = bound-here (c .before .loop .inv .0) (c .before .before .if1 .left) (c .before .loop .inv .2) (c .before .loop .inv .3) (inr (c .loop-test .left))
 
 pub tie-bound-spec : {M : Type 1} → statement M
 tie-bound-spec =
