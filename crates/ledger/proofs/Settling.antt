@@ -16,7 +16,7 @@ use Rattle.auction.proofs.Counting.{some-no}
 use Rattle.ledger.specs.declared.Reply.the-variants as reply
 use Rattle.ledger.specs.declared.Round.{Round}
 use Rattle.ledger.specs.Round.{verdictOf, refusing, exceeding, plus, Addable, followed, ruled, keptRound, chosen, Settled}
-use Rattle.kernels.proofs.Loops.{or-is}
+use Rattle.auction.proofs.Loops.{or-is}
 
 -- where no account exceeds, each sum is within the limit, so within 64 bits
 pub within : (xs adds : List ℕ) → exceeding xs adds ≡ false → (k : ℕ) → k < length xs → getD xs k 0 + getD adds k 0 ≤ maxAccount

@@ -19,7 +19,7 @@ use Rattle.ledger.specs.PlainBook.{empty}
 use Rattle.ledger.specs.LentBook.{account, blank, accountAt, soldOf, paidOf, plain, PlainDetermines}
 use Rattle.ledger.specs.Round.{exceeding, plus}
 use Rattle.ledger.specs.Stations.{exceedsWith, exceedingTo, creditedBy, credited, creditedTo}
-use Rattle.kernels.proofs.Loops.{or-is, is-list}
+use Rattle.auction.proofs.Loops.{or-is, is-list}
 
 -- ---- the plain book's lists
 
