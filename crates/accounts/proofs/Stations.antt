@@ -15,7 +15,8 @@ use Rattle.auction.proofs.Tests.{or-no, lt-no, lt-or-le}
 use Rattle.auction.proofs.Counting.{some-no, some-cong, here}
 use Rattle.accounts.specs.declared.StationAccount.{StationAccount}
 use Rattle.accounts.specs.declared.Round.{Round}
-use Rattle.accounts.specs.Stations.{account, accountAt, soldOf, paidOf, exceedsWith, exceedingTo, creditedBy, credited, creditedTo}
+use Rattle.accounts.specs.Records.{account, accountAt, soldOf, paidOf}
+use Rattle.accounts.specs.Stations.{exceedsWith, exceedingTo, creditedBy, credited, creditedTo}
 use Rattle.accounts.specs.Accounts.{exceeding, plus}
 use Rattle.kernels.proofs.Loops.{or-is, is-list}
 

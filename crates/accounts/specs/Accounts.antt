@@ -1,4 +1,4 @@
--- Lists of accounts that a round is added to.
+-- What the functions over lists of accounts promise: whether a sum is above the limit, and the sums.
 use Prim.Native.Nat.{ℕ, _+_, _<_, _^_}
 use mathlib.Core.Bool.{Bool}
 use mathlib.Core.List.{List}

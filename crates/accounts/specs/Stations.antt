@@ -1,26 +1,13 @@
 -- What the functions over the stations' accounts promise: each record with what a round adds to it.
 use Prim.Native.Nat.{ℕ, zero, suc, _+_}
 use mathlib.Core.Bool.{Bool, true, false}
-use mathlib.Core.List.{List, map}
+use mathlib.Core.List.{List}
 use lib.ListN.{getD, set}
 use Rattle.auction.specs.Counting.{_<?_, _or_, some}
 use Rattle.auction.specs.Limits.{maxAccount}
 use Rattle.accounts.specs.declared.StationAccount.{StationAccount}
 use Rattle.accounts.specs.declared.Round.{Round}
-
-abbrev pub account : (sold paid : ℕ) → StationAccount
-account sold paid = record { sold = sold; paid = paid }
-
--- station j's account
-abbrev pub accountAt : List StationAccount → ℕ → StationAccount
-accountAt l j = getD l j (account 0 0)
-
--- each record's kWh sold, and each one's money paid
-unfoldable pub soldOf : List StationAccount → List ℕ
-soldOf l = map (λ (a : StationAccount). a .sold) l
-
-unfoldable pub paidOf : List StationAccount → List ℕ
-paidOf l = map (λ (a : StationAccount). a .paid) l
+use Rattle.accounts.specs.Records.{account, accountAt}
 
 -- station j's account a would be above the limit with what the round adds
 unfoldable pub exceedsWith : Round → ℕ → StationAccount → Bool

@@ -24,7 +24,8 @@ use Rattle.accounts.specs.declared.StationAccount.{StationAccount}
 use Rattle.rounds.specs.Posting.{Posting, posting, toGuest, toSold, toPaid, toHouse}
 use Rattle.ledger.specs.PlainBook.{answer, settled, after}
 use Rattle.ledger.specs.LentBook.{LentBook, book, plain}
-use Rattle.accounts.specs.Stations.{soldOf, paidOf, exceedingTo, creditedTo}
+use Rattle.accounts.specs.Records.{soldOf, paidOf}
+use Rattle.accounts.specs.Stations.{exceedingTo, creditedTo}
 use Rattle.ledger.specs.Ledger.{Posted}
 use Rattle.rounds.specs.Round.{posted, verdictOf, adding, refusing, roundBy, earlyFaults, planned, followed, ruled, keptRound, chosen, Settled}
 use Rattle.accounts.specs.Accounts.{exceeding, plus}

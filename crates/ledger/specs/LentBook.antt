@@ -5,7 +5,7 @@ use mathlib.Core.Path.{_≡_}
 use lib.ListN.{replicate}
 use Rattle.auction.specs.Faults.{Book}
 use Rattle.accounts.specs.declared.StationAccount.{StationAccount}
-use Rattle.accounts.specs.Stations.{account, soldOf, paidOf}
+use Rattle.accounts.specs.Records.{account, soldOf, paidOf}
 
 pub record LentBook : Type 0 where
   pub guests : List ℕ

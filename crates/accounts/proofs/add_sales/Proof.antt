@@ -48,7 +48,8 @@ use denote.Triple.Spec.{Meets, tripleOf}
 use denote.Triple.Table.{entered, cited}
 use denote.Triple.Walked.{says, Stays, stay-slice, stay-none, walkOf, goes-slice, goes-none, Walks, ends-at, walked, walk-meets}
 use denote.Exit.{yes}
-use Rattle.accounts.specs.Stations.{account, accountAt, credited, creditedTo}
+use Rattle.accounts.specs.Records.{account, accountAt}
+use Rattle.accounts.specs.Stations.{credited, creditedTo}
 use Rattle.accounts.specs.declared.StationAccount.{StationAccount}
 use Rattle.accounts.specs.declared.Round.{Round}
 use Rattle.accounts.proofs.Stations.{credited-none, credited-more, credited-length}

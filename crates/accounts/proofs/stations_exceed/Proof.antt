@@ -47,7 +47,8 @@ use denote.Triple.Table.{entered, cited}
 use denote.Triple.Walked.{says, Stays, stay-none-slice, stay-none, walkOf, goes-none-slice, goes-none, Walks, ends-at, walked, walk-meets}
 use denote.Exit.{yes}
 use Rattle.auction.specs.Counting.{_or_}
-use Rattle.accounts.specs.Stations.{account, accountAt, exceedsWith, exceedingTo}
+use Rattle.accounts.specs.Records.{account, accountAt}
+use Rattle.accounts.specs.Stations.{exceedsWith, exceedingTo}
 use Rattle.accounts.specs.declared.StationAccount.{StationAccount}
 use Rattle.accounts.specs.declared.Round.{Round}
 use Rattle.accounts.proofs.Stations.{exceeding-none, exceeding-more}
