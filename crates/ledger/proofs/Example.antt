@@ -9,11 +9,13 @@ use Rattle.auction.specs.Mechanism.{at, charge, charged, sold, paid, margin, be
 use Rattle.auction.specs.Outcome.{settle, seen, decided}
 use Rattle.auction.specs.Faults.{outside, counts, lengths, values, marketFaults, raised, entered, overLimit, bookSize, outOfTurn, postingFaults}
 use Rattle.auction.specs.Cases.{tables, pair, caseE}
-use Rattle.ledger.specs.PlainBook.{Posting, posting, empty, answer, settled, after, answers, final}
-use Rattle.ledger.specs.LentBook.{LentBook, book, account, blank, soldOf, paidOf, plain}
+use Rattle.rounds.specs.Posting.{Posting, posting}
+use Rattle.ledger.specs.PlainBook.{empty, answer, settled, after, answers, final}
+use Rattle.ledger.specs.LentBook.{LentBook, book, blank, plain}
+use Rattle.accounts.specs.Records.{account, soldOf, paidOf}
 use Rattle.ledger.specs.Ledger.{Posted, none, call, ExampleCalled, ExampleKept}
 use Rattle.ledger.proofs.Ledger.{from-blank}
-use Rattle.ledger.proofs.Stations.{plain-determines}
+use Rattle.ledger.proofs.LentBook.{plain-determines}
 
 abbrev twice : List Posting
 twice = posting caseE 1 ∷ posting caseE 1 ∷ []

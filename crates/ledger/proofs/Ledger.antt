@@ -15,11 +15,13 @@ use Rattle.auction.proofs.Tests.{or-no, neither, not-lt}
 use Rattle.auction.proofs.Counting.{none-any}
 use Rattle.auction.proofs.Acceptance.{clear-of, clear-of-both, inside}
 use Rattle.auction.proofs.Truth.{balanced}
-use Rattle.ledger.specs.PlainBook.{Posting, empty, answer, settled, after, answers, final, kept, rounds, total, toGuest, toSold, toPaid, toHouse, together}
+use Rattle.rounds.specs.Posting.{Posting, toGuest, toSold, toPaid, toHouse}
+use Rattle.ledger.specs.PlainBook.{empty, answer, settled, after, answers, final, kept, rounds, total, together}
 use Rattle.ledger.specs.LentBook.{LentBook, blank, plain}
 use Rattle.ledger.specs.Ledger.{Calls, none, call, Kept, BookKept}
 use Rattle.ledger.proofs.Accounts.{length-raised, getD-raised, together-raised, together-zeros}
-use Rattle.ledger.proofs.Stations.{length-sold, getD-sold, getD-paid, plain-blank}
+use Rattle.accounts.proofs.Stations.{length-sold, getD-sold, getD-paid}
+use Rattle.ledger.proofs.LentBook.{plain-blank}
 
 -- a posted round fits the book, and no account passes the limit
 pub record Fits (B : Book) (p : Posting) : Type 0 where

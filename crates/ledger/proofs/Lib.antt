@@ -1,8 +1,5 @@
 pub mod Accounts
-pub mod Cleared
-pub mod Stations
+pub mod LentBook
 pub mod Ledger
-pub mod Settling
-pub mod Planning
 pub mod Posting
 pub mod Example

@@ -18,17 +18,20 @@ use Rattle.auction.specs.Faults.{Book, raised, entered, overLimit, bookSize, ou
 use Rattle.auction.proofs.Tests.{decide, same-test, or-cases, or-left, or-right, or-no, lt-yes, is-lt, lt-or-le}
 use Rattle.auction.proofs.Counting.{some-cong, some-mono, getD-list, list-cong}
 use Rattle.auction.proofs.Acceptance.{clear-of, clear-of-both, first-refuses, first-accepts, inside}
-use Rattle.ledger.specs.declared.Reply.the-variants as reply
-use Rattle.ledger.specs.declared.Round.{Round}
-use Rattle.ledger.specs.declared.StationAccount.{StationAccount}
-use Rattle.ledger.specs.PlainBook.{Posting, posting, answer, settled, after, toGuest, toSold, toPaid, toHouse}
-use Rattle.ledger.specs.LentBook.{LentBook, book, soldOf, paidOf, plain}
+use Rattle.accounts.specs.declared.Reply.the-variants as reply
+use Rattle.accounts.specs.declared.Round.{Round}
+use Rattle.accounts.specs.declared.StationAccount.{StationAccount}
+use Rattle.rounds.specs.Posting.{Posting, posting, toGuest, toSold, toPaid, toHouse}
+use Rattle.ledger.specs.PlainBook.{answer, settled, after}
+use Rattle.ledger.specs.LentBook.{LentBook, book, plain}
+use Rattle.accounts.specs.Records.{soldOf, paidOf}
+use Rattle.accounts.specs.Stations.{exceedingTo, creditedTo}
 use Rattle.ledger.specs.Ledger.{Posted}
-use Rattle.ledger.specs.Round.{posted, verdictOf, adding, refusing, roundBy, earlyFaults, planned, exceeding, plus, followed, ruled, keptRound, chosen, Settled}
-use Rattle.ledger.specs.Stations.{exceedingTo, creditedTo}
+use Rattle.rounds.specs.Round.{posted, verdictOf, adding, refusing, roundBy, earlyFaults, planned, followed, ruled, keptRound, chosen, Settled}
+use Rattle.accounts.specs.Accounts.{exceeding, plus}
 use Rattle.ledger.proofs.Accounts.{length-raised, getD-raised}
-use Rattle.ledger.proofs.Stations.{length-sold, length-paid, exceeding-is, sold-credited, paid-credited, credited-nothing}
-use Rattle.ledger.proofs.Planning.{replied}
+use Rattle.accounts.proofs.Stations.{length-sold, length-paid, exceeding-is, sold-credited, paid-credited, credited-nothing}
+use Rattle.rounds.proofs.Planning.{replied}
 
 -- ---- accounts with what a round adds
 

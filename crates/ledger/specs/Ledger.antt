@@ -8,8 +8,10 @@ use Rattle.auction.specs.Refusals.{number, Verdict, accepted, refused}
 use Rattle.auction.specs.declared.Refusal.the-variants.{RoundOutOfTurn}
 use Rattle.auction.specs.Faults.{overLimit}
 use Rattle.auction.specs.Cases.{caseE}
-use Rattle.ledger.specs.PlainBook.{Posting, posting, empty, answer, after, answers, final, rounds, total, toGuest, toSold, toPaid, toHouse, together}
-use Rattle.ledger.specs.LentBook.{LentBook, book, account, blank, accountAt, paidOf, plain}
+use Rattle.accounts.specs.Records.{account, accountAt, paidOf}
+use Rattle.rounds.specs.Posting.{Posting, posting, toGuest, toSold, toPaid, toHouse}
+use Rattle.ledger.specs.PlainBook.{empty, answer, after, answers, final, rounds, total, together}
+use Rattle.ledger.specs.LentBook.{LentBook, book, blank, plain}
 
 -- one call: the answer and the whole book at exit, refused or not
 pub record Posted (entry : LentBook) (p : Posting) (v : Verdict) (exit : LentBook) : Type 0 where

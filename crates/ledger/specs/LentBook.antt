@@ -1,10 +1,11 @@
 -- The book as it is lent: the station accounts are a row of records.
 use Prim.Native.Nat.{ℕ}
-use mathlib.Core.List.{List, map}
+use mathlib.Core.List.{List}
 use mathlib.Core.Path.{_≡_}
-use lib.ListN.{getD, replicate}
+use lib.ListN.{replicate}
 use Rattle.auction.specs.Faults.{Book}
-use Rattle.ledger.specs.declared.StationAccount.{StationAccount}
+use Rattle.accounts.specs.declared.StationAccount.{StationAccount}
+use Rattle.accounts.specs.Records.{account, soldOf, paidOf}
 
 pub record LentBook : Type 0 where
   pub guests : List ℕ
@@ -15,23 +16,9 @@ pub record LentBook : Type 0 where
 abbrev pub book : (guests : List ℕ) (stations : List StationAccount) (house last : ℕ) → LentBook
 book guests stations house last = record { guests = guests; stations = stations; house = house; last = last }
 
-abbrev pub account : (sold paid : ℕ) → StationAccount
-account sold paid = record { sold = sold; paid = paid }
-
 -- a book of g guest and s station accounts, all 0
 unfoldable pub blank : (g s : ℕ) → LentBook
 blank g s = book (replicate g 0) (replicate s (account 0 0)) 0 0
-
--- station j's account
-abbrev pub accountAt : List StationAccount → ℕ → StationAccount
-accountAt l j = getD l j (account 0 0)
-
--- each record's kWh sold, and each one's money paid
-unfoldable pub soldOf : List StationAccount → List ℕ
-soldOf l = map (λ (a : StationAccount). a .sold) l
-
-unfoldable pub paidOf : List StationAccount → List ℕ
-paidOf l = map (λ (a : StationAccount). a .paid) l
 
 -- the plain book with the same numbers
 unfoldable pub plain : LentBook → Book

@@ -1,5 +1,3 @@
 pub mod PlainBook
 pub mod LentBook
 pub mod Ledger
-pub mod Round
-pub mod Stations

@@ -2,20 +2,10 @@
 use Prim.Native.Nat.{ℕ, _+_}
 use mathlib.Core.List.{List, [], _∷_}
 use lib.ListN.{getD, length, replicate}
-use Rattle.auction.specs.Counting.{_<?_, only, sum}
-use Rattle.auction.specs.Market.{Tables}
-use Rattle.auction.specs.Mechanism.{charged, sold, paid, margin}
-use Rattle.auction.specs.Outcome.{seen, decided}
+use Rattle.auction.specs.Counting.{sum}
 use Rattle.auction.specs.Refusals.{Verdict, accepted, refused, firstFault}
 use Rattle.auction.specs.Faults.{Book, entered, postingFaults}
-
--- a posting's arguments: a market, well formed or not, and a round number
-pub record Posting : Type 0 where
-  pub tables : Tables
-  pub round : ℕ
-
-abbrev pub posting : Tables → (round : ℕ) → Posting
-posting t round = record { tables = t; round = round }
+use Rattle.rounds.specs.Posting.{Posting}
 
 -- a book of g guest and s station accounts, all 0
 unfoldable pub empty : (g s : ℕ) → Book
@@ -56,19 +46,6 @@ rounds (p ∷ ps) (v ∷ vs) = kept v p (rounds ps vs)
 unfoldable pub total : (Posting → ℕ) → List Posting → ℕ
 total f [] = 0
 total f (p ∷ ps) = f p + total f ps
-
--- what a posted round adds to guest i's account, to station j's and to the house's
-unfoldable pub toGuest : ℕ → Posting → ℕ
-toGuest i p = only (i <? length (p .tables .amounts)) (charged (seen (p .tables)) (decided (p .tables)) i)
-
-unfoldable pub toSold : ℕ → Posting → ℕ
-toSold j p = only (j <? length (p .tables .asks)) (sold (seen (p .tables)) (decided (p .tables)) j)
-
-unfoldable pub toPaid : ℕ → Posting → ℕ
-toPaid j p = only (j <? length (p .tables .asks)) (paid (seen (p .tables)) (decided (p .tables)) j)
-
-unfoldable pub toHouse : Posting → ℕ
-toHouse p = margin (seen (p .tables)) (decided (p .tables))
 
 -- all accounts of a list together
 unfoldable pub together : List ℕ → ℕ

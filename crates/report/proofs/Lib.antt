@@ -1,4 +1,1 @@
-pub mod Writing
-pub mod Decimal
-pub mod Lines
 pub mod Printing

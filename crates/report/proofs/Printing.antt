@@ -16,10 +16,14 @@ use Rattle.clearing.specs.Clears.{tables}
 use Rattle.sheet.proofs.Callers.{ReadTables}
 use Rattle.sheet.specs.Sheet as sheet
 use Rattle.sheet.specs.Sheet.{readSheet, tablesOf}
-use Rattle.report.specs.Text.{field, cutWord, marginWord, refusedWord, lineEnd, guestLines, stationLines, text, refusalText, marketText, marketTextOf, sheetText, printed}
-use Rattle.report.specs.Writing.{Wrote, outcomeOf, maxText, Prints}
-use Rattle.report.proofs.Lines.{length-field, length-guest-lines, length-station-lines}
-use Rattle.report.proofs.Writing.{wrote-all}
+use Rattle.text.specs.Decimal.{field}
+use Rattle.lines.specs.Text.{cutWord, marginWord, refusedWord, lineEnd, guestLines, stationLines, text, refusalText, outcomeOf}
+use Rattle.report.specs.Text.{marketText, marketTextOf, sheetText, printed}
+use Rattle.text.specs.Writing.{Wrote}
+use Rattle.report.specs.Writing.{maxText, Prints}
+use Rattle.text.proofs.Fields.{length-field}
+use Rattle.lines.proofs.Lines.{length-guest-lines, length-station-lines}
+use Rattle.text.proofs.Writing.{wrote-all}
 
 prints : {t l l′ : List ℕ} {q : ℕ} → Wrote l 0 t l′ q → length t ≤ maxText → Prints t l q l′
 prints {t} {l} {l′} {q} w h = record { buffer-is = wrote-all l t l′ q w; length-is = omega (arith, w .next); fits = omega (arith, w .next) }

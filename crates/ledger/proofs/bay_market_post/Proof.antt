@@ -38,15 +38,15 @@ use denote.Triple.Walked.{says, Stays, gave-ref, gave-slice, stay-none, stay-non
 use denote.Exit.{yes}
 use Rattle.auction.specs.Refusals.{Verdict}
 use Rattle.clearing.specs.Clears.{tables}
-use Rattle.ledger.specs.PlainBook.{Posting, posting}
+use Rattle.rounds.specs.Posting.{Posting, posting}
 use Rattle.ledger.specs.LentBook.{LentBook, book}
 use Rattle.ledger.specs.Ledger.{Posted, numberOf, Numbered}
-use Rattle.ledger.specs.Round.{verdictOf}
-use Rattle.ledger.specs.declared.StationAccount.{StationAccount}
-use Rattle.ledger.specs.declared.Reply.{Reply}
-use Rattle.ledger.proofs.StationAccount as T
-use Rattle.ledger.proofs.Reply as S
-use Rattle.ledger.proofs.Reply.Laws as S′
+use Rattle.rounds.specs.Round.{verdictOf}
+use Rattle.accounts.specs.declared.StationAccount.{StationAccount}
+use Rattle.accounts.specs.declared.Reply.{Reply}
+use Rattle.accounts.proofs.StationAccount as T
+use Rattle.accounts.proofs.Reply as S
+use Rattle.accounts.proofs.Reply.Laws as S′
 use Rattle.ledger.proofs.post as post
 use Rattle.ledger.proofs.post.Symbol as post-def
 use Rattle.ledger.proofs.post.Symbol.{name as #ledger·post}

@@ -1,0 +1,3 @@
+pub mod Accounts
+pub mod Records
+pub mod Stations
