@@ -11,9 +11,10 @@ use Rattle.auction.specs.Counting.{_=?_, _or_, any}
 use Rattle.auction.specs.Refusals.{Row, _gives_, accepted, refused, firstFault}
 use Rattle.auction.specs.Limits.{maxPrice}
 use Rattle.auction.specs.Market.{Tables}
-use Rattle.auction.specs.Faults.{outside, counts, lengths, values, marketFaults, verdict, Accepted}
-use Rattle.auction.specs.Readings.{WithinLimits, AcceptedReads}
-use Rattle.auction.proofs.Tests.{or-no, neither, lt-no, not-lt, eq-yes, eq-no, is-eq, not-eq}
+use Rattle.auction.specs.Faults.{outside, counts, lengths, lent, values, marketFaults, verdict, Accepted, clearingFaults, Book, bookSize, outOfTurn, postingFaults}
+use Rattle.auction.specs.Outcome.{Results}
+use Rattle.auction.specs.Readings.{WithinLimits, AcceptedReads, CallWithinLimits, CallAcceptedReads, PostingWithinLimits, PostingAcceptedReads}
+use Rattle.auction.proofs.Tests.{or-no, neither, lt-no, not-lt, le-no, not-le, eq-yes, eq-no, is-eq, not-eq}
 use Rattle.auction.proofs.Counting.{any-no, none-any}
 
 pub stop : {b : Bool} (r : Refusal) (rows : List Row) → b ≡ true → firstFault ((b gives r) ∷ rows) ≡ refused r
@@ -117,3 +118,63 @@ accept t w =
 
 pub accepted-reads : AcceptedReads
 accepted-reads t = (within t, accept t)
+
+call-within : (t : Tables) (r : Results) → firstFault (clearingFaults t r) ≡ accepted → CallWithinLimits t r
+unfolding verdict marketFaults clearingFaults counts lengths lent
+call-within t r e =
+    let (c, e1) = clear-of _ _ _ e in
+    let (l, e2) = clear-of _ _ _ e1 in
+    let (k, e3) = clear-of _ _ _ e2 in
+    let (k012, paid) = or-no _ _ k in
+    let (k01, sold) = or-no _ _ k012 in
+    let (stations, charges) = or-no _ _ k01 in
+    record {
+      market-accepted = clear _ _ c (clear _ _ l e3);
+      lists-fit = record { stations-long = equal _ _ stations; charges-long = equal _ _ charges; sold-long = equal _ _ sold; paid-long = equal _ _ paid };
+    }
+
+call-accept : (t : Tables) (r : Results) → CallWithinLimits t r → firstFault (clearingFaults t r) ≡ accepted
+unfolding verdict marketFaults clearingFaults counts lengths lent
+call-accept t r w =
+    let (c, e1) = clear-of _ _ _ (w .market-accepted) in
+    let (l, e2) = clear-of _ _ _ e1 in
+    clear _ _ c (clear _ _ l (clear _ _
+    (neither (neither (neither (not-unequal _ _ (w .lists-fit .stations-long)) (not-unequal _ _ (w .lists-fit .charges-long))) (not-unequal _ _ (w .lists-fit .sold-long))) (not-unequal _ _ (w .lists-fit .paid-long)))
+    e2))
+
+pub call-accepted-reads : CallAcceptedReads
+call-accepted-reads t r = (call-within t r, call-accept t r)
+
+posting-within : (t : Tables) (round : ℕ) (B : Book) → firstFault (postingFaults t round B) ≡ accepted → PostingWithinLimits t round B
+unfolding verdict postingFaults bookSize outOfTurn
+posting-within t round B e =
+    let (m, e1) = clear-of-both (marketFaults t) _ e in
+    let (size, e2) = clear-of _ _ _ e1 in
+    let (turn, e3) = clear-of _ _ _ e2 in
+    let (room, e4) = clear-of _ _ _ e3 in
+    let (g, s) = or-no _ _ size in
+    let (left, next) = or-no _ _ turn in
+    let (before, after) = or-no _ _ room in
+    record {
+      market-accepted = m;
+      guests-least = inside _ _ _ g .0;
+      guests-most = inside _ _ _ g .1;
+      stations-least = inside _ _ _ s .0;
+      stations-most = inside _ _ _ s .1;
+      rounds-left = le-no _ _ left;
+      next-round = equal _ _ next;
+      within-before = before;
+      within-after = after;
+    }
+
+posting-accept : (t : Tables) (round : ℕ) (B : Book) → PostingWithinLimits t round B → firstFault (postingFaults t round B) ≡ accepted
+unfolding verdict postingFaults bookSize outOfTurn
+posting-accept t round B w =
+    rw (first-accepts (marketFaults t) _ (w .market-accepted))
+    (clear _ _ (neither (not-outside _ _ _ (w .guests-least) (w .guests-most)) (not-outside _ _ _ (w .stations-least) (w .stations-most)))
+    (clear _ _ (neither (not-le _ _ (w .rounds-left)) (not-unequal _ _ (w .next-round)))
+    (clear _ _ (neither (w .within-before) (w .within-after))
+    no-rows)))
+
+pub posting-accepted-reads : PostingAcceptedReads
+posting-accepted-reads t round B = (posting-within t round B, posting-accept t round B)

@@ -3,12 +3,12 @@ use Prim.Native.Nat.{ℕ}
 use mathlib.Core.List.{List, [], _∷_, map}
 use mathlib.Core.Path.{_≡_}
 use lib.ListN.{length, replicate}
-use Rattle.auction.specs.declared.Refusal.the-variants.{CountsOutOfRange, LengthsDiffer, AskOutOfRange, BaysOutOfRange, AmountOutOfRange, BidOutOfRange, RoundOutOfTurn, AccountOverLimit, BookSize}
+use Rattle.auction.specs.declared.Refusal.the-variants.{CountsOutOfRange, LengthsDiffer, AskOutOfRange, BaysOutOfRange, AmountOutOfRange, BidOutOfRange, LentLengths, RoundOutOfTurn, AccountOverLimit, BookSize}
 use Rattle.auction.specs.Refusals.{Verdict, accepted, refused, firstFault}
 use Rattle.auction.specs.Market.{Tables}
 use Rattle.auction.specs.Mechanism.{charge}
-use Rattle.auction.specs.Outcome.{Outcome, seen, decided, outcome}
-use Rattle.auction.specs.Faults.{verdict, Book, postingFaults}
+use Rattle.auction.specs.Outcome.{Results, Outcome, seen, decided, outcome}
+use Rattle.auction.specs.Faults.{verdict, clearingFaults, Book, postingFaults}
 
 -- asks, bays, amounts, bids
 unfoldable pub tables : (asks bays amounts bids : List ℕ) → Tables
@@ -83,6 +83,9 @@ limitCases =
     ∷ (pair (1 ∷ []) (8 ∷ []) is refused LengthsDiffer)
     ∷ (tables (1 ∷ []) [] [] [] is refused LengthsDiffer)
     ∷ (record { asks = 1 ∷ []; bays = 1 ∷ []; amounts = []; bids = []; width = 2 } is refused LengthsDiffer)
+    ∷ (tables [] (1 ∷ []) [] [] is refused CountsOutOfRange)
+    ∷ (tables (1_000_001 ∷ []) [] [] [] is refused LengthsDiffer)
+    ∷ (single 1_000_001 0 1 1 is refused AskOutOfRange)
     ∷ (single 1_000_001 1 0 1 is refused AskOutOfRange)
     ∷ (single 1 0 0 1 is refused BaysOutOfRange)
     ∷ (single 1 201 1 1 is refused BaysOutOfRange)
@@ -91,14 +94,49 @@ limitCases =
     ∷ (single 1 1 1 1_000_001 is refused BidOutOfRange)
     ∷ []
 
--- a posting of case E
+-- one guest, two stations
+unfoldable pub lone : Tables
+lone = pair (1 ∷ []) (6 ∷ 0 ∷ [])
+
+-- a clearing call, with result lists of these lengths
+pub record CallCase : Type 0 where
+  pub given : Tables
+  pub lists : Results
+  pub expected : Verdict
+
+unfoldable pub called : Tables → (stations charges sold paid : ℕ) → Verdict → CallCase
+called t stations charges sold paid v = record { given = t; lists = record { stations = replicate stations 0; charges = replicate charges 0; sold = replicate sold 0; paid = replicate paid 0 }; expected = v }
+
+-- each result list too short and too long; lengths of the market come before, values after
+unfoldable pub calls : List CallCase
+calls =
+    called lone 1 1 2 2 accepted
+    ∷ called lone 0 1 2 2 (refused LentLengths)
+    ∷ called lone 2 1 2 2 (refused LentLengths)
+    ∷ called lone 1 0 2 2 (refused LentLengths)
+    ∷ called lone 1 2 2 2 (refused LentLengths)
+    ∷ called lone 1 1 1 2 (refused LentLengths)
+    ∷ called lone 1 1 3 2 (refused LentLengths)
+    ∷ called lone 1 1 2 1 (refused LentLengths)
+    ∷ called lone 1 1 2 3 (refused LentLengths)
+    ∷ called (tables [] (1 ∷ []) [] []) 1 1 1 1 (refused CountsOutOfRange)
+    ∷ called (pair (1 ∷ []) (8 ∷ [])) 0 0 0 0 (refused LengthsDiffer)
+    ∷ called (single 1_000_001 1 1 1) 0 0 0 0 (refused LentLengths)
+    ∷ []
+
+-- a posting
 pub record PostingCase : Type 0 where
+  pub given : Tables
   pub round : ℕ
   pub book : Book
   pub expected : Verdict
 
+unfoldable pub postedOf : Tables → (round : ℕ) (guests sold paid : List ℕ) (house last : ℕ) → Verdict → PostingCase
+postedOf t round guests sold paid house last v = record { given = t; round = round; book = record { guests = guests; sold = sold; paid = paid; house = house; last = last }; expected = v }
+
+-- of case E
 unfoldable pub posted : (round : ℕ) (guests sold paid : List ℕ) (house last : ℕ) → Verdict → PostingCase
-posted round guests sold paid house last v = record { round = round; book = record { guests = guests; sold = sold; paid = paid; house = house; last = last }; expected = v }
+posted = postedOf caseE
 
 -- the first posting of document 01's example and its repetition; then the book's size, the round after the last, and the limit of each kind of account
 unfoldable pub postings : List PostingCase
@@ -107,6 +145,12 @@ postings =
     ∷ posted 1 (24 ∷ 0 ∷ []) (3 ∷ 0 ∷ []) (18 ∷ 0 ∷ []) 6 1 (refused RoundOutOfTurn)
     ∷ posted 7 (0 ∷ []) (0 ∷ 0 ∷ []) (0 ∷ 0 ∷ []) 0 0 (refused BookSize)
     ∷ posted 1 (replicate 201 0) (0 ∷ 0 ∷ []) (0 ∷ 0 ∷ []) 0 0 (refused BookSize)
+    ∷ postedOf lone 1 (0 ∷ []) (0 ∷ 0 ∷ []) (0 ∷ 0 ∷ []) 0 0 accepted
+    ∷ postedOf lone 1 (0 ∷ 0 ∷ []) (0 ∷ []) (0 ∷ []) 0 0 (refused BookSize)
+    ∷ postedOf lone 1 (replicate 200 0) (replicate 40 0) (replicate 40 0) 0 0 accepted
+    ∷ postedOf lone 1 (0 ∷ []) (replicate 41 0) (replicate 41 0) 0 0 (refused BookSize)
+    ∷ postedOf (single 1 1 1 1_000_001) 7 [] [] [] 0 0 (refused BidOutOfRange)
+    ∷ posted 7 (1_000_000_000_000_001 ∷ 0 ∷ []) (0 ∷ 0 ∷ []) (0 ∷ 0 ∷ []) 0 0 (refused RoundOutOfTurn)
     ∷ posted 4_294_967_296 (0 ∷ 0 ∷ []) (0 ∷ 0 ∷ []) (0 ∷ 0 ∷ []) 0 4_294_967_295 (refused RoundOutOfTurn)
     ∷ posted 1 (999_999_999_999_976 ∷ 0 ∷ []) (999_999_999_999_997 ∷ 0 ∷ []) (999_999_999_999_982 ∷ 0 ∷ []) 999_999_999_999_994 0 accepted
     ∷ posted 1 (999_999_999_999_977 ∷ 0 ∷ []) (0 ∷ 0 ∷ []) (0 ∷ 0 ∷ []) 0 0 (refused AccountOverLimit)
@@ -122,4 +166,5 @@ pub record CasesHold : Type 0 where
   pub all-cleared : map (λ c. outcome (c .given)) cases ≡ map (λ c. c .expected) cases
   pub other-place : charge (seen tableI) (decided tableI) 0 1 ≡ 16
   pub all-judged : map (λ c. verdict (c .given)) limitCases ≡ map (λ c. c .expected) limitCases
-  pub all-posted : map (λ c. firstFault (postingFaults caseE (c .round) (c .book))) postings ≡ map (λ c. c .expected) postings
+  pub all-called : map (λ c. firstFault (clearingFaults (c .given) (c .lists))) calls ≡ map (λ c. c .expected) calls
+  pub all-posted : map (λ c. firstFault (postingFaults (c .given) (c .round) (c .book))) postings ≡ map (λ c. c .expected) postings

@@ -7,11 +7,12 @@ use mathlib.Core.Path.{_≡_}
 use lib.IntN.{pos}
 use lib.ListN.{getD, length}
 use Rattle.auction.specs.Counting.{_=?_, count}
-use Rattle.auction.specs.Limits.{maxGuests, maxStations, maxPrice, maxAmount, maxCapacity}
+use Rattle.auction.specs.Limits.{maxGuests, maxStations, maxPrice, maxAmount, maxCapacity, maxRound}
 use Rattle.auction.specs.Market.{Tables, bidAt, marketBy, median, cut, Screened, Queue, queue, before, rank, provisional, critical}
 use Rattle.auction.specs.Mechanism.{Decision, charge, sold, surplus}
-use Rattle.auction.specs.Outcome.{seen, decided}
-use Rattle.auction.specs.Faults.{Accepted}
+use Rattle.auction.specs.Outcome.{Results, seen, decided}
+use Rattle.auction.specs.Refusals.{accepted, firstFault}
+use Rattle.auction.specs.Faults.{Accepted, clearingFaults, Book, entered, overLimit, postingFaults}
 use Rattle.auction.specs.Gains.{guestGain, stationGain}
 
 -- 'A market'
@@ -32,6 +33,35 @@ pub record WithinLimits (t : Tables) : Type 0 where
 -- a market is accepted exactly within these limits
 abbrev pub AcceptedReads : Type 0
 AcceptedReads = (t : Tables) → Accepted t ↔ WithinLimits t
+
+-- a clearing call is accepted exactly where its market is and each result list is n or m long
+pub record RightLengths (t : Tables) (r : Results) : Type 0 where
+  pub stations-long : length (r .stations) ≡ length (t .amounts)
+  pub charges-long : length (r .charges) ≡ length (t .amounts)
+  pub sold-long : length (r .sold) ≡ length (t .asks)
+  pub paid-long : length (r .paid) ≡ length (t .asks)
+
+pub record CallWithinLimits (t : Tables) (r : Results) : Type 0 where
+  pub market-accepted : Accepted t
+  pub lists-fit : RightLengths t r
+
+abbrev pub CallAcceptedReads : Type 0
+CallAcceptedReads = (t : Tables) (r : Results) → (firstFault (clearingFaults t r) ≡ accepted) ↔ CallWithinLimits t r
+
+-- a posting is accepted exactly where its market is, the book has room for it, the round is next and no account is above its limit before or after
+pub record PostingWithinLimits (t : Tables) (round : ℕ) (B : Book) : Type 0 where
+  pub market-accepted : Accepted t
+  pub guests-least : length (t .amounts) ≤ length (B .guests)
+  pub guests-most : length (B .guests) ≤ maxGuests
+  pub stations-least : length (t .asks) ≤ length (B .sold)
+  pub stations-most : length (B .sold) ≤ maxStations
+  pub rounds-left : B .last < maxRound
+  pub next-round : round ≡ B .last + 1
+  pub within-before : overLimit B ≡ false
+  pub within-after : overLimit (entered t round B) ≡ false
+
+abbrev pub PostingAcceptedReads : Type 0
+PostingAcceptedReads = (t : Tables) (round : ℕ) (B : Book) → (firstFault (postingFaults t round B) ≡ accepted) ↔ PostingWithinLimits t round B
 
 -- 1. s is in rising order; it has the numbers of l, each as often
 pub record Rising (s : List ℕ) : Type 0 where

@@ -6,7 +6,6 @@ use mathlib.Core.Path.{_≡_, refl, sym, ap, ap₂, subst, _∙_}
 use native.Mathlib.Nat.{mul-le-mul-right}
 use native.Mathlib.Numerals.{add-one}
 use native.Mathlib.Omega.{arith}
-use borrow.Author.Tests.{not-false}
 use lib.ListN.{getD, length}
 use Rattle.auction.specs.declared.Refusal.{Refusal}
 use Rattle.auction.specs.Counting.{_<?_, _=?_, _or_, only, sum, list}
@@ -16,16 +15,16 @@ use Rattle.auction.specs.Refusals.{accepted, refused, firstFault}
 use Rattle.auction.specs.Market.{Tables, marketBy, market, cut, screen}
 use Rattle.auction.specs.Mechanism.{at, charge, charged, sold, paid, margin}
 use Rattle.auction.specs.Outcome.{Results, settle, seen, decided, outcome}
-use Rattle.auction.specs.Faults.{counts, lengths, lent, marketFaults, verdict, clearingFaults}
-use Rattle.auction.specs.Readings.{WithinLimits}
-use Rattle.auction.proofs.Tests.{or-no, lt-no, eq-yes, only-le}
+use Rattle.auction.specs.Faults.{lengths, verdict, clearingFaults}
+use Rattle.auction.specs.Readings.{WithinLimits, RightLengths}
+use Rattle.auction.proofs.Tests.{or-no, lt-no, only-le}
 use Rattle.auction.proofs.Counting.{sum-cong, greatest-le}
-use Rattle.auction.proofs.Acceptance.{clear-of, clear, accepted-reads}
+use Rattle.auction.proofs.Acceptance.{clear, accepted-reads, call-accepted-reads}
 use Rattle.sales.specs.Sales.{kwhAt, PaidOut}
 use Rattle.scans.specs.MedianAsk.{under, eligible, medianAsk}
 use Rattle.offers.specs.Offers.{leastAt}
 use Rattle.clearing.specs.Clears.{tables, results, answerTo, resultsOf, Clears}
-use Rattle.clearing.specs.Stages.{asVerdict, Fits, Settles}
+use Rattle.clearing.specs.Stages.{asVerdict, Settles}
 use Rattle.assignment.specs.Stages.{regular, AtCut, Assigned}
 use Rattle.clearing.specs.declared.Clearing.{Clearing}
 use Rattle.clearing.specs.declared.Clearing.the-variants as clearings
@@ -42,32 +41,13 @@ counted n m e = let (a, b) = or-no _ _ e in (lt-no _ _ (or-no _ _ a .0), lt-no _
 pub product-fits : (n m : ℕ) → n ≤ maxGuests → m ≤ maxStations → n * m ≤ 8000
 product-fits n m a b = omega (arith, mul-le-mul-right m a)
 
-equal : (a b : ℕ) → not (a =? b) ≡ false → a ≡ b
-equal a b e = eq-yes a b (not-false _ e)
-
 -- no fault: a market within the limits, and result lists of the right lengths
 pub record Accepts (t : Tables) (r : Results) : Type 0 where
   pub within : WithinLimits t
-  pub fits : Fits t r
+  pub fits : RightLengths t r
 
 pub accepts : (t : Tables) (r : Results) → firstFault (clearingFaults t r) ≡ accepted → Accepts t r
-unfolding clearingFaults marketFaults verdict counts lengths lent
-accepts t r e =
-    let (a, e1) = clear-of _ _ _ e in
-    let (b, e2) = clear-of _ _ _ e1 in
-    let (c, e3) = clear-of _ _ _ e2 in
-    let (c3, paid-long) = or-no _ _ c in
-    let (c2, sold-long) = or-no _ _ c3 in
-    let (stations-long, charges-long) = or-no _ _ c2 in
-    record {
-      within = accepted-reads t .0 (clear _ _ a (clear _ _ b e3));
-      fits = record {
-        stations-long = equal _ _ stations-long;
-        charges-long = equal _ _ charges-long;
-        sold-long = equal _ _ sold-long;
-        paid-long = equal _ _ paid-long;
-      };
-    }
+accepts t r e = let w = call-accepted-reads t r .0 e in record { within = accepted-reads t .0 (w .market-accepted); fits = w .lists-fit }
 
 -- ---- an accepted market
 

@@ -17,19 +17,13 @@ use Rattle.clearing.specs.declared.Clearing.{Clearing}
 use Rattle.clearing.specs.declared.Clearing.the-variants.{Cleared, Refused}
 use Rattle.clearing.specs.Clears.{results, answerTo, resultsOf, Clears}
 use Rattle.auction.proofs.Loops.{zeros-long}
+use Rattle.auction.specs.Readings.{RightLengths}
 
 without-third : (a b : Row) (x : Bool) (r : Refusal) (rows : List Row) → x ≡ false → firstFault (a ∷ b ∷ (x gives r) ∷ rows) ≡ firstFault (a ∷ b ∷ rows)
 unfolding firstFault
 without-third (true gives _) b x r rows e = refl
 without-third (false gives _) (true gives _) x r rows e = refl
 without-third (false gives _) (false gives _) x r rows e = rw e
-
--- result lists of the right lengths
-pub record RightLengths (t : Tables) (r : Results) : Type 0 where
-  pub stations-long : length (r .stations) ≡ length (t .amounts)
-  pub charges-long : length (r .charges) ≡ length (t .amounts)
-  pub sold-long : length (r .sold) ≡ length (t .asks)
-  pub paid-long : length (r .paid) ≡ length (t .asks)
 
 -- parts of arrays of the greatest size
 pub lengths : (t : Tables) → length (t .amounts) ≤ maxGuests → length (t .asks) ≤ maxStations

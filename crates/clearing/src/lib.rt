@@ -14,10 +14,10 @@ ghost use Rattle.auction.specs.Counting.{_<?_, _=?_, _or_};
 ghost use Rattle.auction.specs.Limits.{maxGuests, maxStations};
 ghost use Rattle.auction.specs.Refusals.{firstFault};
 ghost use Rattle.auction.specs.Faults.{values, clearingFaults};
-ghost use Rattle.auction.specs.Readings.{WithinLimits};
+ghost use Rattle.auction.specs.Readings.{WithinLimits, RightLengths};
 ghost use Rattle.assignment.specs.Stages.{regular};
 ghost use Rattle.clearing.specs.Clears.{tables, results, Clears};
-ghost use Rattle.clearing.specs.Stages.{asVerdict, Fits, Settles};
+ghost use Rattle.clearing.specs.Stages.{asVerdict, Settles};
 
 pub enum Clearing {
     Cleared { cut: u32, margin: u64 },
@@ -108,7 +108,7 @@ fn settle(
     paid: &mut [u64],
 ) -> Clearing
     requires { ⌜ WithinLimits (regular (now asks) (now bays) (now amounts) (now bids)) ⌝ }
-    requires { ⌜ Fits (regular (now asks) (now bays) (now amounts) (now bids)) (results (now stations) (now charges) (now sold) (now paid)) ⌝ }
+    requires { ⌜ RightLengths (regular (now asks) (now bays) (now amounts) (now bids)) (results (now stations) (now charges) (now sold) (now paid)) ⌝ }
     requires { ⌜ length (now least) ≡ length (now amounts) ⌝ }
     ensures { λ r. ⌜ Settles (regular (now (asks .entry)) (now (bays .entry)) (now (amounts .entry)) (now (bids .entry))) r (results (now (stations .exit)) (now (charges .exit)) (now (sold .exit)) (now (paid .exit))) ⌝ }
 {
@@ -134,7 +134,7 @@ fn settle_accepted(
     paid: &mut [u64],
 ) -> Clearing
     requires { ⌜ WithinLimits (regular (now asks) (now bays) (now amounts) (now bids)) ⌝ }
-    requires { ⌜ Fits (regular (now asks) (now bays) (now amounts) (now bids)) (results (now stations) (now charges) (now sold) (now paid)) ⌝ }
+    requires { ⌜ RightLengths (regular (now asks) (now bays) (now amounts) (now bids)) (results (now stations) (now charges) (now sold) (now paid)) ⌝ }
     ensures { λ r. ⌜ Settles (regular (now (asks .entry)) (now (bays .entry)) (now (amounts .entry)) (now (bids .entry))) r (results (now (stations .exit)) (now (charges .exit)) (now (sold .exit)) (now (paid .exit))) ⌝ }
 {
     let mut least = [0u32; MAX_GUESTS];

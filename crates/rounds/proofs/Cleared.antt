@@ -21,12 +21,13 @@ use Rattle.auction.proofs.Counting.{length-list, getD-list}
 use Rattle.clearing.specs.declared.Clearing.{Clearing}
 use Rattle.clearing.specs.declared.Clearing.the-variants as clearing
 use Rattle.clearing.specs.Clears.{tables, results, Clears}
-use Rattle.clearing.proofs.Callers.{RightLengths, clear-refused, clear-cleared}
+use Rattle.clearing.proofs.Callers.{clear-refused, clear-cleared}
 use Rattle.auction.proofs.Loops.{is-list}
 use Rattle.rounds.specs.Posting.{posting, toGuest, toSold, toPaid, toHouse}
 use Rattle.rounds.specs.Round.{posted, adding, refusing, roundBy}
 use Rattle.accounts.specs.declared.Reply.the-variants as reply
 use Rattle.accounts.specs.declared.Round.{Round}
+use Rattle.auction.specs.Readings.{RightLengths}
 
 -- a list of n in front of an array of zeros
 filled : (size n : ℕ) (f : ℕ → ℕ) → n ≤ size → list n f ++ drop n (replicate size 0) ≡ list size (λ k. only (k <? n) (f k))

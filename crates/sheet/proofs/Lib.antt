@@ -8,3 +8,4 @@ pub mod Holds
 pub mod Stated
 pub mod Truth
 pub mod Cases
+pub mod Longest

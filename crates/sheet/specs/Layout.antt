@@ -71,3 +71,10 @@ ReadsExactlyWhatIsStated = (s : List ℕ) (t : Tables) → Bytes s → (readShee
 -- two markets never share a sheet
 abbrev pub StatesOneMarket : Type 0
 StatesOneMarket = (s : List ℕ) (t u : Tables) → States s t → States s u → t ≡ u
+
+-- no sheet is longer: 4 bytes, 40 stations of 6, and 200 rows of 2 + 5 + 40 * 4
+abbrev pub maxSheet : ℕ
+maxSheet = 33_644
+
+abbrev pub SheetsAreShort : Type 0
+SheetsAreShort = (s : List ℕ) (t : Tables) → States s t → length s ≤ maxSheet
