@@ -1,5 +1,6 @@
 pub mod Tests
 pub mod Counting
+pub mod Loops
 pub mod Choice
 pub mod Queues
 pub mod Pivots

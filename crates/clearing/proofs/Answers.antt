@@ -21,15 +21,18 @@ use Rattle.auction.specs.Readings.{WithinLimits}
 use Rattle.auction.proofs.Tests.{or-no, lt-no, eq-yes, only-le}
 use Rattle.auction.proofs.Counting.{sum-cong, greatest-le}
 use Rattle.auction.proofs.Acceptance.{clear-of, clear, accepted-reads}
-use Rattle.kernels.specs.Scans.{kwhAt, under, eligible, medianAsk}
-use Rattle.kernels.specs.Offers.{leastAt, PaidOut}
+use Rattle.sales.specs.Sales.{kwhAt, PaidOut}
+use Rattle.scans.specs.MedianAsk.{under, eligible, medianAsk}
+use Rattle.offers.specs.Offers.{leastAt}
 use Rattle.clearing.specs.Clears.{tables, results, answerTo, resultsOf, Clears}
-use Rattle.clearing.specs.Stages.{verdictOf, regular, Fits, AtCut, Assigned, Settles}
+use Rattle.clearing.specs.Stages.{verdictOf, Fits, Settles}
+use Rattle.assignment.specs.Stages.{regular, AtCut, Assigned}
 use Rattle.clearing.specs.declared.Clearing.{Clearing}
 use Rattle.clearing.specs.declared.Clearing.the-variants as clearings
 use Rattle.clearing.specs.declared.Verdict.{Verdict}
 use Rattle.clearing.specs.declared.Verdict.the-variants as verdicts
-use Rattle.clearing.proofs.Turns.{long, element, relist, numbered}
+use Rattle.auction.proofs.Loops.{long, element, relist}
+use Rattle.assignment.proofs.Turns.{numbered}
 
 -- ---- the table of refusals
 

@@ -1,10 +1,8 @@
--- What `clear` and `row` promise.
-use Prim.Native.Nat.{ℕ, _*_, _-_}
-use mathlib.Core.Bool.{Bool, true, false}
-use mathlib.Core.List.{List, []}
+-- What `clear` promises.
+use Prim.Native.Nat.{ℕ, _-_}
+use mathlib.Core.List.{List}
 use mathlib.Core.Path.{_≡_}
-use lib.ListN.{length, take, drop}
-use Rattle.auction.specs.Counting.{_≤?_, _and_}
+use Rattle.auction.specs.Counting.{_and_}
 use Rattle.auction.specs.Refusals.{Verdict, accepted, refused, firstFault}
 use Rattle.auction.specs.Market.{Tables}
 use Rattle.auction.specs.Outcome.{Results, Outcome, outcome}
@@ -33,12 +31,3 @@ resultsOf (refused r) o entry = entry
 pub record Clears (t : Tables) (entry : Results) (answer : Clearing) (exit : Results) : Type 0 where
   pub answered : answer ≡ answerTo (firstFault (clearingFaults t entry)) (outcome t)
   pub left : exit ≡ resultsOf (firstFault (clearingFaults t entry)) (outcome t) entry
-
--- a list where a test passes, the empty list where not
-unfoldable pub shown : Bool → List ℕ → List ℕ
-shown true l = l
-shown false l = []
-
--- the m bids of a guest counted from 1; none for guest 0 or a row that ends past the table
-unfoldable pub rowOf : (bids : List ℕ) (m guest : ℕ) → List ℕ
-rowOf bids m guest = shown (1 ≤? guest and guest * m ≤? length bids) (take m (drop ((guest - 1) * m) bids))

@@ -1,18 +1,9 @@
 -- What the contracts inside the crate cite.
-use Prim.Native.Nat.{ℕ, _+_, _≤_, _<_}
-use mathlib.Core.List.{List}
 use mathlib.Core.Path.{_≡_}
-use lib.ListN.{getD, length}
-use Rattle.auction.specs.Counting.{list}
-use Rattle.auction.specs.Limits.{maxStations, maxPrice}
+use lib.ListN.{length}
 use Rattle.auction.specs.Refusals as verdicts
-use Rattle.auction.specs.Market.{Tables, market, cut, Screened, queue, provisional, critical}
-use Rattle.auction.specs.Mechanism.{at, best, surplus}
+use Rattle.auction.specs.Market.{Tables}
 use Rattle.auction.specs.Outcome.{Results, outcome}
-use Rattle.auction.specs.Readings.{WithinLimits}
-use Rattle.kernels.specs.Scans.{maxTotal}
-use Rattle.kernels.specs.Offers.{leastAt}
-use Rattle.clearing.specs.Clears.{tables}
 use Rattle.clearing.specs.declared.Clearing.{Clearing}
 use Rattle.clearing.specs.declared.Clearing.the-variants.{Cleared}
 use Rattle.clearing.specs.declared.Verdict.{Verdict}
@@ -23,44 +14,12 @@ unfoldable pub verdictOf : verdicts.Verdict → Verdict
 verdictOf verdicts.accepted = Accepted
 verdictOf (verdicts.refused r) = Refused r
 
--- tables whose row width is the number of stations
-abbrev pub regular : (asks bays amounts bids : List ℕ) → Tables
-regular asks bays amounts bids = tables asks bays amounts bids (length asks)
-
 -- result lists of the right lengths
 pub record Fits (t : Tables) (r : Results) : Type 0 where
   pub stations-long : length (r .stations) ≡ length (t .amounts)
   pub charges-long : length (r .charges) ≡ length (t .amounts)
   pub sold-long : length (r .sold) ≡ length (t .asks)
   pub paid-long : length (r .paid) ≡ length (t .asks)
-
--- a market within the limits with its cut and least charges
-pub record AtCut (t : Tables) (c : ℕ) (least : List ℕ) : Type 0 where
-  pub within : WithinLimits t
-  pub is-cut : c ≡ cut (market t)
-  pub cut-low : c ≤ maxPrice
-  pub least-are : least ≡ list (length (t .amounts)) (leastAt (t .amounts) c)
-
--- guest i's station among the first j, and one more than the surplus there; 0 for none
-unfoldable pub stationBy : Screened → (j i : ℕ) → ℕ
-stationBy S j i = best j (λ k. provisional (queue S k) i) (surplus S i)
-
-unfoldable pub gainBy : Screened → (j i : ℕ) → ℕ
-gainBy S j i = at (λ k. surplus S i k + 1) (stationBy S j i)
-
--- after the first j stations: the choices and gains of n guests, and the critical total of each of these stations at its number
-pub record After (S : Screened) (n j : ℕ) (chosen gains criticals : List ℕ) : Type 0 where
-  pub chosen-are : chosen ≡ list n (stationBy S j)
-  pub gains-are : gains ≡ list n (gainBy S j)
-  pub gains-low : (k : ℕ) → k < n → getD gains k 0 ≤ maxTotal + 1
-  pub criticals-long : length criticals ≡ maxStations + 1
-  pub criticals-are : (k : ℕ) → k < j → getD criticals (k + 1) 0 ≡ critical (queue S k)
-  pub criticals-left : (k : ℕ) → j ≤ k → getD criticals (k + 1) 0 ≡ 0
-
--- every guest's station and charge
-pub record Assigned (t : Tables) (stations charges : List ℕ) : Type 0 where
-  pub stations-are : stations ≡ (outcome t) .results .stations
-  pub charges-are : charges ≡ (outcome t) .results .charges
 
 -- an accepted market's answer and result lists
 pub record Settles (t : Tables) (answer : Clearing) (exit : Results) : Type 0 where

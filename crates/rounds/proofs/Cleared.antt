@@ -22,7 +22,7 @@ use Rattle.clearing.specs.declared.Clearing.{Clearing}
 use Rattle.clearing.specs.declared.Clearing.the-variants as clearing
 use Rattle.clearing.specs.Clears.{tables, results, Clears}
 use Rattle.clearing.proofs.Callers.{RightLengths, clear-refused, clear-cleared}
-use Rattle.kernels.proofs.Loops.{is-list}
+use Rattle.auction.proofs.Loops.{is-list}
 use Rattle.rounds.specs.Posting.{posting, toGuest, toSold, toPaid, toHouse}
 use Rattle.rounds.specs.Round.{posted, adding, roundBy}
 use Rattle.accounts.specs.Round.{refusing}

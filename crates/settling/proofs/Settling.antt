@@ -18,7 +18,7 @@ use Rattle.accounts.specs.declared.Round.{Round}
 use Rattle.accounts.specs.Round.{verdictOf, refusing}
 use Rattle.settling.specs.Settling.{followed, ruled, keptRound, chosen, Settled}
 use Rattle.accounts.specs.Accounts.{exceeding, plus, Addable}
-use Rattle.kernels.proofs.Loops.{or-is}
+use Rattle.auction.proofs.Loops.{or-is}
 
 -- where no account exceeds, each sum is within the limit, so within 64 bits
 pub within : (xs adds : List ℕ) → exceeding xs adds ≡ false → (k : ℕ) → k < length xs → getD xs k 0 + getD adds k 0 ≤ maxAccount

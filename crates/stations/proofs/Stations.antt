@@ -18,7 +18,7 @@ use Rattle.accounts.specs.declared.Round.{Round}
 use Rattle.stations.specs.Records.{account, accountAt, soldOf, paidOf}
 use Rattle.stations.specs.Stations.{exceedsWith, exceedingTo, creditedBy, credited, creditedTo}
 use Rattle.accounts.specs.Accounts.{exceeding, plus}
-use Rattle.kernels.proofs.Loops.{or-is, is-list}
+use Rattle.auction.proofs.Loops.{or-is, is-list}
 
 -- ---- the plain book's lists
 

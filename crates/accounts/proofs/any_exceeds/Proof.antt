@@ -4,7 +4,7 @@ use lib.ListN.{length, getD}
 use Rattle.auction.specs.Counting.{_<?_, some}
 use Rattle.auction.specs.Limits.{maxAccount}
 use Rattle.accounts.specs.Accounts.{exceeding}
-use Rattle.kernels.proofs.Loops.{scan-none, scan-turn, some-end}
+use Rattle.auction.proofs.Loops.{scan-none, scan-turn, some-end}
 use borrow.Author.Needs.{needs}
 use Rattle.accounts.proofs.any_exceeds.Statement.{statement}
 use Rattle.accounts.proofs.any_exceeds.Tie as tie

@@ -3,7 +3,7 @@ use mathlib.Core.Path.{refl, _∙_}
 use native.Mathlib.Omega.{arith}
 use lib.ListN.{length, getD}
 use lib.Seq.{ext-getD}
-use Rattle.kernels.proofs.Loops.{Filled, filled-none, filled-more}
+use Rattle.auction.proofs.Loops.{Filled, filled-none, filled-more}
 use borrow.Author.Needs.{needs}
 use Rattle.accounts.proofs.widen.Statement.{statement}
 use Rattle.accounts.proofs.widen.Tie as tie

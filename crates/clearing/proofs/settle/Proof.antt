@@ -1,8 +1,8 @@
 use mathlib.Core.Path.{sym, _∙_}
 use native.Mathlib.Omega.{arith}
 use borrow.Author.Needs.{needs}
-use Rattle.clearing.specs.Stages.{regular}
-use Rattle.clearing.proofs.Turns.{long}
+use Rattle.assignment.specs.Stages.{regular}
+use Rattle.auction.proofs.Loops.{long}
 use Rattle.clearing.proofs.Answers.{cut-low, at-cut, stations-count, charges-count, stations-low, settles}
 use Rattle.clearing.proofs.settle.Statement.{statement}
 use Rattle.clearing.proofs.settle.Tie as tie

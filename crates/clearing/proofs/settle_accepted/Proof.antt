@@ -1,7 +1,7 @@
 use mathlib.Core.Path.{sym}
 use native.Mathlib.Omega.{arith}
 use borrow.Author.Needs.{needs}
-use Rattle.clearing.proofs.Turns.{zeros-long}
+use Rattle.assignment.proofs.Turns.{zeros-long}
 use Rattle.clearing.proofs.settle_accepted.Statement.{statement}
 use Rattle.clearing.proofs.settle_accepted.Tie as tie
 

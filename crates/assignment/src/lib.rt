@@ -1,0 +1,157 @@
+// Every guest's station and charge: the stations of an accepted market take their turns.
+use auction::MAX_GUESTS;
+use auction::MAX_STATIONS;
+use auction::UnitPrice;
+ghost use mathlib.Core.Path.{_≡_};
+ghost use Prim.Native.Nat.{_+_, _<_};
+ghost use lib.ListN.{length};
+ghost use Rattle.auction.specs.Outcome.{seen};
+ghost use Rattle.assignment.specs.Stages.{regular, AtCut, After, Assigned};
+
+// Station j's turn: where it is open, its offers go to every guest.
+fn station(
+    asks: &[u32],
+    bays: &[u16],
+    amounts: &[u16],
+    bids: &[u32],
+    cut: UnitPrice,
+    least: &[u32],
+    j: usize,
+    totals: &mut [u32],
+    chosen: &mut [u32],
+    gains: &mut [u32],
+    criticals: &mut [u32],
+)
+    requires { ⌜ AtCut (regular (now asks) (now bays) (now amounts) (now bids)) (cut .0) (now least) ⌝ }
+    requires { ⌜ (j < length (now asks)) × (length (now totals) ≡ length (now amounts)) ⌝ }
+    requires { ⌜ After (seen (regular (now asks) (now bays) (now amounts) (now bids))) (length (now amounts)) j (now chosen) (now gains) (now criticals) ⌝ }
+    ensures { λ _. ⌜ After (seen (regular (now (asks .entry)) (now (bays .entry)) (now (amounts .entry)) (now (bids .entry)))) (length (now (amounts .entry))) (j + 1) (now (chosen .exit)) (now (gains .exit)) (now (criticals .exit)) ⌝ }
+{
+    let ask = asks[j];
+    if UnitPrice(ask).below(cut) {
+        let top = selection::gather(bids, amounts, asks.len(), j, cut, totals);
+        let b = bays[j] as u32;
+        let critical = selection::critical_total(totals, top, b);
+        let bound = selection::tie_bound(totals, critical.total, critical.above, b);
+        let s = j + 1;
+        criticals[s] = critical.total;
+        offers::offer(
+            totals,
+            least,
+            critical.total,
+            bound,
+            s as u32,
+            chosen,
+            gains,
+        );
+    }
+}
+
+// Every station's turn.
+fn all_stations(
+    asks: &[u32],
+    bays: &[u16],
+    amounts: &[u16],
+    bids: &[u32],
+    cut: UnitPrice,
+    least: &[u32],
+    totals: &mut [u32],
+    chosen: &mut [u32],
+    gains: &mut [u32],
+    criticals: &mut [u32],
+)
+    requires { ⌜ AtCut (regular (now asks) (now bays) (now amounts) (now bids)) (cut .0) (now least) ⌝ }
+    requires { ⌜ length (now totals) ≡ length (now amounts) ⌝ }
+    requires { ⌜ After (seen (regular (now asks) (now bays) (now amounts) (now bids))) (length (now amounts)) 0 (now chosen) (now gains) (now criticals) ⌝ }
+    ensures { λ _. ⌜ After (seen (regular (now (asks .entry)) (now (bays .entry)) (now (amounts .entry)) (now (bids .entry)))) (length (now (amounts .entry))) (length (now (asks .entry))) (now (chosen .exit)) (now (gains .exit)) (now (criticals .exit)) ⌝ }
+{
+    let mut j = 0;
+    while j < asks.len() {
+        station(
+            asks,
+            bays,
+            amounts,
+            bids,
+            cut,
+            least,
+            j,
+            totals,
+            chosen,
+            gains,
+            criticals,
+        );
+        j += 1;
+    }
+}
+
+// Every guest's station and charge, with room for what is gathered and chosen on the way.
+fn assign(
+    asks: &[u32],
+    bays: &[u16],
+    amounts: &[u16],
+    bids: &[u32],
+    cut: UnitPrice,
+    least: &[u32],
+    totals: &mut [u32],
+    chosen: &mut [u32],
+    gains: &mut [u32],
+    criticals: &mut [u32],
+    stations: &mut [u16],
+    charges: &mut [u32],
+)
+    requires { ⌜ AtCut (regular (now asks) (now bays) (now amounts) (now bids)) (cut .0) (now least) ⌝ }
+    requires { ⌜ length (now totals) ≡ length (now amounts) ⌝ }
+    requires { ⌜ After (seen (regular (now asks) (now bays) (now amounts) (now bids))) (length (now amounts)) 0 (now chosen) (now gains) (now criticals) ⌝ }
+    requires { ⌜ (length (now stations) ≡ length (now amounts)) × (length (now charges) ≡ length (now amounts)) ⌝ }
+    ensures { λ _. ⌜ Assigned (regular (now (asks .entry)) (now (bays .entry)) (now (amounts .entry)) (now (bids .entry))) (now (stations .exit)) (now (charges .exit)) ⌝ }
+{
+    all_stations(
+        asks,
+        bays,
+        amounts,
+        bids,
+        cut,
+        least,
+        totals,
+        chosen,
+        gains,
+        criticals,
+    );
+    offers::charge_guests(chosen, least, criticals, stations, charges);
+}
+
+// The same, with its own room.
+pub fn assign_all(
+    asks: &[u32],
+    bays: &[u16],
+    amounts: &[u16],
+    bids: &[u32],
+    cut: UnitPrice,
+    least: &[u32],
+    stations: &mut [u16],
+    charges: &mut [u32],
+)
+    requires { ⌜ AtCut (regular (now asks) (now bays) (now amounts) (now bids)) (cut .0) (now least) ⌝ }
+    requires { ⌜ (length (now stations) ≡ length (now amounts)) × (length (now charges) ≡ length (now amounts)) ⌝ }
+    ensures { λ _. ⌜ Assigned (regular (now (asks .entry)) (now (bays .entry)) (now (amounts .entry)) (now (bids .entry))) (now (stations .exit)) (now (charges .exit)) ⌝ }
+{
+    let mut totals = [0u32; MAX_GUESTS];
+    let mut chosen = [0u32; MAX_GUESTS];
+    let mut gains = [0u32; MAX_GUESTS];
+    let mut criticals = [0u32; MAX_STATIONS + 1];
+    let n = amounts.len();
+    assign(
+        asks,
+        bays,
+        amounts,
+        bids,
+        cut,
+        least,
+        &mut totals[..n],
+        &mut chosen[..n],
+        &mut gains[..n],
+        &mut criticals,
+        stations,
+        charges,
+    );
+}

@@ -1,0 +1,19 @@
+use Rattle.offers.proofs.pick.Statement.{statement}
+use Rattle.offers.proofs.pick.Tie as tie
+use mathlib.Core.Path.{refl, sym, _∙_}
+use native.Mathlib.Omega.{arith}
+use Rattle.offers.specs.Offers.{picked}
+
+below-requires : tie.Need-below-requires
+below-requires c κs = (omega arith, omega arith)
+
+returns : tie.Need-returns
+unfolding picked
+returns c = rw (sym (c .before .below .ensures) ∙ c .if1 .taken) refl
+
+returns-2 : tie.Need-returns-2
+unfolding picked
+returns-2 c = rw (sym (c .before .below .ensures) ∙ c .if1 .left) refl
+
+pub pick-spec : {M : Type 1} → statement M
+pick-spec = tie.close (tie.spec below-requires returns returns-2)
