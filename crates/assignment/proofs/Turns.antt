@@ -7,8 +7,8 @@ use mathlib.Core.Path.{_≡_, refl, sym, ap, ap₂, _∙_}
 use native.Mathlib.Nat.{le-refl, le-antisymm, mul-le-mul, mul-le-mul-right}
 use native.Mathlib.Numerals.{add-one}
 use native.Mathlib.Omega.{arith}
-use lib.ListN.{getD, length, set, length-set, take, replicate, length-replicate, getD-replicate}
-use lib.Seq.{length-take-le, getD-take, getD-set-same, getD-set-other}
+use lib.ListN.{getD, length, set, length-set, take, replicate, length-replicate}
+use lib.Seq.{getD-set-same, getD-set-other}
 use borrow.Author.Count.{below-none, below-more}
 use Rattle.auction.specs.Counting.{_<?_, _≤?_, _and_, only, list}
 use Rattle.auction.specs.Limits.{maxGuests, maxStations}
@@ -16,14 +16,14 @@ use Rattle.auction.specs.Market.{Tables, bidAt, Market, marketBy, byNumber, mar
 use Rattle.auction.specs.Mechanism.{at, charge, better, best, surplus, truthful, charged}
 use Rattle.auction.specs.Outcome.{seen, decided, outcome, settle}
 use Rattle.auction.specs.Readings.{WithinLimits}
-use Rattle.auction.proofs.Tests.{clash, first, and-no, only-le, only-yes, only-no, le-yes, le-no, is-lt, not-lt, lt-or-le}
+use Rattle.auction.proofs.Tests.{clash, first, and-no, only-le, only-yes, only-no, le-yes, le-no, is-lt, not-lt, lt-or-le, only-cong}
 use Rattle.auction.proofs.Counting.{greatest-le, list-cong}
 use Rattle.auction.proofs.Queues.{provisional-candidate}
 use Rattle.auction.proofs.Truthful.{assignment-reads}
 use Rattle.selection.specs.Totals.{maxTotal, Totals, totalFor, totalAt, Gathered}
 use Rattle.selection.specs.Selection.{above, LeastFew, Selected, TieBound}
 use Rattle.offers.specs.Offers.{picked, wonBy, gainFor, chargeAt, gainAt, taken, Offerable, Offered, Chargeable, chargedAt, Charged}
-use Rattle.auction.proofs.Loops.{is-list, long, element, relist, in-table}
+use Rattle.auction.proofs.Loops.{long, element, relist, in-table, zeros-are}
 use Rattle.selection.proofs.Selection.{above-most, above-greatest, selected-low}
 use Rattle.selection.proofs.Totals.{total-yes, total-no, product, total-low}
 use Rattle.offers.proofs.Offers.{gain-low}
@@ -97,11 +97,6 @@ module _ (S : Screened) (n j : ℕ) (totals least : List ℕ) (t e s : ℕ) (cho
     criticals-are = rw es (set-critical h few critical-is);
     criticals-left = λ k l. getD-set-other criticals s (k + 1) t 0 (omega arith) ∙ h .criticals-left k (omega arith);
   }
-
-only-cong : (b : Bool) (x y : ℕ) → (b ≡ true → x ≡ y) → only b x ≡ only b y
-unfolding only
-only-cong true x y h = h refl
-only-cong false x y h = refl
 
 -- nobody has a place at a station that is not open, so that its turn changes nothing
 closed : (M : Market) (j i : ℕ) → cut M ≤ M .ask j → provisional (queue (screen M) j) i ≡ false
@@ -248,19 +243,12 @@ after-end h a b = rw (le-antisymm b a) h
 
 -- ---- before the first station, and after the last
 
--- the first n of an array of zeros
-pub zeros-long : (n : ℕ) → n ≤ maxGuests → length (take n (replicate {A = ℕ} maxGuests 0)) ≡ n
-zeros-long n h = length-take-le n _ (omega (arith, length-replicate {A = ℕ} maxGuests 0))
-
-zeros-are : (n : ℕ) → n ≤ maxGuests → take n (replicate {A = ℕ} maxGuests 0) ≡ list n (λ _. 0)
-zeros-are n h = is-list n _ _ (zeros-long n h) (λ k l. getD-take n _ k 0 l ∙ getD-replicate {A = ℕ} maxGuests k 0 0 (omega arith))
-
 pub after-none : {S : Screened} {n : ℕ} → n ≤ maxGuests → After S n 0 (take n (replicate {A = ℕ} maxGuests 0)) (take n (replicate {A = ℕ} maxGuests 0)) (replicate {A = ℕ} (maxStations + 1) 0)
 unfolding stationBy gainBy best at
 after-none {n = n} h = record {
-  chosen-are = zeros-are n h;
-  gains-are = zeros-are n h;
-  gains-low = λ k lk. rw (element _ _ (zeros-are n h) k lk) (omega arith);
+  chosen-are = zeros-are maxGuests n h;
+  gains-are = zeros-are maxGuests n h;
+  gains-low = λ k lk. rw (element _ _ (zeros-are maxGuests n h) k lk) (omega arith);
   criticals-long = length-replicate {A = ℕ} (maxStations + 1) 0;
   criticals-are = below-none _;
   criticals-left = λ k _. getD-zeros (maxStations + 1) (k + 1);

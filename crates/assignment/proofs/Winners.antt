@@ -1,18 +1,18 @@
 -- The fast tests against a station's queue: the critical total by counting, and who is a provisional winner by the critical total.
-use Prim.Native.Nat.{ℕ, zero, suc, _+_, _≤_, _<_}
+use Prim.Native.Nat.{ℕ, zero, _+_, _≤_, _<_}
 use mathlib.Core.Bool.{Bool, true, false}
 use mathlib.Core.List.{List}
 use mathlib.Core.Logic.{inl, ⊎-elim}
 use mathlib.Core.Path.{_≡_, refl, sym, ap, _∙_}
-use native.Mathlib.Nat.{le-refl, le-antisymm, eq-or-lt-of-le, le-of-suc-le-suc}
+use native.Mathlib.Nat.{le-refl, le-antisymm, eq-or-lt-of-le}
 use native.Mathlib.Omega.{arith}
 use lib.ListN.{getD, length}
 use Rattle.auction.specs.Counting.{_<?_, _=?_, _and_, _or_, only, sum, count}
 use Rattle.auction.specs.Market.{Queue, before, rank, provisional, critical}
 use Rattle.auction.specs.Readings.{CriticalIsFirstOut}
-use Rattle.auction.proofs.Tests.{decide, both, first, second, and-false, only-no, lt-yes, is-lt, not-lt, is-eq, not-eq, lt-or-le, eq-or-ne}
-use Rattle.auction.proofs.Counting.{sum-cong, sum-add, count-mono, count-strict, count-cong}
-use Rattle.auction.proofs.Queues.{Distinct, ahead, is-before, before-self, rank-taken, critical-is-first-out}
+use Rattle.auction.proofs.Tests.{decide, both, first, second, and-false, lt-yes, is-lt, not-lt, is-eq, not-eq, lt-or-le, eq-or-ne}
+use Rattle.auction.proofs.Counting.{sum-cong, sum-add, count-mono, count-strict, count-first}
+use Rattle.auction.proofs.Queues.{Distinct, is-before, before-self, rank-taken, critical-is-first-out, before-le}
 use Rattle.selection.specs.Selection.{above, ties, LeastFew, TieBound}
 use Rattle.offers.specs.Offers.{wonBy}
 
@@ -23,10 +23,6 @@ pub record Shows (Q : Queue) (xs : List ℕ) : Type 0 where
   pub none : (k : ℕ) → k < Q .guests → Q .candidate k ≡ false → getD xs k 0 ≡ 0
   pub real : (k : ℕ) → k < Q .guests → Q .candidate k ≡ true → 0 < Q .total k
   pub number : (k : ℕ) → Q .key k ≡ k
-
--- whoever stands before i has a total at least i's
-before-le : (Q : Queue) (k i : ℕ) → before Q k i ≡ true → Q .total i ≤ Q .total k
-before-le Q k i e = ⊎-elim (λ l. omega arith) (λ q. omega arith) (ahead Q k i e)
 
 -- one guest k against i, whose total is t: it stands before i by its total, or by its number
 one : (c : Bool) (x v t p q : ℕ) → 0 < t → (c ≡ true → x ≡ v) → (c ≡ false → x ≡ 0)
@@ -40,20 +36,6 @@ one true x v t p q z a b = rw (a refl) (⊎-elim
     (λ (l : v < t). rw (not-lt t v (omega arith), not-eq t v (λ e. omega arith), not-eq v t (λ e. omega arith)) refl)
     (eq-or-lt-of-le l))
     (lt-or-le t v))
-
-and-true : (a : Bool) → (a and true) ≡ a
-unfolding _and_
-and-true true = refl
-and-true false = refl
-
--- counting those below i is counting the first i
-count-first : (f : ℕ → Bool) (n i : ℕ) → i ≤ n → count n (λ k. f k and k <? i) ≡ count i f
-unfolding count sum
-count-first f zero i l = let e : i ≡ 0 = omega arith in rw e refl
-count-first f (suc n) i l = ⊎-elim
-    (λ (e : i ≡ suc n). rw e (count-cong (suc n) _ _ (λ k lk. ap (λ b. f k and b) (is-lt k (suc n) lk) ∙ and-true (f k))))
-    (λ (q : i < suc n). omega (arith, count-first f n i (le-of-suc-le-suc q), only-no (f n and n <? i) 1 (ap (λ b. f n and b) (not-lt n i (le-of-suc-le-suc q)) ∙ and-false (f n))))
-    (eq-or-lt-of-le l)
 
 module _ (Q : Queue) (xs : List ℕ) (S : Shows Q xs) where
   distinct : Distinct Q

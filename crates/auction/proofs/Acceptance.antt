@@ -16,6 +16,14 @@ use Rattle.auction.specs.Readings.{WithinLimits, AcceptedReads}
 use Rattle.auction.proofs.Tests.{or-no, neither, lt-no, not-lt, eq-yes, eq-no, is-eq, not-eq}
 use Rattle.auction.proofs.Counting.{any-no, none-any}
 
+pub stop : {b : Bool} (r : Refusal) (rows : List Row) → b ≡ true → firstFault ((b gives r) ∷ rows) ≡ refused r
+unfolding firstFault
+stop r rows e = rw e refl
+
+pub pass : {b : Bool} (r : Refusal) (rows : List Row) → b ≡ false → firstFault ((b gives r) ∷ rows) ≡ firstFault rows
+unfolding firstFault
+pass r rows e = rw e refl
+
 -- no row of a table holds: not the first, and none of the rest
 pub clear-of : (b : Bool) (r : Refusal) (rows : List Row) → firstFault ((b gives r) ∷ rows) ≡ accepted → (b ≡ false) × (firstFault rows ≡ accepted)
 unfolding firstFault

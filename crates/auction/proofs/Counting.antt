@@ -4,12 +4,12 @@ use mathlib.Core.Bool.{Bool, true, false}
 use mathlib.Core.Logic.{_⊎_, inl, inr, ⊎-elim}
 use mathlib.Core.Path.{_≡_, refl, sym, ap, ap₂, _∙_}
 use mathlib.Core.List.{List, _∷_}
-use native.Mathlib.Nat.{add-zero, eq-or-lt-of-le, le-of-suc-le-suc, not-suc-le-zero}
+use native.Mathlib.Nat.{add-zero, eq-or-lt-of-le, le-of-suc-le-suc, not-suc-le-zero, le-refl}
 use native.Mathlib.Numerals.{add-one}
 use native.Mathlib.Omega.{arith}
 use lib.ListN.{getD, length}
-use Rattle.auction.specs.Counting.{_<?_, _or_, only, sum, greatest, count, some, any, list}
-use Rattle.auction.proofs.Tests.{decide, clash, only-le, le-only, only-yes, only-no, is-lt, not-lt, lt-or-le, or-cases, or-left, or-right, or-no, neither}
+use Rattle.auction.specs.Counting.{_<?_, _or_, only, sum, greatest, count, some, any, list, _and_}
+use Rattle.auction.proofs.Tests.{decide, clash, only-le, le-only, only-yes, only-no, is-lt, not-lt, lt-or-le, or-cases, or-left, or-right, or-no, neither, and-true, and-false}
 
 -- what holds below n + 1 holds below n, and at n
 pub up : {n k : ℕ} → k < n → k < suc n
@@ -130,6 +130,20 @@ count-initial (suc n) p h = ⊎-elim
     (λ (l : n < p). omega (arith, initial-all n p (let q : n ≤ p = omega arith in q), only-yes _ 1 (is-lt n p l)))
     (λ (l : p ≤ n). omega (arith, count-initial n p l, only-no _ 1 (not-lt n p l)))
     (lt-or-le n p)
+
+pub count-most : (n : ℕ) (f : ℕ → Bool) → count n f ≤ n
+unfolding count sum
+count-most zero f = omega arith
+count-most (suc n) f = omega (arith, count-most n f, only-le (f n) 1 1 (λ _. le-refl 1))
+
+-- counting those below i is counting the first i
+pub count-first : (f : ℕ → Bool) (n i : ℕ) → i ≤ n → count n (λ k. f k and k <? i) ≡ count i f
+unfolding count sum
+count-first f zero i l = let e : i ≡ 0 = omega arith in rw e refl
+count-first f (suc n) i l = ⊎-elim
+    (λ (e : i ≡ suc n). rw e (count-cong (suc n) _ _ (λ k lk. ap (λ b. f k and b) (is-lt k (suc n) lk) ∙ and-true (f k))))
+    (λ (q : i < suc n). omega (arith, count-first f n i (le-of-suc-le-suc q), only-no (f n and n <? i) 1 (ap (λ b. f n and b) (not-lt n i (le-of-suc-le-suc q)) ∙ and-false (f n))))
+    (eq-or-lt-of-le l)
 
 -- ---- the greatest
 

@@ -7,8 +7,8 @@ use native.Mathlib.Nat.{le-antisymm, mul-le-mul-right}
 use native.Mathlib.Numerals.{add-one}
 use native.Mathlib.Omega.{arith}
 use lib.Dec.{ltb}
-use lib.ListN.{getD, length, set, length-set}
-use lib.Seq.{getD-set-same, getD-set-other, ext-getD}
+use lib.ListN.{getD, length, set, length-set, take, replicate, length-take, length-replicate, getD-replicate}
+use lib.Seq.{getD-set-same, getD-set-other, ext-getD, getD-take}
 use borrow.Author.Count.{below-none, below-more}
 use Rattle.auction.specs.Counting.{_<?_, _or_, sum, greatest, count, some, any, list}
 use Rattle.auction.specs.Faults.{outside}
@@ -108,6 +108,13 @@ element n f e k lk = ap (λ l. getD l k 0) e ∙ getD-list n f k lk
 
 pub relist : (m n : ℕ) (f g : ℕ → ℕ) {l : List ℕ} → l ≡ list m f → m ≡ n → ((k : ℕ) → k < n → f k ≡ g k) → l ≡ list n g
 relist m n f g e q h = e ∙ ap (λ n. list n f) q ∙ list-cong n f g h
+
+-- the first n of an array of zeros
+pub zeros-long : (size n : ℕ) → n ≤ size → n ≡ length (take n (replicate {A = ℕ} size 0))
+zeros-long size n h = omega (arith, length-take n (replicate {A = ℕ} size 0), length-replicate {A = ℕ} size 0)
+
+pub zeros-are : (size n : ℕ) → n ≤ size → take n (replicate {A = ℕ} size 0) ≡ list n (λ _. 0)
+zeros-are size n h = is-list n _ _ (sym (zeros-long size n h)) (λ k l. getD-take n _ k 0 l ∙ getD-replicate {A = ℕ} size k 0 0 (omega arith))
 
 pub filled-list : (n : ℕ) {f : ℕ → ℕ} {l₀ l : List ℕ} {i : ℕ} → Filled f l₀ l i → length l₀ ≡ n → n ≤ i → l ≡ list n f
 filled-list n h e b = is-list n _ _ (h .same ∙ e) (λ k a. h .done k (omega arith))

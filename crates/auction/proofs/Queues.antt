@@ -23,6 +23,10 @@ ahead Q k i e = ⊎-elim
     (λ t. inr (eq-yes _ _ (first _ _ t), lt-yes _ _ (second _ _ t)))
     (or-cases _ _ e)
 
+-- whoever stands before i has a total at least i's
+pub before-le : (Q : Queue) (k i : ℕ) → before Q k i ≡ true → Q .total i ≤ Q .total k
+before-le Q k i e = ⊎-elim (λ l. omega arith) (λ q. omega arith) (ahead Q k i e)
+
 pub is-before : (Q : Queue) (k i : ℕ) → Ahead Q k i → before Q k i ≡ true
 unfolding before
 is-before Q k i (inl l) = or-left _ _ (is-lt _ _ l)

@@ -154,3 +154,13 @@ lt-or-le a b = ⊎-elim (λ e. inl (lt-yes a b e)) (λ e. inr (lt-no a b e)) (de
 
 pub eq-or-ne : (a b : ℕ) → (a ≡ b) ⊎ (a ≡ b → ⊥)
 eq-or-ne a b = ⊎-elim (λ e. inl (eq-yes a b e)) (λ e. inr (eq-no a b e)) (decide (a =? b))
+
+pub and-true : (a : Bool) → (a and true) ≡ a
+unfolding _and_
+and-true true = refl
+and-true false = refl
+
+pub only-cong : (b : Bool) (x y : ℕ) → (b ≡ true → x ≡ y) → only b x ≡ only b y
+unfolding only
+only-cong true x y h = h refl
+only-cong false x y h = refl

@@ -72,8 +72,8 @@ unfoldable pub single : (ask bays amount bid : ℕ) → Tables
 single ask bays amount bid = tables (ask ∷ []) (bays ∷ []) (amount ∷ []) (bid ∷ [])
 
 -- the limits, and the order of two faults
-unfoldable pub limits : List Judged
-limits =
+unfoldable pub limitCases : List Judged
+limitCases =
     (single 1_000_000 200 1_000 1_000_000 is accepted)
     ∷ (single 0 1 1 0 is accepted)
     ∷ (tables (1 ∷ []) (1 ∷ []) (replicate 200 1) (replicate 200 1) is accepted)
@@ -121,5 +121,5 @@ pub record CasesHold : Type 0 where
   pub all-accepted : map (λ c. verdict (c .given)) cases ≡ map (λ c. accepted) cases
   pub all-cleared : map (λ c. outcome (c .given)) cases ≡ map (λ c. c .expected) cases
   pub other-place : charge (seen tableI) (decided tableI) 0 1 ≡ 16
-  pub all-judged : map (λ c. verdict (c .given)) limits ≡ map (λ c. c .expected) limits
+  pub all-judged : map (λ c. verdict (c .given)) limitCases ≡ map (λ c. c .expected) limitCases
   pub all-posted : map (λ c. firstFault (postingFaults caseE (c .round) (c .book))) postings ≡ map (λ c. c .expected) postings

@@ -34,3 +34,8 @@ unfoldable pub firstFault : List Row → Verdict
 firstFault [] = accepted
 firstFault ((true gives r) ∷ rows) = refused r
 firstFault ((false gives r) ∷ rows) = firstFault rows
+
+-- a verdict as one number: 0 where accepted, else the refusal's
+unfoldable pub code : Verdict → ℕ
+code accepted = 0
+code (refused r) = number r

@@ -1,7 +1,7 @@
 // The numbers, limits and refusals of the bay market. The market and its mechanism are in specs/.
 ghost use mathlib.Core.Path.{_≡_};
 ghost use Prim.Native.Nat.{_+_, _*_, _-_, _<_, _≤_, _^_, max};
-ghost use lib.Dec.{ltb, eqb};
+ghost use lib.Dec.{ltb};
 ghost use Rattle.auction.specs.Limits.{limits as limitsOf};
 ghost use Rattle.auction.specs.Refusals.{number as numberOf};
 
@@ -66,7 +66,7 @@ impl UnitPrice {
 }
 
 impl Mills {
-    // From a table of 32-bit numbers, and back into one. Here and below a `requires` is for `kernels`, which knows that its sums fit.
+    // From a table of 32-bit numbers, and back into one. A `requires`, here and below, is for `offers` and `sales`, whose sums fit.
     pub fn wide(x: u32) -> Mills
         ensures { λ r. ⌜ r .0 ≡ x ⌝ }
     {
@@ -98,18 +98,6 @@ impl Mills {
         ensures { λ r. ⌜ r .0 ≡ max (self .0) (other .0) ⌝ }
     {
         if self.0 < other.0 { other } else { self }
-    }
-
-    pub fn below(self, other: Mills) -> bool
-        ensures { λ r. ⌜ r ≡ ltb (self .0) (other .0) ⌝ }
-    {
-        self.0 < other.0
-    }
-
-    pub fn same(self, other: Mills) -> bool
-        ensures { λ r. ⌜ r ≡ eqb (self .0) (other .0) ⌝ }
-    {
-        self.0 == other.0
     }
 }
 

@@ -5,7 +5,7 @@ use mathlib.Core.Path.{_≡_, refl, sym, _∙_}
 use native.Mathlib.Omega.{arith}
 use lib.ListN.{length}
 use Rattle.auction.specs.declared.Refusal.{Refusal}
-use Rattle.auction.specs.Refusals.{number, Verdict, accepted, refused, firstFault}
+use Rattle.auction.specs.Refusals.{number, Verdict, accepted, refused, firstFault, code}
 use Rattle.auction.specs.Market.{Tables}
 use Rattle.auction.specs.Outcome.{Results, outcome}
 use Rattle.auction.specs.Faults.{clearingFaults}
@@ -15,7 +15,7 @@ use Rattle.clearing.specs.Clears.{answerTo, Clears}
 use Rattle.sheet.specs.declared.Reading.{Reading}
 use Rattle.sheet.specs.declared.Reading.the-variants as reading
 use Rattle.sheet.specs.Sheet.{Content, fault, tables, readInto, answerOf, Reads}
-use Rattle.bay_market.specs.Exports.{readCode, counted, ReadsOut, clearCode, given, ClearsOut}
+use Rattle.bay_market.specs.Exports.{readCode, counted, ReadsOut, given, ClearsOut}
 
 module _ (sheet amounts asks bays bids amounts′ asks′ bays′ bids′ : List ℕ) (answer : Reading) (k : Reads sheet amounts asks bays bids answer amounts′ asks′ bays′ bids′) (n m : ℕ) where
   reads-by : (c : Content) → readInto amounts asks bays bids sheet ≡ c → (r n′ m′ : ℕ) → r ≡ readCode c → n′ ≡ counted c (λ t. length (t .amounts)) n → m′ ≡ counted c (λ t. length (t .asks)) m
@@ -50,12 +50,12 @@ module _ (t : Tables) (entry exit : Results) (answer : Clearing) (c : Clears t e
   abbrev found : Verdict
   found = firstFault (clearingFaults t entry)
 
-  clears-by : (v : Verdict) → found ≡ v → (r cut′ margin′ : ℕ) → r ≡ clearCode v → cut′ ≡ given v ((outcome t) .cut) cut → margin′ ≡ given v ((outcome t) .margin) margin
+  clears-by : (v : Verdict) → found ≡ v → (r cut′ margin′ : ℕ) → r ≡ code v → cut′ ≡ given v ((outcome t) .cut) cut → margin′ ≡ given v ((outcome t) .margin) margin
       → ClearsOut t entry cut margin r exit cut′ margin′
   clears-by v e r cut′ margin′ a b d = record { code-is = rw e a; results-are = c .left; cut-is = rw e b; margin-is = rw e d }
 
   refused-as : (x : Refusal) (r : ℕ) (v : Verdict) → found ≡ v → answerTo v (outcome t) ≡ clearing.Refused x → r ≡ number x → ClearsOut t entry cut margin r exit cut margin
-  unfolding answerTo clearCode given
+  unfolding answerTo code given
   refused-as x r accepted e q p = absurd (let z : _≡_ {A = ℕ} 0 1 = cc in omega arith)
   refused-as x r (refused y) e q p = let same : y ≡ x = cc in clears-by (refused y) e r cut margin (rw same p) refl refl
 
@@ -63,7 +63,7 @@ module _ (t : Tables) (entry exit : Results) (answer : Clearing) (c : Clears t e
   clears-refused x r q p = refused-as x r _ refl (sym (c .answered) ∙ q) p
 
   cleared-as : (a b : ℕ) (v : Verdict) → found ≡ v → answerTo v (outcome t) ≡ clearing.Cleared a b → ClearsOut t entry cut margin 0 exit a b
-  unfolding answerTo clearCode given
+  unfolding answerTo code given
   cleared-as a b accepted e q = clears-by accepted e 0 a b refl (cc) (cc)
   cleared-as a b (refused y) e q = absurd (let z : _≡_ {A = ℕ} 0 1 = cc in omega arith)
 

@@ -3,7 +3,7 @@ use Prim.Native.Nat.{ℕ}
 use mathlib.Core.List.{List}
 use mathlib.Core.Path.{_≡_}
 use lib.ListN.{length}
-use Rattle.auction.specs.Refusals.{number, Verdict, accepted, refused, firstFault}
+use Rattle.auction.specs.Refusals.{number, Verdict, accepted, refused, firstFault, code}
 use Rattle.auction.specs.Market.{Tables}
 use Rattle.auction.specs.Outcome.{Results, outcome}
 use Rattle.auction.specs.Faults.{clearingFaults}
@@ -32,17 +32,13 @@ pub record ReadsOut (sheet amounts asks bays bids : List ℕ) (n m r : ℕ) (amo
 
 -- ---- clearing
 
-unfoldable pub clearCode : Verdict → ℕ
-clearCode accepted = 0
-clearCode (refused r) = number r
-
 -- a number out parameter afterwards
 unfoldable pub given : Verdict → (new old : ℕ) → ℕ
 given accepted new old = new
 given (refused r) new old = old
 
 pub record ClearsOut (t : Tables) (entry : Results) (cut margin r : ℕ) (exit : Results) (cut′ margin′ : ℕ) : Type 0 where
-  pub code-is : r ≡ clearCode (firstFault (clearingFaults t entry))
+  pub code-is : r ≡ code (firstFault (clearingFaults t entry))
   pub results-are : exit ≡ resultsOf (firstFault (clearingFaults t entry)) (outcome t) entry
   pub cut-is : cut′ ≡ given (firstFault (clearingFaults t entry)) ((outcome t) .cut) cut
   pub margin-is : margin′ ≡ given (firstFault (clearingFaults t entry)) ((outcome t) .margin) margin

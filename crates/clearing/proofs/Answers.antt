@@ -1,7 +1,7 @@
 -- The table of refusals, the sums of an accepted market, and the answers of `clear`.
 use Prim.Native.Nat.{ℕ, zero, suc, _+_, _*_, _-_, _≤_, _<_}
-use mathlib.Core.Bool.{Bool, true, false, not}
-use mathlib.Core.List.{List, _∷_}
+use mathlib.Core.Bool.{false, not}
+use mathlib.Core.List.{List}
 use mathlib.Core.Path.{_≡_, refl, sym, ap, ap₂, subst, _∙_}
 use native.Mathlib.Nat.{mul-le-mul-right}
 use native.Mathlib.Numerals.{add-one}
@@ -12,7 +12,7 @@ use Rattle.auction.specs.declared.Refusal.{Refusal}
 use Rattle.auction.specs.Counting.{_<?_, _=?_, _or_, only, sum, list}
 use Rattle.auction.specs.Limits.{maxGuests, maxStations, maxPrice}
 use Rattle.auction.specs.Refusals as refusals
-use Rattle.auction.specs.Refusals.{Row, _gives_, accepted, refused, firstFault}
+use Rattle.auction.specs.Refusals.{accepted, refused, firstFault}
 use Rattle.auction.specs.Market.{Tables, marketBy, market, cut, screen}
 use Rattle.auction.specs.Mechanism.{at, charge, charged, sold, paid, margin}
 use Rattle.auction.specs.Outcome.{Results, settle, seen, decided, outcome}
@@ -25,7 +25,7 @@ use Rattle.sales.specs.Sales.{kwhAt, PaidOut}
 use Rattle.scans.specs.MedianAsk.{under, eligible, medianAsk}
 use Rattle.offers.specs.Offers.{leastAt}
 use Rattle.clearing.specs.Clears.{tables, results, answerTo, resultsOf, Clears}
-use Rattle.clearing.specs.Stages.{verdictOf, Fits, Settles}
+use Rattle.clearing.specs.Stages.{asVerdict, Fits, Settles}
 use Rattle.assignment.specs.Stages.{regular, AtCut, Assigned}
 use Rattle.clearing.specs.declared.Clearing.{Clearing}
 use Rattle.clearing.specs.declared.Clearing.the-variants as clearings
@@ -35,14 +35,6 @@ use Rattle.auction.proofs.Loops.{long, element, relist}
 use Rattle.assignment.proofs.Turns.{numbered}
 
 -- ---- the table of refusals
-
-pub stop : {b : Bool} (r : Refusal) (rows : List Row) → b ≡ true → firstFault ((b gives r) ∷ rows) ≡ refused r
-unfolding firstFault
-stop r rows e = rw e refl
-
-pub pass : {b : Bool} (r : Refusal) (rows : List Row) → b ≡ false → firstFault ((b gives r) ∷ rows) ≡ firstFault rows
-unfolding firstFault
-pass r rows e = rw e refl
 
 pub counted : (n m : ℕ) → (maxGuests <? n or m =? 0 or maxStations <? m) ≡ false → (n ≤ maxGuests) × (m ≤ maxStations)
 counted n m e = let (a, b) = or-no _ _ e in (lt-no _ _ (or-no _ _ a .0), lt-no _ _ b)
@@ -139,17 +131,17 @@ module _ (t : Tables) {stations charges : List ℕ} (a : Assigned t stations cha
 
 -- ---- the answers
 
-is-accepted : (v : refusals.Verdict) → verdictOf v ≡ verdicts.Accepted → v ≡ accepted
-unfolding verdictOf
+is-accepted : (v : refusals.Verdict) → asVerdict v ≡ verdicts.Accepted → v ≡ accepted
+unfolding asVerdict
 is-accepted accepted e = refl
 is-accepted (refused r) e = absurd (let z : _≡_ {A = ℕ} 0 1 = cc in omega arith)
 
-is-refused : (v : refusals.Verdict) {r : Refusal} → verdictOf v ≡ verdicts.Refused r → v ≡ refused r
-unfolding verdictOf
+is-refused : (v : refusals.Verdict) {r : Refusal} → asVerdict v ≡ verdicts.Refused r → v ≡ refused r
+unfolding asVerdict
 is-refused accepted e = absurd (let z : _≡_ {A = ℕ} 0 1 = cc in omega arith)
 is-refused (refused r) e = cc
 
-pub clear-refused : (t : Tables) (r : Results) {x : Refusal} → verdicts.Refused x ≡ verdictOf (firstFault (clearingFaults t r)) → Clears t r (clearings.Refused x) r
+pub clear-refused : (t : Tables) (r : Results) {x : Refusal} → verdicts.Refused x ≡ asVerdict (firstFault (clearingFaults t r)) → Clears t r (clearings.Refused x) r
 unfolding answerTo resultsOf
 clear-refused t r e = let v = is-refused _ (sym e) in record { answered = rw v refl; left = rw v refl }
 
@@ -158,13 +150,13 @@ width-of : (asks bays amounts bids : List ℕ) (width : ℕ) → WithinLimits (t
 width-of asks bays amounts bids width w = ap (tables asks bays amounts bids) (w .width-is)
 
 pub clear-accepts : (asks bays amounts bids : List ℕ) (width : ℕ) (r : Results)
-    → verdicts.Accepted ≡ verdictOf (firstFault (clearingFaults (tables asks bays amounts bids width) r)) → Accepts (regular asks bays amounts bids) r
+    → verdicts.Accepted ≡ asVerdict (firstFault (clearingFaults (tables asks bays amounts bids width) r)) → Accepts (regular asks bays amounts bids) r
 clear-accepts asks bays amounts bids width r e =
     let a = accepts _ r (is-accepted _ (sym e)) in
     subst (λ t. Accepts t r) (width-of asks bays amounts bids width (a .within)) a
 
 pub clear-settled : (asks bays amounts bids : List ℕ) (width : ℕ) (r : Results) {answer : Clearing} {exit : Results} → let t = tables asks bays amounts bids width in
-    verdicts.Accepted ≡ verdictOf (firstFault (clearingFaults t r)) → Settles (regular asks bays amounts bids) answer exit → Clears t r answer exit
+    verdicts.Accepted ≡ asVerdict (firstFault (clearingFaults t r)) → Settles (regular asks bays amounts bids) answer exit → Clears t r answer exit
 unfolding answerTo resultsOf
 clear-settled asks bays amounts bids width r e s =
     let t = tables asks bays amounts bids width in

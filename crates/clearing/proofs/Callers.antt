@@ -4,7 +4,7 @@ use mathlib.Core.Bool.{Bool, true, false, not}
 use mathlib.Core.List.{List, _∷_}
 use mathlib.Core.Path.{_≡_, refl, sym, ap, _∙_}
 use native.Mathlib.Omega.{arith}
-use lib.ListN.{length, take, replicate, length-replicate, length-take}
+use lib.ListN.{length, take, replicate}
 use Rattle.auction.specs.Counting.{_=?_}
 use Rattle.auction.specs.declared.Refusal.{Refusal}
 use Rattle.auction.specs.Refusals.{Row, _gives_, Verdict, accepted, refused, firstFault}
@@ -16,10 +16,7 @@ use Rattle.auction.proofs.Tests.{neither, is-eq}
 use Rattle.clearing.specs.declared.Clearing.{Clearing}
 use Rattle.clearing.specs.declared.Clearing.the-variants.{Cleared, Refused}
 use Rattle.clearing.specs.Clears.{results, answerTo, resultsOf, Clears}
-
--- the first n of an array of zeros
-pub zeros-long : (size n : ℕ) → n ≤ size → n ≡ length (take n (replicate {A = ℕ} size 0))
-zeros-long size n h = omega (arith, length-take n (replicate {A = ℕ} size 0), length-replicate {A = ℕ} size 0)
+use Rattle.auction.proofs.Loops.{zeros-long}
 
 without-third : (a b : Row) (x : Bool) (r : Refusal) (rows : List Row) → x ≡ false → firstFault (a ∷ b ∷ (x gives r) ∷ rows) ≡ firstFault (a ∷ b ∷ rows)
 unfolding firstFault

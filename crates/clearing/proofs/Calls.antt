@@ -4,7 +4,7 @@ use mathlib.Core.Path.{_≡_, refl, sym, ap, ap₂, _∙_}
 use native.Mathlib.Omega.{arith}
 use lib.IntN.{subℕ}
 use lib.ListN.{getD, length}
-use Rattle.auction.specs.Counting.{_=?_, only}
+use Rattle.auction.specs.Counting.{_=?_, only, sum}
 use Rattle.auction.specs.Refusals.{Verdict, accepted, refused, firstFault}
 use Rattle.auction.specs.Market.{Tables, bidAt, marketBy, median, market, screen}
 use Rattle.auction.specs.Mechanism.{at, charged, obtained, served, sold, paid, margin}
@@ -65,6 +65,10 @@ module _ (t : Tables) (k : ClearedCall t) where
   unfolding stationGain stationGainIn
   station-gain cost j l = ap₂ subℕ (sym (paid-of j l)) (ap (λ x. cost * x) (sym (sold-of j l)))
 
+  level : sum (length (t .amounts)) (λ i. getD (k .exit .charges) i 0) ≡ sum (length (t .asks)) (λ j. getD (k .exit .paid) j 0) + k .margin
+  unfolding seen screen market marketBy
+  level = sum-cong (length (t .amounts)) _ _ charge-of ∙ clearing-limits t is-accepted .balanced ∙ ap₂ _+_ (sum-cong (length (t .asks)) _ _ (λ j l. sym (paid-of j l))) (sym margin-is)
+
   limits : CallWithin t (k .margin) (k .exit)
   unfolding served seen screen market marketBy
   limits =
@@ -75,7 +79,8 @@ module _ (t : Tables) (k : ClearedCall t) where
         payment-covers-ask = λ j l. rw (sold-of j l, paid-of j l) (w .payment-covers-ask j);
         sold-as-assigned = λ j l. sold-of j l ∙ w .sold-as-assigned j ∙ sum-cong (length (t .amounts)) _ _ (λ i li. ap (λ s. only (s =? suc j) (getD (t .amounts) i 0)) (sym (station-of i li)));
         within-bays = λ j l. rw (count-cong (length (t .amounts)) _ (λ i. (decided t) .assigned i =? suc j) (λ i li. ap (λ s. s =? suc j) (station-of i li))) (w .within-bays j);
-        balanced = sum-cong (length (t .amounts)) _ _ charge-of ∙ w .balanced ∙ ap₂ _+_ (sum-cong (length (t .asks)) _ _ (λ j l. sym (paid-of j l))) (sym margin-is);
+        balanced = level;
+        covered = omega (arith, level);
       }
 
 pub guest-truthful-calls : GuestTruthfulCalls

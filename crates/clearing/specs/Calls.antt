@@ -47,6 +47,7 @@ pub record CallWithin (t : Tables) (margin : ℕ) (r : Results) : Type 0 where
   pub sold-as-assigned : (j : ℕ) → j < length (t .asks) → getD (r .sold) j 0 ≡ sum (length (t .amounts)) (λ i. only (getD (r .stations) i 0 =? suc j) (getD (t .amounts) i 0))
   pub within-bays : (j : ℕ) → j < length (t .asks) → count (length (t .amounts)) (λ i. getD (r .stations) i 0 =? suc j) ≤ getD (t .bays) j 0
   pub balanced : sum (length (t .amounts)) (λ i. getD (r .charges) i 0) ≡ sum (length (t .asks)) (λ j. getD (r .paid) j 0) + margin
+  pub covered : sum (length (t .asks)) (λ j. getD (r .paid) j 0) ≤ sum (length (t .amounts)) (λ i. getD (r .charges) i 0)
 
 abbrev pub CallLimits : Type 0
 CallLimits = (t : Tables) (k : ClearedCall t) → CallWithin t (k .margin) (k .exit)

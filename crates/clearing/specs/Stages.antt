@@ -10,9 +10,9 @@ use Rattle.clearing.specs.declared.Verdict.{Verdict}
 use Rattle.clearing.specs.declared.Verdict.the-variants.{Accepted, Refused}
 
 -- the code's verdict for that of the definitions
-unfoldable pub verdictOf : verdicts.Verdict → Verdict
-verdictOf verdicts.accepted = Accepted
-verdictOf (verdicts.refused r) = Refused r
+unfoldable pub asVerdict : verdicts.Verdict → Verdict
+asVerdict verdicts.accepted = Accepted
+asVerdict (verdicts.refused r) = Refused r
 
 -- result lists of the right lengths
 pub record Fits (t : Tables) (r : Results) : Type 0 where

@@ -17,7 +17,7 @@ ghost use Rattle.auction.specs.Faults.{values, clearingFaults};
 ghost use Rattle.auction.specs.Readings.{WithinLimits};
 ghost use Rattle.assignment.specs.Stages.{regular};
 ghost use Rattle.clearing.specs.Clears.{tables, results, Clears};
-ghost use Rattle.clearing.specs.Stages.{verdictOf, Fits, Settles};
+ghost use Rattle.clearing.specs.Stages.{asVerdict, Fits, Settles};
 
 pub enum Clearing {
     Cleared { cut: u32, margin: u64 },
@@ -50,7 +50,7 @@ fn bad_lent(n: usize, m: usize, stations: usize, charges: usize, sold: usize, pa
 
 // The first fault of a value: all asks, then all bays, then all amounts, then all bids.
 fn value_fault(asks: &[u32], bays: &[u16], amounts: &[u16], bids: &[u32]) -> Verdict
-    ensures { λ r. ⌜ r ≡ verdictOf (firstFault (values (regular (now (asks .entry)) (now (bays .entry)) (now (amounts .entry)) (now (bids .entry))))) ⌝ }
+    ensures { λ r. ⌜ r ≡ asVerdict (firstFault (values (regular (now (asks .entry)) (now (bays .entry)) (now (amounts .entry)) (now (bids .entry))))) ⌝ }
 {
     if scans::any_outside32(asks, 0, MAX_PRICE) {
         return Verdict::Refused(Refusal::AskOutOfRange);
@@ -79,7 +79,7 @@ fn first_fault(
     sold: &[u32],
     paid: &[u64],
 ) -> Verdict
-    ensures { λ r. ⌜ r ≡ verdictOf (firstFault (clearingFaults (tables (now (asks .entry)) (now (bays .entry)) (now (amounts .entry)) (now (bids .entry)) width) (results (now (stations .entry)) (now (charges .entry)) (now (sold .entry)) (now (paid .entry))))) ⌝ }
+    ensures { λ r. ⌜ r ≡ asVerdict (firstFault (clearingFaults (tables (now (asks .entry)) (now (bays .entry)) (now (amounts .entry)) (now (bids .entry)) width) (results (now (stations .entry)) (now (charges .entry)) (now (sold .entry)) (now (paid .entry))))) ⌝ }
 {
     let n = amounts.len();
     let m = asks.len();

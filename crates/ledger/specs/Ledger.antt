@@ -4,7 +4,7 @@ use mathlib.Core.Bool.{false}
 use mathlib.Core.List.{List, [], _∷_}
 use mathlib.Core.Path.{_≡_}
 use lib.ListN.{getD, length}
-use Rattle.auction.specs.Refusals.{number, Verdict, accepted, refused}
+use Rattle.auction.specs.Refusals.{number, Verdict, accepted, refused, code}
 use Rattle.auction.specs.declared.Refusal.the-variants.{RoundOutOfTurn}
 use Rattle.auction.specs.Faults.{overLimit}
 use Rattle.auction.specs.Cases.{caseE}
@@ -18,14 +18,9 @@ pub record Posted (entry : LentBook) (p : Posting) (v : Verdict) (exit : LentBoo
   pub answered : v ≡ answer (plain entry) p
   pub left : plain exit ≡ after (plain entry) p
 
--- an answer's number: 0 for a posted round, or the refusal's
-unfoldable pub numberOf : Verdict → ℕ
-numberOf accepted = 0
-numberOf (refused r) = number r
-
 -- one call that answers by number: the plain book's answer and step
 pub record Numbered (entry : LentBook) (p : Posting) (exit : LentBook) (k : ℕ) : Type 0 where
-  pub number-is : k ≡ numberOf (answer (plain entry) p)
+  pub number-is : k ≡ code (answer (plain entry) p)
   pub exit-is : plain exit ≡ after (plain entry) p
 
 -- a list of calls, each made to the book as the last left it

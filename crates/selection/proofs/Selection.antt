@@ -1,6 +1,5 @@
 -- Laws of counts above a bar: the least number with few above it, and the bound on those at it.
 use Prim.Native.Nat.{ℕ, zero, suc, _+_, _≤_, _<_}
-use mathlib.Core.Bool.{Bool}
 use mathlib.Core.List.{List}
 use mathlib.Core.Logic.{_⊎_, ⊎-elim}
 use mathlib.Core.Path.{_≡_, refl, sym, ap, _∙_}
@@ -10,7 +9,7 @@ use lib.ListN.{getD, length}
 use borrow.Author.Count.{below-more}
 use Rattle.auction.specs.Counting.{_<?_, _≤?_, _=?_, _and_, only, sum, greatest, count, list}
 use Rattle.auction.proofs.Tests.{first, second, both, clash, only-le, le-only, is-lt, not-lt, is-le, lt-yes, le-yes, lt-or-le}
-use Rattle.auction.proofs.Counting.{count-mono, count-strict, count-none, count-step, count-start, length-list, getD-list, le-greatest, greatest-le, search-below}
+use Rattle.auction.proofs.Counting.{count-mono, count-strict, count-none, count-step, count-start, length-list, getD-list, le-greatest, greatest-le, search-below, count-most}
 use Rattle.selection.specs.Totals.{maxTotal, Totals}
 use Rattle.selection.specs.Selection.{above, ties, greatestUpTo, Selected, TieBound}
 
@@ -21,11 +20,6 @@ above-falls l s t h = count-mono (length l) _ _ (λ k _ p. is-lt _ _ (omega (ari
 -- a bisection's step: what holds at mid holds below it. n is the count that the code took at mid
 pub many-below : (l : List ℕ) (b mid n : ℕ) → n ≡ above l mid → b < n → (u : ℕ) → u < mid + 1 → b < above l u
 many-below l b mid n e h u a = omega (arith, above-falls l u mid (omega arith))
-
-count-most : (n : ℕ) (f : ℕ → Bool) → count n f ≤ n
-unfolding count sum
-count-most zero f = omega arith
-count-most (suc n) f = omega (arith, count-most n f, only-le (f n) 1 1 (λ _. le-refl 1))
 
 pub above-most : (l : List ℕ) (t : ℕ) → above l t ≤ length l
 unfolding above

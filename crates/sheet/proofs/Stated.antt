@@ -6,10 +6,10 @@ use mathlib.Core.Path.{_≡_, refl, sym, ap, _∙_, subst}
 use native.Mathlib.Omega.{arith}
 use lib.ListN.{length, getD, length-append}
 use Rattle.auction.specs.Counting.{only, sum, count, joined}
-use Rattle.auction.specs.Market.{Tables}
+use Rattle.auction.specs.Market.{Tables, bidAt}
 use Rattle.auction.proofs.Counting.{count-start}
 use Rattle.auction.proofs.Tests.{clash}
-use Rattle.sheet.specs.Layout.{bytesOf, pack, station, bid, stated, row, layout, Fitting, Bytes}
+use Rattle.sheet.specs.Layout.{bytesOf, pack, station, stated, row, layout, Fitting, Bytes}
 use Rattle.sheet.specs.Sheet.{number, guests, stations, mapWidth, hasBit, mapAt, bidsAt, nextAt, rowAt}
 use Rattle.sheet.proofs.Faults.{first-row, bids-at}
 use Rattle.sheet.proofs.Holds.{Holds, holds-left, holds-then, holds-next, holds-all, holds-self, bytes-length, holds-number, number-holds, joined-place, joined-holds, joined-each, pack-bit, pack-fits}
@@ -80,23 +80,23 @@ module _ (t : Tables) (set : ℕ → ℕ → Bool) (s : List ℕ) (i p : ℕ) wh
 
   row-place : mapAt s (m t) p ≡ pack (m t) (set i) → nextAt s (m t) p ≡ p + length (row t set i)
   unfolding row nextAt
-  row-place e = simp length-append (omega (arith, amount-long, map-long, bids-place s (m t) (mapAt s (m t) p) (bidsAt (m t) p) (set i) (bid t i) e))
+  row-place e = simp length-append (omega (arith, amount-long, map-long, bids-place s (m t) (mapAt s (m t) p) (bidsAt (m t) p) (set i) (bidAt t i) e))
 
   row-holds : Bytes s → number s p 2 ≡ getD (t .amounts) i 0 → mapAt s (m t) p ≡ pack (m t) (set i)
-      → ((j : ℕ) → j < m t → set i j ≡ true → number s (bidsAt (m t) p + 4 * count j (hasBit (mapAt s (m t) p))) 4 ≡ bid t i j)
+      → ((j : ℕ) → j < m t → set i j ≡ true → number s (bidsAt (m t) p + 4 * count j (hasBit (mapAt s (m t) p))) 4 ≡ bidAt t i j)
       → Holds s p (row t set i)
   unfolding row mapAt
   row-holds y a e h =
       holds-then s p (p + 2) (amountBytes t i) _ (number-holds s y p 2 _ a) amount-long
       (holds-then s (p + 2) (bidsAt (m t) p) (mapBytes t set i) _ (number-holds s y (p + 2) (mapWidth (m t)) _ e) map-long
-      (bids-hold s (m t) (mapAt s (m t) p) (bidsAt (m t) p) (set i) (bid t i) e y h))
+      (bids-hold s (m t) (mapAt s (m t) p) (bidsAt (m t) p) (set i) (bidAt t i) e y h))
 
   module _ (h : Holds s p (row t set i)) where
     row-amount : getD (t .amounts) i 0 < 256 ^ 2 → number s p 2 ≡ getD (t .amounts) i 0
     unfolding row
     row-amount f = holds-number s p 2 _ f (holds-left s p (amountBytes t i) _ h)
 
-    after-amount : Holds s (p + 2) (mapBytes t set i ++ joined (m t) (λ j. stated (set i j) (bid t i j)))
+    after-amount : Holds s (p + 2) (mapBytes t set i ++ joined (m t) (λ j. stated (set i j) (bidAt t i j)))
     unfolding row
     after-amount = holds-next s p (p + 2) (amountBytes t i) _ amount-long h
 
@@ -104,9 +104,9 @@ module _ (t : Tables) (set : ℕ → ℕ → Bool) (s : List ℕ) (i p : ℕ) wh
     unfolding mapAt
     row-map = holds-number s (p + 2) (mapWidth (m t)) _ (pack-fits (m t) (set i)) (holds-left s (p + 2) (mapBytes t set i) _ after-amount)
 
-    row-bids : ((j : ℕ) → j < m t → bid t i j < 256 ^ 4)
-        → (j : ℕ) → j < m t → set i j ≡ true → number s (bidsAt (m t) p + 4 * count j (hasBit (mapAt s (m t) p))) 4 ≡ bid t i j
-    row-bids f = bids-held s (m t) (mapAt s (m t) p) (bidsAt (m t) p) (set i) (bid t i) row-map f
+    row-bids : ((j : ℕ) → j < m t → bidAt t i j < 256 ^ 4)
+        → (j : ℕ) → j < m t → set i j ≡ true → number s (bidsAt (m t) p + 4 * count j (hasBit (mapAt s (m t) p))) 4 ≡ bidAt t i j
+    row-bids f = bids-held s (m t) (mapAt s (m t) p) (bidsAt (m t) p) (set i) (bidAt t i) row-map f
         (holds-next s (p + 2) (bidsAt (m t) p) (mapBytes t set i) _ map-long after-amount)
 
 -- ---- one station, at p
@@ -138,7 +138,7 @@ pub record Fields (s : List ℕ) (t : Tables) (set : ℕ → ℕ → Bool) : Typ
   pub amount-is : (i : ℕ) → i < n t → number s (rowAt s (m t) i) 2 ≡ getD (t .amounts) i 0
   pub map-is : (i : ℕ) → i < n t → mapAt s (m t) (rowAt s (m t) i) ≡ pack (m t) (set i)
   pub bid-is : (i j : ℕ) → i < n t → j < m t → set i j ≡ true
-      → number s (bidsAt (m t) (rowAt s (m t) i) + 4 * count j (hasBit (mapAt s (m t) (rowAt s (m t) i)))) 4 ≡ bid t i j
+      → number s (bidsAt (m t) (rowAt s (m t) i) + 4 * count j (hasBit (mapAt s (m t) (rowAt s (m t) i)))) 4 ≡ bidAt t i j
   pub end : rowAt s (m t) (n t) ≡ length s
 
 pub row-suc : (s : List ℕ) (m i : ℕ) → rowAt s m (suc i) ≡ nextAt s m (rowAt s m i)

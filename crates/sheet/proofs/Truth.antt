@@ -10,11 +10,11 @@ use lib.ListN.{length, getD, List·getD-append}
 use lib.Seq.{ext-getD, getD-append-add}
 use Rattle.auction.specs.Counting.{only, list, joined}
 use Rattle.auction.specs.Faults.{counts}
-use Rattle.auction.specs.Market.{Tables}
+use Rattle.auction.specs.Market.{Tables, bidAt}
 use Rattle.auction.specs.Refusals.{Verdict, accepted, refused, firstFault}
 use Rattle.auction.proofs.Counting.{up, here, length-list, getD-list}
 use Rattle.auction.proofs.Tests.{decide, only-le, only-yes, only-no}
-use Rattle.sheet.specs.Layout.{bid, Fitting, States, Bytes, ReadsExactlyWhatIsStated, StatesOneMarket}
+use Rattle.sheet.specs.Layout.{Fitting, States, Bytes, ReadsExactlyWhatIsStated, StatesOneMarket}
 use Rattle.sheet.specs.Sheet.{number, guests, stations, hasBit, mapAt, bidsAt, nextAt, rowAt, askOf, baysOf, amountOf, bidBy, bidOf, tablesOf, rowsFaults, sheetFaults, tables, fault, contentBy, readSheet}
 use Rattle.sheet.proofs.Faults.{bids-at, RowSound, sound-row, sound-at, rows-none, rows-suc, first-row, counts-good, whole, Sound, sheet-sound}
 use Rattle.sheet.proofs.Fields.{number-low}
@@ -84,8 +84,8 @@ module _ (s : List ℕ) (t : Tables) (set : ℕ → ℕ → Bool) (g : Fitting t
       first : 4 + 6 * m t ≤ length s
       first = omega (arith, first-row s (m t), rise s (m t) (n t) 0 (omega arith), f .end)
 
-  module _ (covers : (i j : ℕ) → i < n t → j < m t → set i j ≡ false → bid t i j ≡ 0) where
-    bid-same : (i j : ℕ) → i < n t → j < m t → bidOf s (m t) i j ≡ bid t i j
+  module _ (covers : (i j : ℕ) → i < n t → j < m t → set i j ≡ false → bidAt t i j ≡ 0) where
+    bid-same : (i j : ℕ) → i < n t → j < m t → bidOf s (m t) i j ≡ bidAt t i j
     unfolding bidOf bidBy
     bid-same i j l k =
         let e : hasBit (mapAt s (m t) (rowAt s (m t) i)) j ≡ set i j = ap (λ x. hasBit x j) (f .map-is i l) ∙ pack-bit (m t) (set i) j k in
@@ -95,7 +95,7 @@ module _ (s : List ℕ) (t : Tables) (set : ℕ → ℕ → Bool) (g : Fitting t
         (decide (set i j))
 
     tables-same : tablesOf s ≡ t
-    unfolding tablesOf askOf baysOf amountOf bid
+    unfolding tablesOf askOf baysOf amountOf bidAt
     tables-same = rw (f .n-is, f .m-is) (λ x. record {
       asks = list-is (m t) (λ j. number s (4 + 6 * j) 4) (t .asks) refl (f .ask-is) x;
       bays = list-is (m t) (λ j. number s (8 + 6 * j) 2) (t .bays) (g .bays-long) (f .bays-are) x;
@@ -123,10 +123,10 @@ record Is (s : List ℕ) (t : Tables) : Type 0 where
   pub ask-at : (j : ℕ) → j < m t → getD (t .asks) j 0 ≡ number s (4 + 6 * j) 4
   pub bays-at : (j : ℕ) → j < m t → getD (t .bays) j 0 ≡ number s (8 + 6 * j) 2
   pub amount-at : (i : ℕ) → i < n t → getD (t .amounts) i 0 ≡ number s (rowAt s (m t) i) 2
-  pub bid-at : (i j : ℕ) → i < n t → j < m t → bid t i j ≡ bidOf s (m t) i j
+  pub bid-at : (i j : ℕ) → i < n t → j < m t → bidAt t i j ≡ bidOf s (m t) i j
 
 tables-are : (s : List ℕ) → Is s (tablesOf s)
-unfolding tablesOf bid askOf baysOf amountOf
+unfolding tablesOf bidAt askOf baysOf amountOf
 tables-are s = record {
   n-is = length-list (guests s) _;
   m-is = length-list (stations s) _;

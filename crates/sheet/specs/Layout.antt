@@ -6,7 +6,7 @@ use mathlib.Core.Path.{_≡_}
 use lib.ListN.{length, getD}
 use Rattle.auction.specs.Counting.{only, joined}
 use Rattle.auction.specs.Limits.{maxGuests, maxStations}
-use Rattle.auction.specs.Market.{Tables}
+use Rattle.auction.specs.Market.{Tables, bidAt}
 use Rattle.sheet.specs.Sheet.{mapWidth, tables, readSheet}
 
 -- x in k bytes, lowest byte first
@@ -22,9 +22,6 @@ pack (suc m) b = only (b 0) 1 + 2 * pack m (λ j. b (suc j))
 unfoldable pub station : Tables → ℕ → List ℕ
 station t j = bytesOf 4 (getD (t .asks) j 0) ++ bytesOf 2 (getD (t .bays) j 0)
 
-unfoldable pub bid : Tables → (i j : ℕ) → ℕ
-bid t i j = getD (t .bids) (i * length (t .asks) + j) 0
-
 -- a bid has a field where its bit is set
 unfoldable pub stated : Bool → ℕ → List ℕ
 stated true x = bytesOf 4 x
@@ -33,7 +30,7 @@ stated false x = []
 unfoldable pub row : Tables → (ℕ → ℕ → Bool) → ℕ → List ℕ
 row t set i = bytesOf 2 (getD (t .amounts) i 0)
     ++ (bytesOf (mapWidth (length (t .asks))) (pack (length (t .asks)) (set i))
-    ++ joined (length (t .asks)) (λ j. stated (set i j) (bid t i j)))
+    ++ joined (length (t .asks)) (λ j. stated (set i j) (bidAt t i j)))
 
 -- the sheet of t with the bits `set`
 unfoldable pub layout : Tables → (ℕ → ℕ → Bool) → List ℕ
@@ -53,13 +50,13 @@ pub record Fitting (t : Tables) : Type 0 where
   pub ask-fits : (j : ℕ) → j < length (t .asks) → getD (t .asks) j 0 < 256 ^ 4
   pub bays-fit : (j : ℕ) → j < length (t .asks) → getD (t .bays) j 0 < 256 ^ 2
   pub amount-fits : (i : ℕ) → i < length (t .amounts) → getD (t .amounts) i 0 < 256 ^ 2
-  pub bid-fits : (i j : ℕ) → i < length (t .amounts) → j < length (t .asks) → bid t i j < 256 ^ 4
+  pub bid-fits : (i j : ℕ) → i < length (t .amounts) → j < length (t .asks) → bidAt t i j < 256 ^ 4
 
 -- s states t: it is t's layout with some choice of set bits, among which is each bid that is not 0
 pub record States (s : List ℕ) (t : Tables) : Type 0 where
   pub fitting : Fitting t
   pub set : ℕ → ℕ → Bool
-  pub covers : (i j : ℕ) → i < length (t .amounts) → j < length (t .asks) → set i j ≡ false → bid t i j ≡ 0
+  pub covers : (i j : ℕ) → i < length (t .amounts) → j < length (t .asks) → set i j ≡ false → bidAt t i j ≡ 0
   pub is : s ≡ layout t set
 
 abbrev pub Bytes : List ℕ → Type 0

@@ -2,25 +2,27 @@ use borrow.Author.Needs.{needs}
 use Rattle.assignment.proofs.assign_all.Statement.{statement}
 use Rattle.assignment.proofs.assign_all.Tie as tie
 use mathlib.Core.Path.{sym}
-use Rattle.assignment.proofs.Turns.{zeros-long, after-none}
+use Rattle.assignment.proofs.Turns.{after-none}
+use Rattle.auction.proofs.Loops.{zeros-long}
+use Rattle.auction.specs.Limits.{maxGuests}
 
 array-borrow-prefix-totals : tie.Need-array-borrow-prefix-totals
 array-borrow-prefix-totals c = search needs
 
 slice-aggregate-assign : tie.Need-slice-aggregate-assign
-slice-aggregate-assign c = sym (zeros-long _ (c .before .before .before .before .before .before .before .before .pre .0 .within .guests-most))
+slice-aggregate-assign c = zeros-long maxGuests _ (c .before .before .before .before .before .before .before .before .pre .0 .within .guests-most)
 
 array-borrow-prefix-chosen : tie.Need-array-borrow-prefix-chosen
 array-borrow-prefix-chosen c = search needs
 
 slice-aggregate-assign-2 : tie.Need-slice-aggregate-assign-2
-slice-aggregate-assign-2 c = sym (zeros-long _ (c .before .before .before .before .before .before .before .before .before .pre .0 .within .guests-most))
+slice-aggregate-assign-2 c = zeros-long maxGuests _ (c .before .before .before .before .before .before .before .before .before .pre .0 .within .guests-most)
 
 array-borrow-prefix-gains : tie.Need-array-borrow-prefix-gains
 array-borrow-prefix-gains c = search needs
 
 slice-aggregate-assign-3 : tie.Need-slice-aggregate-assign-3
-slice-aggregate-assign-3 c = sym (zeros-long _ (c .before .before .before .before .before .before .before .before .before .before .pre .0 .within .guests-most))
+slice-aggregate-assign-3 c = zeros-long maxGuests _ (c .before .before .before .before .before .before .before .before .before .before .pre .0 .within .guests-most)
 
 slice-aggregate-assign-4 : tie.Need-slice-aggregate-assign-4
 slice-aggregate-assign-4 c = search needs
@@ -28,7 +30,7 @@ slice-aggregate-assign-4 c = search needs
 assign-requires : tie.Need-assign-requires
 assign-requires c κs =
     let most = c .before .before .before .before .before .before .before .before .before .before .before .before .before .pre .0 .within .guests-most in
-    (c .before .before .before .before .before .before .before .before .before .before .before .before .before .pre .0, (zeros-long _ most, (after-none most, c .before .before .before .before .before .before .before .before .before .before .before .before .before .pre .1)))
+    (c .before .before .before .before .before .before .before .before .before .before .before .before .before .pre .0, (sym (zeros-long maxGuests _ most), (after-none most, c .before .before .before .before .before .before .before .before .before .before .before .before .before .pre .1)))
 
 same-length : tie.Need-same-length
 same-length c = search needs

@@ -1,38 +1,39 @@
 use mathlib.Core.Path.{sym, ap, _∙_}
 use borrow.Author.Needs.{needs}
 use Rattle.auction.specs.Faults.{counts, lengths, lent, values, clearingFaults}
-use Rattle.clearing.specs.Stages.{verdictOf}
-use Rattle.clearing.proofs.Answers.{stop, pass, counted}
+use Rattle.clearing.specs.Stages.{asVerdict}
+use Rattle.clearing.proofs.Answers.{counted}
 use Rattle.clearing.proofs.first_fault.Statement.{statement}
 use Rattle.clearing.proofs.first_fault.Tie as tie
+use Rattle.auction.proofs.Acceptance.{stop, pass}
 
 bad-counts-requires : tie.Need-bad-counts-requires
 bad-counts-requires c κs = search needs
 
 returns : tie.Need-returns
-unfolding clearingFaults counts lengths lent verdictOf
-returns c = sym (ap verdictOf (stop _ _ (sym (c .before .bad-counts .ensures) ∙ c .if1 .taken)))
+unfolding clearingFaults counts lengths lent asVerdict
+returns c = sym (ap asVerdict (stop _ _ (sym (c .before .bad-counts .ensures) ∙ c .if1 .taken)))
 
 bad-lengths-requires : tie.Need-bad-lengths-requires
 bad-lengths-requires c κs = counted _ _ (sym (c .before .bad-counts .ensures) ∙ c .if1 .left)
 
 returns-2 : tie.Need-returns-2
-unfolding clearingFaults counts lengths lent verdictOf
-returns-2 c = sym (ap verdictOf (pass _ _ (sym (c .before .before .before .bad-counts .ensures) ∙ c .before .before .if1 .left) ∙ stop _ _ (sym (c .before .bad-lengths .ensures) ∙ c .if2 .taken)))
+unfolding clearingFaults counts lengths lent asVerdict
+returns-2 c = sym (ap asVerdict (pass _ _ (sym (c .before .before .before .bad-counts .ensures) ∙ c .before .before .if1 .left) ∙ stop _ _ (sym (c .before .bad-lengths .ensures) ∙ c .if2 .taken)))
 
 bad-lent-requires : tie.Need-bad-lent-requires
 bad-lent-requires c κs = search needs
 
 returns-3 : tie.Need-returns-3
-unfolding clearingFaults counts lengths lent verdictOf
-returns-3 c = sym (ap verdictOf (pass _ _ (sym (c .before .before .before .before .before .bad-counts .ensures) ∙ c .before .before .before .before .if1 .left) ∙ pass _ _ (sym (c .before .before .before .bad-lengths .ensures) ∙ c .before .before .if2 .left) ∙ stop _ _ (sym (c .before .bad-lent .ensures) ∙ c .if3 .taken)))
+unfolding clearingFaults counts lengths lent asVerdict
+returns-3 c = sym (ap asVerdict (pass _ _ (sym (c .before .before .before .before .before .bad-counts .ensures) ∙ c .before .before .before .before .if1 .left) ∙ pass _ _ (sym (c .before .before .before .bad-lengths .ensures) ∙ c .before .before .if2 .left) ∙ stop _ _ (sym (c .before .bad-lent .ensures) ∙ c .if3 .taken)))
 
 value-fault-requires : tie.Need-value-fault-requires
 value-fault-requires c κs = search needs
 
 returns-4 : tie.Need-returns-4
 unfolding clearingFaults counts lengths lent values
-returns-4 c = c .value-fault .ensures ∙ sym (ap verdictOf (pass _ _ (sym (c .before .before .before .before .before .before .bad-counts .ensures) ∙ c .before .before .before .before .before .if1 .left) ∙ pass _ _ (sym (c .before .before .before .before .bad-lengths .ensures) ∙ c .before .before .before .if2 .left) ∙ pass _ _ (sym (c .before .before .bad-lent .ensures) ∙ c .before .if3 .left)))
+returns-4 c = c .value-fault .ensures ∙ sym (ap asVerdict (pass _ _ (sym (c .before .before .before .before .before .before .bad-counts .ensures) ∙ c .before .before .before .before .before .if1 .left) ∙ pass _ _ (sym (c .before .before .before .before .bad-lengths .ensures) ∙ c .before .before .before .if2 .left) ∙ pass _ _ (sym (c .before .before .bad-lent .ensures) ∙ c .before .if3 .left)))
 
 pub first-fault-spec : {M : Type 1} → statement M
 first-fault-spec =

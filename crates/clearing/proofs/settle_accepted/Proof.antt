@@ -1,18 +1,19 @@
-use mathlib.Core.Path.{sym}
 use native.Mathlib.Omega.{arith}
 use borrow.Author.Needs.{needs}
-use Rattle.assignment.proofs.Turns.{zeros-long}
 use Rattle.clearing.proofs.settle_accepted.Statement.{statement}
 use Rattle.clearing.proofs.settle_accepted.Tie as tie
+use Rattle.auction.proofs.Loops.{zeros-long}
+use Rattle.auction.specs.Limits.{maxGuests}
+use mathlib.Core.Path.{sym}
 
 array-borrow-prefix-least : tie.Need-array-borrow-prefix-least
 array-borrow-prefix-least c = omega (arith, c .before .before .before .before .before .before .before .before .pre .0 .guests-most)
 
 slice-aggregate-settle : tie.Need-slice-aggregate-settle
-slice-aggregate-settle c = sym (zeros-long _ (c .before .before .before .before .before .before .before .before .before .pre .0 .guests-most))
+slice-aggregate-settle c = zeros-long maxGuests _ (c .before .before .before .before .before .before .before .before .before .pre .0 .guests-most)
 
 settle-requires : tie.Need-settle-requires
-settle-requires c κs = (c .before .before .before .before .before .before .before .before .before .before .before .before .before .pre .0, (c .before .before .before .before .before .before .before .before .before .before .before .before .before .pre .1, zeros-long _ (c .before .before .before .before .before .before .before .before .before .before .before .before .before .pre .0 .guests-most)))
+settle-requires c κs = (c .before .before .before .before .before .before .before .before .before .before .before .before .before .pre .0, (c .before .before .before .before .before .before .before .before .before .before .before .before .before .pre .1, sym (zeros-long maxGuests _ (c .before .before .before .before .before .before .before .before .before .before .before .before .before .pre .0 .guests-most))))
 
 same-length : tie.Need-same-length
 same-length c = search needs

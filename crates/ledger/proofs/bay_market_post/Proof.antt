@@ -36,11 +36,11 @@ use denote.Triple.Spec.{Meets, tripleOf}
 use denote.Triple.Table.{entered, cited}
 use denote.Triple.Walked.{says, Stays, gave-ref, gave-slice, stay-none, stay-none-slice, walkOf, goes-gave-ref, goes-gave-slice, goes-none, goes-none-slice, Walks, ends-at, walked, walk-meets}
 use denote.Exit.{yes}
-use Rattle.auction.specs.Refusals.{Verdict}
+use Rattle.auction.specs.Refusals.{Verdict, code}
 use Rattle.clearing.specs.Clears.{tables}
 use Rattle.rounds.specs.Posting.{Posting, posting}
 use Rattle.ledger.specs.LentBook.{LentBook, book}
-use Rattle.ledger.specs.Ledger.{Posted, numberOf, Numbered}
+use Rattle.ledger.specs.Ledger.{Posted, Numbered}
 use Rattle.accounts.specs.Round.{verdictOf}
 use Rattle.stations.specs.declared.StationAccount.{StationAccount}
 use Rattle.accounts.specs.declared.Reply.{Reply}
@@ -60,8 +60,8 @@ use Rattle.ledger.proofs.bay_market_post as f
 use Rattle.ledger.proofs.bay_market_post.Statement as stated
 use Rattle.ledger.proofs.bay_market_post.Code as code
 
-numbered : {entry exit : LentBook} {p : Posting} {v : Verdict} {k : ℕ} → Posted entry p v exit → k ≡ numberOf v → Numbered entry p exit k
-numbered said e = record { number-is = e ∙ ap numberOf (said .answered); exit-is = said .left }
+numbered : {entry exit : LentBook} {p : Posting} {v : Verdict} {k : ℕ} → Posted entry p v exit → k ≡ code v → Numbered entry p exit k
+numbered said e = record { number-is = e ∙ ap code (said .answered); exit-is = said .left }
 
 abbrev Nums : Type 0
 Nums = RefT (List ℕ)
@@ -165,13 +165,13 @@ module _ {M : Type 1} (𝓤 : URA M) (H : Heap 𝓤) (A : Atoms 𝓤) (W : Given
   goes-number : (r : Reply) (v : Val) → ent 𝓤 (sem 𝓤 H A (S.the-row .own r (v ∷ []))) (Number 𝓤 H A mem run .pre (to-number r v))
   goes-number r v = qed W (‵ (S.the-row .own r (v ∷ [])) ∷ []) ∵ nothing ! $ move ! (1 ∷ 0 ∷ []) $ fjoin ! $ nothing ! $ join ! $ frame ! $ done !
 
-  number-said : (r : Reply) (k : ℕ) → ent 𝓤 (ensured 𝓤 H A number.ended (number.clauses 𝓤 H A mem run) tt (r, tt) tt k) (fact 𝓤 (k ≡ numberOf (verdictOf r)))
-  number-said r k = exE 𝓤 _ (λ ws. snd∗ 𝓤 (sem 𝓤 H A (lasts number.ended tt (r, tt) ws)) (fact 𝓤 (k ≡ numberOf (verdictOf r))))
+  number-said : (r : Reply) (k : ℕ) → ent 𝓤 (ensured 𝓤 H A number.ended (number.clauses 𝓤 H A mem run) tt (r, tt) tt k) (fact 𝓤 (k ≡ code (verdictOf r)))
+  number-said r k = exE 𝓤 _ (λ ws. snd∗ 𝓤 (sem 𝓤 H A (lasts number.ended tt (r, tt) ws)) (fact 𝓤 (k ≡ code (verdictOf r))))
 
   abbrev Had : List ℕ → List StationAccount → ℕ → ℕ → ℕ → Val → List (Item 𝓤)
   Had guests′ stations′ house′ last′ k v = tokens ∷ ‵ Market ∷ ‵ (finally u64 (guests .name) guests′) ∷ ‵ (finally T.the-row (stations .name) stations′) ∷ ‵ (fres (house .name) (u64 .coded .code house′)) ∷ ‵ (fres (last .name) (u32 .coded .code last′)) ∷ ‵ (u8 .own k (v ∷ [])) ∷ []
 
-  exits : (r : Reply) (guests′ : List ℕ) (stations′ : List StationAccount) (house′ last′ k : ℕ) (v : Val) → Said r guests′ stations′ house′ last′ → k ≡ numberOf (verdictOf r)
+  exits : (r : Reply) (guests′ : List ℕ) (stations′ : List StationAccount) (house′ last′ k : ℕ) (v : Val) → Said r guests′ stations′ house′ last′ → k ≡ code (verdictOf r)
       → length guests′ ≡ length (now guests) → length stations′ ≡ length (now stations) → ent 𝓤 (⋆ 𝓤 H A (Had guests′ stations′ house′ last′ k v)) (Ends v)
   exits r guests′ stations′ house′ last′ k v said e l-guests l-stations =
       qed W (Had guests′ stations′ house′ last′ k v) ∵
@@ -213,7 +213,7 @@ module _ {M : Type 1} (𝓤 : URA M) (H : Heap 𝓤) (A : Atoms 𝓤) (W : Given
         -- `reply_number`
         use1 W (raw (Number 𝓤 H A mem run .pre (to-number r u₀))) (goes-number r u₀) $
         calls-at ! fm (Number 𝓤 H A mem run) known-number (to-number r u₀) (and-then ! (load ! (from ! (stop !)) (look ! 19 refl)) (no-more !)) (λ u₁. use1 W (later (some (λ (k : ℕ). (‵ ftrue ⊛ ‵ (u8 .own k (u₁ ∷ []))) ⊛ raw (ensured 𝓤 H A number.ended (number.clauses 𝓤 H A mem run) tt (r, tt) tt k)))) (id⊢ 𝓤 _) $
-        await ! tt $ pick ! (λ k. split ! $ move ! (1 ∷ []) $ use1 W (raw (fact 𝓤 (k ≡ numberOf (verdictOf r)))) (number-said r k) $ heard ! (k ≡ numberOf (verdictOf r)) (λ e. split ! $
+        await ! tt $ pick ! (λ k. split ! $ move ! (1 ∷ []) $ use1 W (raw (fact 𝓤 (k ≡ code (verdictOf r)))) (number-said r k) $ heard ! (k ≡ code (verdictOf r)) (λ e. split ! $
         drop ! $ peeks ! u8 (Is u8) (shows 𝓤 H A u8) k (u₁ ∷ []) (λ is₁. land ! (from ! (stop !)) (init ! 41 refl (uint-lawful 𝓤 H A W w8 .typed k _ is₁ .0)) $
         -- the number
         returns ! (look ! 41 refl) $ forget ! 41 refl $ forget ! 39 refl $ forget ! 37 refl $ forget ! 35 refl $ forget ! 33 refl $ forget ! 31 refl $ forget ! 29 refl $ forget ! 27 refl $

@@ -1,9 +1,9 @@
 use mathlib.Core.Path.{ap, sym, _∙_}
-use Rattle.ledger.specs.Ledger.{numberOf}
 use Rattle.accounts.specs.Round.{verdictOf}
 use borrow.Author.Needs.{needs}
 use Rattle.ledger.proofs.reply_number.Statement.{statement}
 use Rattle.ledger.proofs.reply_number.Tie as tie
+use Rattle.auction.specs.Refusals.{code}
 
 enum-told : tie.Need-enum-told
 enum-told c = search needs
@@ -15,12 +15,12 @@ number-requires : tie.Need-number-requires
 number-requires c κs = search needs
 
 returns : tie.Need-returns
-unfolding numberOf verdictOf
-returns c = ap (λ r. numberOf (verdictOf r)) (sym (c .enum-told .given .1))
+unfolding code verdictOf
+returns c = ap (λ r. code (verdictOf r)) (sym (c .enum-told .given .1))
 
 returns-2 : tie.Need-returns-2
-unfolding numberOf verdictOf
-returns-2 c = c .number .ensures ∙ ap (λ r. numberOf (verdictOf r)) (sym (c .before .before .reply .given .1))
+unfolding code verdictOf
+returns-2 c = c .number .ensures ∙ ap (λ r. code (verdictOf r)) (sym (c .before .before .reply .given .1))
 
 pub reply-number-spec : {M : Type 1} → statement M
 reply-number-spec = tie.close (tie.spec enum-told enum-known-reply number-requires returns returns-2)

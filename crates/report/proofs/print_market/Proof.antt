@@ -1,9 +1,9 @@
 use mathlib.Core.Path.{sym}
 use Rattle.auction.specs.Limits.{maxGuests, maxStations}
-use Rattle.clearing.proofs.Callers.{zeros-long}
 use borrow.Author.Needs.{needs}
 use Rattle.report.proofs.print_market.Statement.{statement}
 use Rattle.report.proofs.print_market.Tie as tie
+use Rattle.auction.proofs.Loops.{zeros-long}
 
 array-borrow-prefix-stations : tie.Need-array-borrow-prefix-stations
 array-borrow-prefix-stations c = search needs

@@ -1,9 +1,10 @@
 use Rattle.auction.specs.Limits.{maxGuests, maxStations}
-use Rattle.clearing.proofs.Callers.{zeros-long, lengths}
+use Rattle.clearing.proofs.Callers.{lengths}
 use Rattle.rounds.proofs.Cleared.{many-guests, many-stations, clear-refuses, clear-posts}
 use borrow.Author.Needs.{needs}
 use Rattle.rounds.proofs.clear_round.Statement.{statement}
 use Rattle.rounds.proofs.clear_round.Tie as tie
+use Rattle.auction.proofs.Loops.{zeros-long}
 
 refusing-requires : tie.Need-refusing-requires
 refusing-requires c κs = search needs
