@@ -1,3 +1,2 @@
 pub mod Accounts
-pub mod Records
-pub mod Stations
+pub mod Round

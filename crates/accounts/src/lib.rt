@@ -1,11 +1,11 @@
-// Accounts and what a round adds to them: whether an account has room for it, and the sums.
+// A round, and the accounts that it is added to: whether an account has room for it, and the sums.
 ghost use mathlib.Core.Path.{_≡_};
 ghost use Prim.Native.Nat.{_+_};
 ghost use lib.ListN.{getD, length};
-ghost use Rattle.auction.specs.Counting.{_<?_, _or_};
+ghost use Rattle.auction.specs.Counting.{_<?_};
 ghost use Rattle.auction.specs.Limits.{maxAccount};
 ghost use Rattle.accounts.specs.Accounts.{exceeding, plus, Addable};
-ghost use Rattle.accounts.specs.Stations.{exceedsWith, exceedingTo, credited as creditedOf, creditedTo};
+ghost use Rattle.accounts.specs.Round.{refusing as refusingOf};
 use auction::Refusal;
 
 pub enum Reply {
@@ -22,15 +22,20 @@ pub struct Round {
     pub margin: u64,
 }
 
-// A station's account: kWh sold and money paid.
-#[repr(C)]
-pub struct StationAccount {
-    pub sold: u64,
-    pub paid: u64,
+pub fn refusing(refusal: Refusal) -> Round
+    ensures { λ r. ⌜ r ≡ refusingOf refusal ⌝ }
+{
+    Round {
+        reply: Reply::Refused(refusal),
+        charges: [0; 200],
+        sold: [0; 40],
+        paid: [0; 40],
+        margin: 0,
+    }
 }
 
 // What a list adds at place k, 0 past its end.
-fn at(adds: &[u64], k: usize) -> u64
+pub fn at(adds: &[u64], k: usize) -> u64
     ensures { λ r. ⌜ r ≡ getD (now (adds .entry)) k 0 ⌝ }
 {
     if k < adds.len() { adds[k] } else { 0 }
@@ -79,52 +84,5 @@ pub fn widen(xs: &[u32], ys: &mut [u64])
     while k < ys.len() {
         ys[k] = xs[k] as u64;
         k += 1;
-    }
-}
-
-// Whether station j's account would be above its limit with what the round adds, or one before it.
-fn station_exceeds(account: StationAccount, r: Round, j: usize, before: bool) -> bool
-    ensures { λ t. ⌜ t ≡ («before» or exceedsWith r j account) ⌝ }
-{
-    let sales = r.sold;
-    let payments = r.paid;
-    let sold = exceeds(account.sold, at(&sales, j));
-    let paid = exceeds(account.paid, at(&payments, j));
-    before | (sold | paid)
-}
-
-pub fn stations_exceed(stations: &[StationAccount], r: Round) -> bool
-    ensures { λ t. ⌜ t ≡ exceedingTo r (length (now (stations .entry))) (now (stations .entry)) ⌝ }
-{
-    let mut found = false;
-    let mut j = 0;
-    while j < stations.len() {
-        found = station_exceeds(stations[j], r, j, found);
-        j += 1;
-    }
-    found
-}
-
-// Station j's account with what the round adds; as it is where that would be above its limit, which `settle` refuses.
-fn credited(account: StationAccount, r: Round, j: usize) -> StationAccount
-    ensures { λ a. ⌜ a ≡ creditedOf r j account ⌝ }
-{
-    if station_exceeds(account, r, j, false) {
-        return account;
-    }
-    let sales = r.sold;
-    let payments = r.paid;
-    let sold = account.sold + at(&sales, j);
-    let paid = account.paid + at(&payments, j);
-    StationAccount { sold, paid }
-}
-
-pub fn add_sales(stations: &mut [StationAccount], r: Round)
-    ensures { λ _. ⌜ now (stations .exit) ≡ creditedTo r (length (now (stations .entry))) (now (stations .entry)) ⌝ }
-{
-    let mut j = 0;
-    while j < stations.len() {
-        stations[j] = credited(stations[j], r, j);
-        j += 1;
     }
 }

@@ -12,7 +12,7 @@ use Rattle.auction.specs.Cases.{tables, pair, caseE}
 use Rattle.rounds.specs.Posting.{Posting, posting}
 use Rattle.ledger.specs.PlainBook.{empty, answer, settled, after, answers, final}
 use Rattle.ledger.specs.LentBook.{LentBook, book, blank, plain}
-use Rattle.accounts.specs.Records.{account, soldOf, paidOf}
+use Rattle.stations.specs.Records.{account, soldOf, paidOf}
 use Rattle.ledger.specs.Ledger.{Posted, none, call, ExampleCalled, ExampleKept}
 use Rattle.ledger.proofs.Ledger.{from-blank}
 use Rattle.ledger.proofs.LentBook.{plain-determines}

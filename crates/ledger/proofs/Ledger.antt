@@ -20,7 +20,7 @@ use Rattle.ledger.specs.PlainBook.{empty, answer, settled, after, answer
 use Rattle.ledger.specs.LentBook.{LentBook, blank, plain}
 use Rattle.ledger.specs.Ledger.{Calls, none, call, Kept, BookKept}
 use Rattle.ledger.proofs.Accounts.{length-raised, getD-raised, together-raised, together-zeros}
-use Rattle.accounts.proofs.Stations.{length-sold, getD-sold, getD-paid}
+use Rattle.stations.proofs.Stations.{length-sold, getD-sold, getD-paid}
 use Rattle.ledger.proofs.LentBook.{plain-blank}
 
 -- a posted round fits the book, and no account passes the limit

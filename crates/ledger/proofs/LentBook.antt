@@ -4,9 +4,9 @@ use mathlib.Core.List.{List, _∷_}
 use mathlib.Core.Path.{_≡_, refl, sym, ap, ap₂, _∙_}
 use lib.ListN.{getD, length, replicate}
 use lib.Seq.{ext-getD}
-use Rattle.accounts.specs.declared.StationAccount.{StationAccount}
-use Rattle.accounts.specs.Records.{account, soldOf, paidOf}
-use Rattle.accounts.proofs.Stations.{length-sold, getD-sold, getD-paid}
+use Rattle.stations.specs.declared.StationAccount.{StationAccount}
+use Rattle.stations.specs.Records.{account, soldOf, paidOf}
+use Rattle.stations.proofs.Stations.{length-sold, getD-sold, getD-paid}
 use Rattle.ledger.specs.PlainBook.{empty}
 use Rattle.ledger.specs.LentBook.{blank, plain, PlainDetermines}
 

@@ -20,17 +20,19 @@ use Rattle.auction.proofs.Counting.{some-cong, some-mono, getD-list, list-cong}
 use Rattle.auction.proofs.Acceptance.{clear-of, clear-of-both, first-refuses, first-accepts, inside}
 use Rattle.accounts.specs.declared.Reply.the-variants as reply
 use Rattle.accounts.specs.declared.Round.{Round}
-use Rattle.accounts.specs.declared.StationAccount.{StationAccount}
+use Rattle.stations.specs.declared.StationAccount.{StationAccount}
 use Rattle.rounds.specs.Posting.{Posting, posting, toGuest, toSold, toPaid, toHouse}
 use Rattle.ledger.specs.PlainBook.{answer, settled, after}
 use Rattle.ledger.specs.LentBook.{LentBook, book, plain}
-use Rattle.accounts.specs.Records.{soldOf, paidOf}
-use Rattle.accounts.specs.Stations.{exceedingTo, creditedTo}
+use Rattle.stations.specs.Records.{soldOf, paidOf}
+use Rattle.stations.specs.Stations.{exceedingTo, creditedTo}
 use Rattle.ledger.specs.Ledger.{Posted}
-use Rattle.rounds.specs.Round.{posted, verdictOf, adding, refusing, roundBy, earlyFaults, planned, followed, ruled, keptRound, chosen, Settled}
+use Rattle.rounds.specs.Round.{posted, adding, roundBy, earlyFaults, planned}
+use Rattle.accounts.specs.Round.{verdictOf, refusing}
+use Rattle.settling.specs.Settling.{followed, ruled, keptRound, chosen, Settled}
 use Rattle.accounts.specs.Accounts.{exceeding, plus}
 use Rattle.ledger.proofs.Accounts.{length-raised, getD-raised}
-use Rattle.accounts.proofs.Stations.{length-sold, length-paid, exceeding-is, sold-credited, paid-credited, credited-nothing}
+use Rattle.stations.proofs.Stations.{length-sold, length-paid, exceeding-is, sold-credited, paid-credited, credited-nothing}
 use Rattle.rounds.proofs.Planning.{replied}
 
 -- ---- accounts with what a round adds

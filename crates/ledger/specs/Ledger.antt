@@ -8,7 +8,7 @@ use Rattle.auction.specs.Refusals.{number, Verdict, accepted, refused, code}
 use Rattle.auction.specs.declared.Refusal.the-variants.{RoundOutOfTurn}
 use Rattle.auction.specs.Faults.{overLimit}
 use Rattle.auction.specs.Cases.{caseE}
-use Rattle.accounts.specs.Records.{account, accountAt, paidOf}
+use Rattle.stations.specs.Records.{account, accountAt, paidOf}
 use Rattle.rounds.specs.Posting.{Posting, posting, toGuest, toSold, toPaid, toHouse}
 use Rattle.ledger.specs.PlainBook.{empty, answer, after, answers, final, rounds, total, together}
 use Rattle.ledger.specs.LentBook.{LentBook, book, blank, plain}

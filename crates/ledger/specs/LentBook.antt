@@ -4,8 +4,8 @@ use mathlib.Core.List.{List}
 use mathlib.Core.Path.{_≡_}
 use lib.ListN.{replicate}
 use Rattle.auction.specs.Faults.{Book}
-use Rattle.accounts.specs.declared.StationAccount.{StationAccount}
-use Rattle.accounts.specs.Records.{account, soldOf, paidOf}
+use Rattle.stations.specs.declared.StationAccount.{StationAccount}
+use Rattle.stations.specs.Records.{account, soldOf, paidOf}
 
 pub record LentBook : Type 0 where
   pub guests : List ℕ

@@ -24,7 +24,8 @@ use Rattle.clearing.specs.Clears.{tables, results, Clears}
 use Rattle.clearing.proofs.Callers.{clear-refused, clear-cleared}
 use Rattle.auction.proofs.Loops.{is-list}
 use Rattle.rounds.specs.Posting.{posting, toGuest, toSold, toPaid, toHouse}
-use Rattle.rounds.specs.Round.{posted, adding, refusing, roundBy}
+use Rattle.rounds.specs.Round.{posted, adding, roundBy}
+use Rattle.accounts.specs.Round.{refusing}
 use Rattle.accounts.specs.declared.Reply.the-variants as reply
 use Rattle.accounts.specs.declared.Round.{Round}
 use Rattle.auction.specs.Readings.{RightLengths}

@@ -13,7 +13,8 @@ use Rattle.auction.proofs.Acceptance.{first-refuses, first-accepts}
 use Rattle.accounts.specs.declared.Reply.the-variants as reply
 use Rattle.accounts.specs.declared.Round.{Round}
 use Rattle.rounds.specs.Posting.{Posting, posting}
-use Rattle.rounds.specs.Round.{posted, verdictOf, adding, refusing, roundBy, earlyFaults, planned}
+use Rattle.rounds.specs.Round.{posted, adding, roundBy, earlyFaults, planned}
+use Rattle.accounts.specs.Round.{verdictOf, refusing}
 
 -- the reply says the verdict
 pub replied : (v : Verdict) (p : Posting) → verdictOf ((roundBy v p) .reply) ≡ v

@@ -1,10 +1,10 @@
-// The round that a market clears to, planned for a book and settled on it.
+// The round that a market clears to, or a refused one.
 ghost use mathlib.Core.Path.{_≡_};
 ghost use Rattle.auction.specs.Refusals.{_gives_};
-ghost use Rattle.auction.specs.Faults.{bookSize, outOfTurn, verdict};
+ghost use Rattle.auction.specs.Faults.{bookSize, verdict};
 ghost use Rattle.clearing.specs.Clears.{tables};
 ghost use Rattle.rounds.specs.Posting.{posting};
-ghost use Rattle.rounds.specs.Round.{refusing as refusingOf, posted, roundBy, planned, ruled, Settled};
+ghost use Rattle.rounds.specs.Round.{posted, roundBy, planned};
 use accounts::Reply;
 use accounts::Round;
 use auction::Refusal;
@@ -15,27 +15,6 @@ fn wrong_size(n: usize, m: usize, guests: usize, stations: usize) -> bool
 {
     ((guests < n) | (auction::MAX_GUESTS < guests))
         | ((stations < m) | (auction::MAX_STATIONS < stations))
-}
-
-fn out_of_turn(round: u32, last: u32) -> bool
-    ensures { λ r. ⌜ (r gives Refusal.RoundOutOfTurn) ≡ outOfTurn round last ⌝ }
-{
-    if auction::MAX_ROUND <= last {
-        return true;
-    }
-    round != last + 1
-}
-
-fn refusing(refusal: Refusal) -> Round
-    ensures { λ r. ⌜ r ≡ refusingOf refusal ⌝ }
-{
-    Round {
-        reply: Reply::Refused(refusal),
-        charges: [0; 200],
-        sold: [0; 40],
-        paid: [0; 40],
-        margin: 0,
-    }
 }
 
 // A cleared round, from result lists that are 0 beyond the market's guests and stations.
@@ -62,10 +41,10 @@ fn clear_round(asks: &[u32], bays: &[u16], amounts: &[u16], bids: &[u32], width:
     let n = amounts.len();
     let m = asks.len();
     if auction::MAX_GUESTS < n {
-        return refusing(Refusal::CountsOutOfRange);
+        return accounts::refusing(Refusal::CountsOutOfRange);
     }
     if auction::MAX_STATIONS < m {
-        return refusing(Refusal::CountsOutOfRange);
+        return accounts::refusing(Refusal::CountsOutOfRange);
     }
     let mut stations = [0u16; 200];
     let mut charges = [0u32; 200];
@@ -83,7 +62,7 @@ fn clear_round(asks: &[u32], bays: &[u16], amounts: &[u16], bids: &[u32], width:
         &mut paid[..m],
     );
     match answer {
-        Clearing::Refused(refusal) => refusing(refusal),
+        Clearing::Refused(refusal) => accounts::refusing(refusal),
         Clearing::Cleared { cut: _, margin } => cleared_round(charges, sold, paid, margin),
     }
 }
@@ -106,42 +85,8 @@ pub fn plan(
         Reply::Refused(_) => r,
         Reply::Posted => {
             if wrong_size(amounts.len(), asks.len(), guests, stations) {
-                return refusing(Refusal::BookSize);
+                return accounts::refusing(Refusal::BookSize);
             }
-            r
-        }
-    }
-}
-
-// The round that is added: r itself, or one that adds nothing where r is refused, its number is out of turn, or an account has no room. `full` says that of the stations.
-pub fn settle(
-    r: Round,
-    full: bool,
-    round: u32,
-    guests: &mut [u64],
-    house: &mut u64,
-    last: &mut u32,
-) -> Round
-    ensures { λ s. ⌜ Settled (ruled r full round (now (guests .entry)) (now (house .entry)) (now (last .entry))) r round (now (guests .entry)) (now (house .entry)) (now (last .entry))
-        s (now (guests .exit)) (now (house .exit)) (now (last .exit)) ⌝ }
-{
-    let reply = r.reply;
-    let charges = r.charges;
-    let margin = r.margin;
-    match reply {
-        Reply::Refused(refusal) => refusing(refusal),
-        Reply::Posted => {
-            if out_of_turn(round, *last) {
-                return refusing(Refusal::RoundOutOfTurn);
-            }
-            let crowded = accounts::any_exceeds(guests, &charges);
-            let rich = accounts::exceeds(*house, margin);
-            if full | crowded | rich {
-                return refusing(Refusal::AccountOverLimit);
-            }
-            accounts::add(guests, &charges);
-            *house = *house + margin;
-            *last = round;
             r
         }
     }

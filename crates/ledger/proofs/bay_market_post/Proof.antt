@@ -41,10 +41,10 @@ use Rattle.clearing.specs.Clears.{tables}
 use Rattle.rounds.specs.Posting.{Posting, posting}
 use Rattle.ledger.specs.LentBook.{LentBook, book}
 use Rattle.ledger.specs.Ledger.{Posted, Numbered}
-use Rattle.rounds.specs.Round.{verdictOf}
-use Rattle.accounts.specs.declared.StationAccount.{StationAccount}
+use Rattle.accounts.specs.Round.{verdictOf}
+use Rattle.stations.specs.declared.StationAccount.{StationAccount}
 use Rattle.accounts.specs.declared.Reply.{Reply}
-use Rattle.accounts.proofs.StationAccount as T
+use Rattle.stations.proofs.StationAccount as T
 use Rattle.accounts.proofs.Reply as S
 use Rattle.accounts.proofs.Reply.Laws as S′
 use Rattle.ledger.proofs.post as post

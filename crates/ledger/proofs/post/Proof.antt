@@ -48,13 +48,14 @@ use denote.Exit.{yes}
 use Rattle.rounds.specs.Posting.{posting}
 use Rattle.ledger.specs.LentBook.{LentBook, book}
 use Rattle.clearing.specs.Clears.{tables}
-use Rattle.rounds.specs.Round.{planned, ruled, Settled}
-use Rattle.accounts.specs.Stations.{exceedingTo, creditedTo}
-use Rattle.accounts.specs.declared.StationAccount.{StationAccount}
+use Rattle.rounds.specs.Round.{planned}
+use Rattle.settling.specs.Settling.{ruled, Settled}
+use Rattle.stations.specs.Stations.{exceedingTo, creditedTo}
+use Rattle.stations.specs.declared.StationAccount.{StationAccount}
 use Rattle.accounts.specs.declared.Round.{Round}
 use Rattle.accounts.specs.declared.Reply.{Reply}
 use Rattle.ledger.proofs.Posting.{posts}
-use Rattle.accounts.proofs.StationAccount as T
+use Rattle.stations.proofs.StationAccount as T
 use Rattle.accounts.proofs.Round as R
 use Rattle.accounts.proofs.Round.Laws as R′
 use Rattle.accounts.proofs.Reply as S
@@ -63,18 +64,18 @@ use Rattle.rounds.proofs.plan as plan
 use Rattle.rounds.proofs.plan.Symbol as plan-def
 use Rattle.rounds.proofs.plan.Symbol.{name as #rounds·plan}
 use Rattle.rounds.proofs.plan.Met as plan-thm
-use Rattle.accounts.proofs.stations_exceed as exceed
-use Rattle.accounts.proofs.stations_exceed.Symbol as exceed-def
-use Rattle.accounts.proofs.stations_exceed.Symbol.{name as #accounts·stations-exceed}
-use Rattle.accounts.proofs.stations_exceed.Met as exceed-thm
-use Rattle.rounds.proofs.settle as settle
-use Rattle.rounds.proofs.settle.Symbol as settle-def
-use Rattle.rounds.proofs.settle.Symbol.{name as #rounds·settle}
-use Rattle.rounds.proofs.settle.Met as settle-thm
-use Rattle.accounts.proofs.add_sales as add
-use Rattle.accounts.proofs.add_sales.Symbol as add-def
-use Rattle.accounts.proofs.add_sales.Symbol.{name as #accounts·add-sales}
-use Rattle.accounts.proofs.add_sales.Met as add-thm
+use Rattle.stations.proofs.stations_exceed as exceed
+use Rattle.stations.proofs.stations_exceed.Symbol as exceed-def
+use Rattle.stations.proofs.stations_exceed.Symbol.{name as #stations·stations-exceed}
+use Rattle.stations.proofs.stations_exceed.Met as exceed-thm
+use Rattle.settling.proofs.settle as settle
+use Rattle.settling.proofs.settle.Symbol as settle-def
+use Rattle.settling.proofs.settle.Symbol.{name as #settling·settle}
+use Rattle.settling.proofs.settle.Met as settle-thm
+use Rattle.stations.proofs.add_sales as add
+use Rattle.stations.proofs.add_sales.Symbol as add-def
+use Rattle.stations.proofs.add_sales.Symbol.{name as #stations·add-sales}
+use Rattle.stations.proofs.add_sales.Met as add-thm
 use Rattle.ledger.proofs.post.Key.{name as #ledger·post}
 use Rattle.ledger.proofs.post as f
 use Rattle.ledger.proofs.post.Statement as stated
@@ -299,7 +300,7 @@ module _ {M : Type 1} (𝓤 : URA M) (H : Heap 𝓤) (A : Atoms 𝓤) (W : Given
       move ! (1 ∷ 0 ∷ []) $ fjoin ! $ frame ! $ drop ! $ drop ! $
       owned ! S.the-row (Is S.the-row) (EL.makes S.the-type S′.the-plain 𝓤 H A) (c .reply) (valS (c .reply) ∷ []) (LL.owed R.the-type R′.the-laws c _ is .0) $ done !
 
-  module _ (C : Calls 𝓤 H) (Λ : Loops 𝓤 H) (fm : FmC 𝓤 H (W .laws) C) (known-plan : Triple 𝓤 (C #rounds·plan) (Plan 𝓤 H A mem run)) (known-exceed : Triple 𝓤 (C #accounts·stations-exceed) (Exceed 𝓤 H A mem run)) (known-settle : Triple 𝓤 (C #rounds·settle) (Settle 𝓤 H A mem run)) (known-add : Triple 𝓤 (C #accounts·add-sales) (Add 𝓤 H A mem run)) where
+  module _ (C : Calls 𝓤 H) (Λ : Loops 𝓤 H) (fm : FmC 𝓤 H (W .laws) C) (known-plan : Triple 𝓤 (C #rounds·plan) (Plan 𝓤 H A mem run)) (known-exceed : Triple 𝓤 (C #stations·stations-exceed) (Exceed 𝓤 H A mem run)) (known-settle : Triple 𝓤 (C #settling·settle) (Settle 𝓤 H A mem run)) (known-add : Triple 𝓤 (C #stations·add-sales) (Add 𝓤 H A mem run)) where
     walk : Is (ShrSlice (named 0) κ₀ u32) asks (val asks ∷ []) → Is (ShrSlice (named 1) κ₁ u16) bays (val bays ∷ []) → Is (ShrSlice (named 2) κ₂ u16) amounts (val amounts ∷ []) → Is (ShrSlice (named 3) κ₃ u32) bids (val bids ∷ []) → Room u64 (length (now guests)) → Room T.the-row n
         → ent 𝓤 (onEntry 𝓤 H A f.signature κs qs a at) (WpFn 𝓤 H C Λ code.function (val asks ∷ val bays ∷ val amounts ∷ val bids ∷ vint w64 width ∷ vint w32 round ∷ val guests ∷ s ∷ ptrVal house ∷ ptrVal last ∷ []) Post)
     walk g-asks g-bays g-amounts g-bids gg gn =
@@ -371,7 +372,7 @@ module _ {M : Type 1} (𝓤 : URA M) (H : Heap 𝓤) (A : Atoms 𝓤) (W : Given
         by ! (exits d c u₂ (ls .1 .1 .1 .0) (zs .0) (ls .1 .1 .1 .1 .0) (ls .1 .1 .1 .1 .1 .0) e₀ e₂ e₃ is₂ la lg))))))))))))))))))))))))))))))))))))))))))))))))
 
 module _ {M : Type 1} (𝓤 : URA M) (H : Heap 𝓤) (A : Atoms 𝓤) (W : Given 𝓤 H A) (mem : Memory → SProp 𝓤) (run : Routine → Fun 𝓤) where
-  post-walks : (C : Calls 𝓤 H) (Λ : Loops 𝓤 H) → FmC 𝓤 H (W .laws) C → Triple 𝓤 (C #rounds·plan) (Plan 𝓤 H A mem run) → Triple 𝓤 (C #accounts·stations-exceed) (Exceed 𝓤 H A mem run) → Triple 𝓤 (C #rounds·settle) (Settle 𝓤 H A mem run) → Triple 𝓤 (C #accounts·add-sales) (Add 𝓤 H A mem run)
+  post-walks : (C : Calls 𝓤 H) (Λ : Loops 𝓤 H) → FmC 𝓤 H (W .laws) C → Triple 𝓤 (C #rounds·plan) (Plan 𝓤 H A mem run) → Triple 𝓤 (C #stations·stations-exceed) (Exceed 𝓤 H A mem run) → Triple 𝓤 (C #settling·settle) (Settle 𝓤 H A mem run) → Triple 𝓤 (C #stations·add-sales) (Add 𝓤 H A mem run)
       → Walks 𝓤 H A f.ended stayed (WpFn 𝓤 H C Λ code.function) (f.clauses 𝓤 H A mem run)
   post-walks C Λ fm known-plan known-exceed known-settle known-add = walked 𝓤 H A f.ended stayed (f.clauses 𝓤 H A mem run) (WpFn 𝓤 H C Λ code.function)
       (λ κs. (slice-vals, (slice-vals, (slice-vals, (slice-vals, (uint-vals w64, (uint-vals w32, (slice-vals, (slice-vals, (ptr-vals, (ptr-vals, tt)))))))))))
@@ -379,7 +380,7 @@ module _ {M : Type 1} (𝓤 : URA M) (H : Heap 𝓤) (A : Atoms 𝓤) (W : Given
       (λ κs qs bounds a g are. via 𝓤 _ (fst∗ 𝓤 _ (emp 𝓤)) (walk 𝓤 H A W mem run (κs .0) (κs .1 .0) (κs .1 .1 .0) (κs .1 .1 .1 .0) (κs .1 .1 .1 .1 .0) (κs .1 .1 .1 .1 .1 .0) (κs .1 .1 .1 .1 .1 .1 .0) (κs .1 .1 .1 .1 .1 .1 .1 .0) (qs .0) (qs .1 .0) (qs .1 .1 .0) (qs .1 .1 .1 .0) (qs .1 .1 .1 .1 .0) (qs .1 .1 .1 .1 .1 .0) (qs .1 .1 .1 .1 .1 .1 .0) (qs .1 .1 .1 .1 .1 .1 .1 .0)
       (a .0) (a .1 .0) (a .1 .1 .0) (a .1 .1 .1 .0) (a .1 .1 .1 .1 .0) (are .1 .1 .1 .1 .0 .1) (a .1 .1 .1 .1 .1 .0) (are .1 .1 .1 .1 .1 .0 .1) (a .1 .1 .1 .1 .1 .1 .0) (a .1 .1 .1 .1 .1 .1 .1 .0 .ptr .0) (a .1 .1 .1 .1 .1 .1 .1 .0 .ptr .1) (a .1 .1 .1 .1 .1 .1 .1 .0 .name) (a .1 .1 .1 .1 .1 .1 .1 .0 .now) (a .1 .1 .1 .1 .1 .1 .1 .1 .0) (a .1 .1 .1 .1 .1 .1 .1 .1 .1 .0) C Λ fm known-plan known-exceed known-settle known-add (are .0) (are .1 .0) (are .1 .1 .0) (are .1 .1 .1 .0) (are .1 .1 .1 .1 .1 .1 .0 .0 .1) (are .1 .1 .1 .1 .1 .1 .1 .0 .0 .1)))
 
-post-meets : {M : Type 1} (𝓤 : URA M) (H : Heap 𝓤) (A : Atoms 𝓤) → Given 𝓤 H A → (mem : Memory → SProp 𝓤) (run : Routine → Fun 𝓤) (𝓣 : Tables 𝓤 H) → Triple 𝓤 (𝓣 .C #rounds·plan) (Plan 𝓤 H A mem run) → Triple 𝓤 (𝓣 .C #accounts·stations-exceed) (Exceed 𝓤 H A mem run) → Triple 𝓤 (𝓣 .C #rounds·settle) (Settle 𝓤 H A mem run) → Triple 𝓤 (𝓣 .C #accounts·add-sales) (Add 𝓤 H A mem run)
+post-meets : {M : Type 1} (𝓤 : URA M) (H : Heap 𝓤) (A : Atoms 𝓤) → Given 𝓤 H A → (mem : Memory → SProp 𝓤) (run : Routine → Fun 𝓤) (𝓣 : Tables 𝓤 H) → Triple 𝓤 (𝓣 .C #rounds·plan) (Plan 𝓤 H A mem run) → Triple 𝓤 (𝓣 .C #stations·stations-exceed) (Exceed 𝓤 H A mem run) → Triple 𝓤 (𝓣 .C #settling·settle) (Settle 𝓤 H A mem run) → Triple 𝓤 (𝓣 .C #stations·add-sales) (Add 𝓤 H A mem run)
     → Meets 𝓤 H A f.signature (WpFn 𝓤 H (𝓣 .C) (𝓣 .Λ) code.function) (f.spec 𝓤 H A mem run)
 post-meets 𝓤 H A W mem run 𝓣 known-plan known-exceed known-settle known-add = walk-meets 𝓤 H A f.ended stayed W
     (goes-none-slice 𝓤 H A W 8 (0 ∷ []) tt (plain (λ _. u32)) yes, (goes-none-slice 𝓤 H A W 8 (1 ∷ []) tt (plain (λ _. u16)) yes, (goes-none-slice 𝓤 H A W 8 (2 ∷ []) tt (plain (λ _. u16)) yes, (goes-none-slice 𝓤 H A W 8 (3 ∷ []) tt (plain (λ _. u32)) yes, (goes-none 𝓤 H A W 8 (λ _. usize) yes (λ κs x f. refl), (goes-none 𝓤 H A W 8 (λ _. u32) yes (λ κs x f. refl), (goes-gave-slice 𝓤 H A W 8 4 tt (plain (λ _. u64)), (goes-gave-slice 𝓤 H A W 8 5 tt (plain (λ _. T.the-row)), (goes-gave-ref 𝓤 H A W 8 6 tt (plain (λ _. u64)), (goes-gave-ref 𝓤 H A W 8 7 tt (plain (λ _. u32)), tt))))))))))
@@ -392,6 +393,6 @@ post-spec 𝓤 H 𝓜 𝓖 𝓡 =
     (tables′ 𝓤 H 𝓜 𝓡 code.env .C) (tables′ 𝓤 H 𝓜 𝓡 code.env .Λ) #ledger·post code.function (code.unfolded 𝓤 H 𝓜 𝓡)
     (post-meets 𝓤 H (𝓖 .A) (givenOf 𝓤 H 𝓜 𝓖) (𝓜 .mem) (𝓡 .run) (tablesOf 𝓤 H 𝓜 (tables′ 𝓤 H 𝓜 𝓡 code.env))
     (cited 𝓤 H (Plan 𝓤 H (𝓖 .A) (𝓜 .mem) (𝓡 .run)) 𝓜 𝓡 code.env #rounds·plan plan-def.routine code.calls-rounds·plan (plan-thm.met 𝓤 H 𝓜 𝓖 𝓡))
-    (cited 𝓤 H (Exceed 𝓤 H (𝓖 .A) (𝓜 .mem) (𝓡 .run)) 𝓜 𝓡 code.env #accounts·stations-exceed exceed-def.routine code.calls-accounts·stations-exceed (exceed-thm.met 𝓤 H 𝓜 𝓖 𝓡))
-    (cited 𝓤 H (Settle 𝓤 H (𝓖 .A) (𝓜 .mem) (𝓡 .run)) 𝓜 𝓡 code.env #rounds·settle settle-def.routine code.calls-rounds·settle (settle-thm.met 𝓤 H 𝓜 𝓖 𝓡))
-    (cited 𝓤 H (Add 𝓤 H (𝓖 .A) (𝓜 .mem) (𝓡 .run)) 𝓜 𝓡 code.env #accounts·add-sales add-def.routine code.calls-accounts·add-sales (add-thm.met 𝓤 H 𝓜 𝓖 𝓡)))
+    (cited 𝓤 H (Exceed 𝓤 H (𝓖 .A) (𝓜 .mem) (𝓡 .run)) 𝓜 𝓡 code.env #stations·stations-exceed exceed-def.routine code.calls-stations·stations-exceed (exceed-thm.met 𝓤 H 𝓜 𝓖 𝓡))
+    (cited 𝓤 H (Settle 𝓤 H (𝓖 .A) (𝓜 .mem) (𝓡 .run)) 𝓜 𝓡 code.env #settling·settle settle-def.routine code.calls-settling·settle (settle-thm.met 𝓤 H 𝓜 𝓖 𝓡))
+    (cited 𝓤 H (Add 𝓤 H (𝓖 .A) (𝓜 .mem) (𝓡 .run)) 𝓜 𝓡 code.env #stations·add-sales add-def.routine code.calls-stations·add-sales (add-thm.met 𝓤 H 𝓜 𝓖 𝓡)))

@@ -1,5 +1,5 @@
 use mathlib.Core.Path.{ap, sym, _∙_}
-use Rattle.rounds.specs.Round.{verdictOf}
+use Rattle.accounts.specs.Round.{verdictOf}
 use borrow.Author.Needs.{needs}
 use Rattle.ledger.proofs.reply_number.Statement.{statement}
 use Rattle.ledger.proofs.reply_number.Tie as tie

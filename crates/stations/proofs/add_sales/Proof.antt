@@ -48,24 +48,24 @@ use denote.Triple.Spec.{Meets, tripleOf}
 use denote.Triple.Table.{entered, cited}
 use denote.Triple.Walked.{says, Stays, stay-slice, stay-none, walkOf, goes-slice, goes-none, Walks, ends-at, walked, walk-meets}
 use denote.Exit.{yes}
-use Rattle.accounts.specs.Records.{account, accountAt}
-use Rattle.accounts.specs.Stations.{credited, creditedTo}
-use Rattle.accounts.specs.declared.StationAccount.{StationAccount}
+use Rattle.stations.specs.Records.{account, accountAt}
+use Rattle.stations.specs.Stations.{credited, creditedTo}
+use Rattle.stations.specs.declared.StationAccount.{StationAccount}
 use Rattle.accounts.specs.declared.Round.{Round}
-use Rattle.accounts.proofs.Stations.{credited-none, credited-more, credited-length}
-use Rattle.accounts.proofs.StationAccount as T
-use Rattle.accounts.proofs.StationAccount.Laws as T′
+use Rattle.stations.proofs.Stations.{credited-none, credited-more, credited-length}
+use Rattle.stations.proofs.StationAccount as T
+use Rattle.stations.proofs.StationAccount.Laws as T′
 use Rattle.accounts.proofs.Round as R
 use Rattle.accounts.proofs.Round.Laws as R′
-use Rattle.accounts.proofs.credited as g
-use Rattle.accounts.proofs.credited.Symbol as g-def
-use Rattle.accounts.proofs.credited.Symbol.{name as #accounts·credited}
-use Rattle.accounts.proofs.credited.Met as g-thm
-use Rattle.accounts.proofs.add_sales.Key.{name as #accounts·add-sales}
-use Rattle.accounts.proofs.add_sales as f
-use Rattle.accounts.proofs.add_sales.Statement as stated
-use Rattle.accounts.proofs.add_sales.Code as code
-use Rattle.accounts.proofs.add_sales.Code.Mir as mirᶜ
+use Rattle.stations.proofs.credited as g
+use Rattle.stations.proofs.credited.Symbol as g-def
+use Rattle.stations.proofs.credited.Symbol.{name as #stations·credited}
+use Rattle.stations.proofs.credited.Met as g-thm
+use Rattle.stations.proofs.add_sales.Key.{name as #stations·add-sales}
+use Rattle.stations.proofs.add_sales as f
+use Rattle.stations.proofs.add_sales.Statement as stated
+use Rattle.stations.proofs.add_sales.Code as code
+use Rattle.stations.proofs.add_sales.Code.Mir as mirᶜ
 
 abbrev Arg : Type 0
 Arg = RefT (List StationAccount) × (Round × Unit {0})
@@ -160,7 +160,7 @@ module _ {M : Type 1} (𝓤 : URA M) (H : Heap 𝓤) (A : Atoms 𝓤) (W : Given
   Nearer-wf : WellFounded Nearer
   Nearer-wf = InvImage·wf (λ (j : Upto). n - j .0) (Nat·lt-wfRel .wf)
 
-  module _ (𝓣 : Tables 𝓤 H) (known : Triple 𝓤 (𝓣 .C #accounts·credited) (Credited 𝓤 H A mem run)) (gn : Room T.the-row n) (wt : Holds (hasTy R′.mir v) × WT v) where
+  module _ (𝓣 : Tables 𝓤 H) (known : Triple 𝓤 (𝓣 .C #stations·credited) (Credited 𝓤 H A mem run)) (gn : Room T.the-row n) (wt : Holds (hasTy R′.mir v) × WT v) where
     module _ (l₀ l₁ l₂ l₃ l₄ l₅ l₆ l₇ l₈ l₉ l₁₀ : ℕ) where
       abbrev C : Calls 𝓤 H
       C = 𝓣 .C
@@ -264,12 +264,12 @@ module _ {M : Type 1} (𝓤 : URA M) (H : Heap 𝓤) (A : Atoms 𝓤) (W : Given
         looped l₀ l₁ l₂ l₃ l₄ l₅ l₆ l₇ l₈ l₉ l₁₀)))))))))))
 
 module _ {M : Type 1} (𝓤 : URA M) (H : Heap 𝓤) (A : Atoms 𝓤) (W : Given 𝓤 H A) (mem : Memory → SProp 𝓤) (run : Routine → Fun 𝓤) where
-  add-sales-walks : (𝓣 : Tables 𝓤 H) → Triple 𝓤 (𝓣 .C #accounts·credited) (Credited 𝓤 H A mem run) → Walks 𝓤 H A f.ended stayed (WpFn 𝓤 H (𝓣 .C) (𝓣 .Λ) code.function) (f.clauses 𝓤 H A mem run)
+  add-sales-walks : (𝓣 : Tables 𝓤 H) → Triple 𝓤 (𝓣 .C #stations·credited) (Credited 𝓤 H A mem run) → Walks 𝓤 H A f.ended stayed (WpFn 𝓤 H (𝓣 .C) (𝓣 .Λ) code.function) (f.clauses 𝓤 H A mem run)
   add-sales-walks 𝓣 known = walked 𝓤 H A f.ended stayed (f.clauses 𝓤 H A mem run) (WpFn 𝓤 H (𝓣 .C) (𝓣 .Λ) code.function)
       (λ κs. (slice-vals, (LL.vals R.the-type R′.the-laws, tt))) (λ κs. (mut-slice-tells (named 0) (κs .0) T.the-row, (LL.tells R.the-type R′.the-laws, tt)))
       (λ κs qs bounds a g are. via 𝓤 _ (fst∗ 𝓤 _ (emp 𝓤)) (walk 𝓤 H A W mem run (κs .0) (qs .0) (a .0 .ptr .0) (a .0 .ptr .1) (a .0 .name) (a .0 .now) (a .1 .0) (valR (a .1 .0)) (are .1 .0) 𝓣 known (are .0 .0 .1) (LL.lawful R.the-type R′.the-laws 𝓤 H A W .typed (a .1 .0) _ (are .1 .0) .0)))
 
-add-sales-meets : {M : Type 1} (𝓤 : URA M) (H : Heap 𝓤) (A : Atoms 𝓤) → Given 𝓤 H A → (mem : Memory → SProp 𝓤) (run : Routine → Fun 𝓤) (𝓣 : Tables 𝓤 H) → Triple 𝓤 (𝓣 .C #accounts·credited) (Credited 𝓤 H A mem run)
+add-sales-meets : {M : Type 1} (𝓤 : URA M) (H : Heap 𝓤) (A : Atoms 𝓤) → Given 𝓤 H A → (mem : Memory → SProp 𝓤) (run : Routine → Fun 𝓤) (𝓣 : Tables 𝓤 H) → Triple 𝓤 (𝓣 .C #stations·credited) (Credited 𝓤 H A mem run)
     → Meets 𝓤 H A f.signature (WpFn 𝓤 H (𝓣 .C) (𝓣 .Λ) code.function) (f.spec 𝓤 H A mem run)
 add-sales-meets 𝓤 H A W mem run 𝓣 known = walk-meets 𝓤 H A f.ended stayed W (goes-slice 𝓤 H A W 1 0 tt (plain (λ _. T.the-row)), (goes-none 𝓤 H A W 1 (λ _. R.the-row) yes (λ κs x f. refl), tt)) (f.clauses 𝓤 H A mem run)
     (WpFn 𝓤 H (𝓣 .C) (𝓣 .Λ) code.function) (WpFn-mono 𝓤 H (W .laws) 𝓣 code.function) (add-sales-walks 𝓤 H A W mem run 𝓣 known)
@@ -278,6 +278,6 @@ pub add-sales-spec : {M : Type 1} → stated.statement M
 unfolding code.routine tablesOf
 add-sales-spec 𝓤 H 𝓜 𝓖 𝓡 =
     entered 𝓤 H (tripleOf 𝓤 H (𝓖 .A) f.signature (f.spec 𝓤 H (𝓖 .A) (𝓜 .mem) (𝓡 .run)))
-    (tables 𝓤 H 𝓜 𝓡 code.env .C) (tables 𝓤 H 𝓜 𝓡 code.env .Λ) #accounts·add-sales code.function (code.unfolded 𝓤 H 𝓜 𝓡)
+    (tables 𝓤 H 𝓜 𝓡 code.env .C) (tables 𝓤 H 𝓜 𝓡 code.env .Λ) #stations·add-sales code.function (code.unfolded 𝓤 H 𝓜 𝓡)
     (add-sales-meets 𝓤 H (𝓖 .A) (givenOf 𝓤 H 𝓜 𝓖) (𝓜 .mem) (𝓡 .run) (tablesOf 𝓤 H 𝓜 (tables 𝓤 H 𝓜 𝓡 code.env))
-    (cited 𝓤 H (Credited 𝓤 H (𝓖 .A) (𝓜 .mem) (𝓡 .run)) 𝓜 𝓡 code.env #accounts·credited g-def.routine code.calls-accounts·credited (g-thm.met 𝓤 H 𝓜 𝓖 𝓡)))
+    (cited 𝓤 H (Credited 𝓤 H (𝓖 .A) (𝓜 .mem) (𝓡 .run)) 𝓜 𝓡 code.env #stations·credited g-def.routine code.calls-stations·credited (g-thm.met 𝓤 H 𝓜 𝓖 𝓡)))

@@ -1,10 +1,10 @@
 use mathlib.Core.Path.{sym, _∙_}
 use native.Mathlib.Omega.{arith}
 use Rattle.auction.proofs.Tests.{lt-no}
-use Rattle.rounds.proofs.Settling.{addable, all-fail, test-is, settled-refused, settled-late, settled-over, settled-posted}
+use Rattle.settling.proofs.Settling.{addable, all-fail, test-is, settled-refused, settled-late, settled-over, settled-posted}
 use borrow.Author.Needs.{needs}
-use Rattle.rounds.proofs.settle.Statement.{statement}
-use Rattle.rounds.proofs.settle.Tie as tie
+use Rattle.settling.proofs.settle.Statement.{statement}
+use Rattle.settling.proofs.settle.Tie as tie
 
 enum-known-reply : tie.Need-enum-known-reply
 enum-known-reply c = search needs

@@ -2,7 +2,7 @@
 use Prim.Native.Nat.{ℕ}
 use mathlib.Core.List.{List, map}
 use lib.ListN.{getD}
-use Rattle.accounts.specs.declared.StationAccount.{StationAccount}
+use Rattle.stations.specs.declared.StationAccount.{StationAccount}
 
 abbrev pub account : (sold paid : ℕ) → StationAccount
 account sold paid = record { sold = sold; paid = paid }

@@ -1,7 +1,7 @@
-use Rattle.accounts.proofs.Stations.{exceeds-is}
+use Rattle.stations.proofs.Stations.{exceeds-is}
 use borrow.Author.Needs.{needs}
-use Rattle.accounts.proofs.station_exceeds.Statement.{statement}
-use Rattle.accounts.proofs.station_exceeds.Tie as tie
+use Rattle.stations.proofs.station_exceeds.Statement.{statement}
+use Rattle.stations.proofs.station_exceeds.Tie as tie
 
 slice-aggregate-at : tie.Need-slice-aggregate-at
 slice-aggregate-at c = search needs

@@ -15,7 +15,8 @@ use Rattle.auction.proofs.Tests.{lt-no, or-no}
 use Rattle.auction.proofs.Counting.{some-no}
 use Rattle.accounts.specs.declared.Reply.the-variants as reply
 use Rattle.accounts.specs.declared.Round.{Round}
-use Rattle.rounds.specs.Round.{verdictOf, refusing, followed, ruled, keptRound, chosen, Settled}
+use Rattle.accounts.specs.Round.{verdictOf, refusing}
+use Rattle.settling.specs.Settling.{followed, ruled, keptRound, chosen, Settled}
 use Rattle.accounts.specs.Accounts.{exceeding, plus, Addable}
 use Rattle.auction.proofs.Loops.{or-is}
 

@@ -1,7 +1,7 @@
-use Rattle.rounds.specs.Round.{refusing}
+use Rattle.accounts.specs.Round.{refusing}
 use borrow.Author.Needs.{needs}
-use Rattle.rounds.proofs.refusing.Statement.{statement}
-use Rattle.rounds.proofs.refusing.Tie as tie
+use Rattle.accounts.proofs.refusing.Statement.{statement}
+use Rattle.accounts.proofs.refusing.Tie as tie
 
 returns : tie.Need-returns
 unfolding refusing

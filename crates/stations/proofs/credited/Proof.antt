@@ -1,8 +1,8 @@
 use native.Mathlib.Omega.{arith}
-use Rattle.accounts.proofs.Stations.{room, credited-not, credited-yes}
+use Rattle.stations.proofs.Stations.{room, credited-not, credited-yes}
 use borrow.Author.Needs.{needs}
-use Rattle.accounts.proofs.credited.Statement.{statement}
-use Rattle.accounts.proofs.credited.Tie as tie
+use Rattle.stations.proofs.credited.Statement.{statement}
+use Rattle.stations.proofs.credited.Tie as tie
 
 station-exceeds-requires : tie.Need-station-exceeds-requires
 station-exceeds-requires c κs = search needs

@@ -13,11 +13,11 @@ use Rattle.auction.specs.Counting.{_<?_, _or_, some}
 use Rattle.auction.specs.Limits.{maxAccount}
 use Rattle.auction.proofs.Tests.{or-no, lt-no, lt-or-le}
 use Rattle.auction.proofs.Counting.{some-no, some-cong, here}
-use Rattle.accounts.specs.declared.StationAccount.{StationAccount}
+use Rattle.stations.specs.declared.StationAccount.{StationAccount}
 use Rattle.accounts.specs.declared.Round.{Round}
-use Rattle.accounts.specs.Records.{account, accountAt, soldOf, paidOf}
-use Rattle.accounts.specs.Stations.{exceedsWith, exceedingTo, creditedBy, credited, creditedTo}
+use Rattle.stations.specs.Records.{account, accountAt, soldOf, paidOf}
+use Rattle.stations.specs.Stations.{exceedsWith, exceedingTo, creditedBy, credited, creditedTo}
 use Rattle.accounts.specs.Accounts.{exceeding, plus}
 use Rattle.auction.proofs.Loops.{or-is, is-list}
 
 -- ---- the plain book's lists

@@ -5,9 +5,9 @@ use mathlib.Core.List.{List}
 use lib.ListN.{getD, set}
 use Rattle.auction.specs.Counting.{_<?_, _or_, some}
 use Rattle.auction.specs.Limits.{maxAccount}
-use Rattle.accounts.specs.declared.StationAccount.{StationAccount}
+use Rattle.stations.specs.declared.StationAccount.{StationAccount}
 use Rattle.accounts.specs.declared.Round.{Round}
-use Rattle.accounts.specs.Records.{account, accountAt}
+use Rattle.stations.specs.Records.{account, accountAt}
 
 -- station j's account a would be above the limit with what the round adds
 unfoldable pub exceedsWith : Round → ℕ → StationAccount → Bool

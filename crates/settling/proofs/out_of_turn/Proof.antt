@@ -6,8 +6,8 @@ use Rattle.auction.specs.Faults.{outOfTurn}
 use Rattle.auction.specs.declared.Refusal.the-variants.{RoundOutOfTurn}
 use Rattle.auction.proofs.Tests.{or-left, or-skip, is-le, not-le}
 use borrow.Author.Needs.{needs}
-use Rattle.rounds.proofs.out_of_turn.Statement.{statement}
-use Rattle.rounds.proofs.out_of_turn.Tie as tie
+use Rattle.settling.proofs.out_of_turn.Statement.{statement}
+use Rattle.settling.proofs.out_of_turn.Tie as tie
 
 returns : tie.Need-returns
 unfolding outOfTurn

@@ -47,24 +47,24 @@ use denote.Triple.Table.{entered, cited}
 use denote.Triple.Walked.{says, Stays, stay-none-slice, stay-none, walkOf, goes-none-slice, goes-none, Walks, ends-at, walked, walk-meets}
 use denote.Exit.{yes}
 use Rattle.auction.specs.Counting.{_or_}
-use Rattle.accounts.specs.Records.{account, accountAt}
-use Rattle.accounts.specs.Stations.{exceedsWith, exceedingTo}
-use Rattle.accounts.specs.declared.StationAccount.{StationAccount}
+use Rattle.stations.specs.Records.{account, accountAt}
+use Rattle.stations.specs.Stations.{exceedsWith, exceedingTo}
+use Rattle.stations.specs.declared.StationAccount.{StationAccount}
 use Rattle.accounts.specs.declared.Round.{Round}
-use Rattle.accounts.proofs.Stations.{exceeding-none, exceeding-more}
-use Rattle.accounts.proofs.StationAccount as T
-use Rattle.accounts.proofs.StationAccount.Laws as T′
+use Rattle.stations.proofs.Stations.{exceeding-none, exceeding-more}
+use Rattle.stations.proofs.StationAccount as T
+use Rattle.stations.proofs.StationAccount.Laws as T′
 use Rattle.accounts.proofs.Round as R
 use Rattle.accounts.proofs.Round.Laws as R′
-use Rattle.accounts.proofs.station_exceeds as g
-use Rattle.accounts.proofs.station_exceeds.Symbol as g-def
-use Rattle.accounts.proofs.station_exceeds.Symbol.{name as #accounts·station-exceeds}
-use Rattle.accounts.proofs.station_exceeds.Met as g-thm
-use Rattle.accounts.proofs.stations_exceed.Key.{name as #accounts·stations-exceed}
-use Rattle.accounts.proofs.stations_exceed as f
-use Rattle.accounts.proofs.stations_exceed.Statement as stated
-use Rattle.accounts.proofs.stations_exceed.Code as code
-use Rattle.accounts.proofs.stations_exceed.Code.Mir as mirᶜ
+use Rattle.stations.proofs.station_exceeds as g
+use Rattle.stations.proofs.station_exceeds.Symbol as g-def
+use Rattle.stations.proofs.station_exceeds.Symbol.{name as #stations·station-exceeds}
+use Rattle.stations.proofs.station_exceeds.Met as g-thm
+use Rattle.stations.proofs.stations_exceed.Key.{name as #stations·stations-exceed}
+use Rattle.stations.proofs.stations_exceed as f
+use Rattle.stations.proofs.stations_exceed.Statement as stated
+use Rattle.stations.proofs.stations_exceed.Code as code
+use Rattle.stations.proofs.stations_exceed.Code.Mir as mirᶜ
 
 abbrev Arg : Type 0
 Arg = RefT (List StationAccount) × (Round × Unit {0})
@@ -155,7 +155,7 @@ module _ {M : Type 1} (𝓤 : URA M) (H : Heap 𝓤) (A : Atoms 𝓤) (W : Given
   Nearer-wf : WellFounded Nearer
   Nearer-wf = InvImage·wf (λ (j : Upto). n - j .0) (Nat·lt-wfRel .wf)
 
-  module _ (𝓣 : Tables 𝓤 H) (known : Triple 𝓤 (𝓣 .C #accounts·station-exceeds) (One 𝓤 H A mem run)) (gn : Room T.the-row n) (wt : Holds (hasTy R′.mir v) × WT v) where
+  module _ (𝓣 : Tables 𝓤 H) (known : Triple 𝓤 (𝓣 .C #stations·station-exceeds) (One 𝓤 H A mem run)) (gn : Room T.the-row n) (wt : Holds (hasTy R′.mir v) × WT v) where
     module _ (l₀ l₁ l₂ l₃ l₄ l₅ l₆ l₇ l₈ : ℕ) where
       abbrev C : Calls 𝓤 H
       C = 𝓣 .C
@@ -253,12 +253,12 @@ module _ {M : Type 1} (𝓤 : URA M) (H : Heap 𝓤) (A : Atoms 𝓤) (W : Given
         rewrite ! 12 (λ (t : Bool). ‵ (fat fullShare tyBool l₃ 0 (vbool t))) (exceeding-none d ys) refl $ looped l₀ l₁ l₂ l₃ l₄ l₅ l₆ l₇ l₈)))))))))
 
 module _ {M : Type 1} (𝓤 : URA M) (H : Heap 𝓤) (A : Atoms 𝓤) (W : Given 𝓤 H A) (mem : Memory → SProp 𝓤) (run : Routine → Fun 𝓤) where
-  stations-exceed-walks : (𝓣 : Tables 𝓤 H) → Triple 𝓤 (𝓣 .C #accounts·station-exceeds) (One 𝓤 H A mem run) → Walks 𝓤 H A f.ended stayed (WpFn 𝓤 H (𝓣 .C) (𝓣 .Λ) code.function) (f.clauses 𝓤 H A mem run)
+  stations-exceed-walks : (𝓣 : Tables 𝓤 H) → Triple 𝓤 (𝓣 .C #stations·station-exceeds) (One 𝓤 H A mem run) → Walks 𝓤 H A f.ended stayed (WpFn 𝓤 H (𝓣 .C) (𝓣 .Λ) code.function) (f.clauses 𝓤 H A mem run)
   stations-exceed-walks 𝓣 known = walked 𝓤 H A f.ended stayed (f.clauses 𝓤 H A mem run) (WpFn 𝓤 H (𝓣 .C) (𝓣 .Λ) code.function)
       (λ κs. (slice-vals, (LL.vals R.the-type R′.the-laws, tt))) (λ κs. (shr-slice-tells (named 0) (κs .0) T.the-row, (LL.tells R.the-type R′.the-laws, tt)))
       (λ κs qs bounds a g are. via 𝓤 _ (fst∗ 𝓤 _ (emp 𝓤)) (walk 𝓤 H A W mem run (κs .0) (qs .0) (a .0 .ptr .0) (a .0 .ptr .1) (a .0 .name) (a .0 .now) (a .1 .0) (valR (a .1 .0)) (are .1 .0) 𝓣 known (are .0 .0 .1) (LL.lawful R.the-type R′.the-laws 𝓤 H A W .typed (a .1 .0) _ (are .1 .0) .0)))
 
-stations-exceed-meets : {M : Type 1} (𝓤 : URA M) (H : Heap 𝓤) (A : Atoms 𝓤) → Given 𝓤 H A → (mem : Memory → SProp 𝓤) (run : Routine → Fun 𝓤) (𝓣 : Tables 𝓤 H) → Triple 𝓤 (𝓣 .C #accounts·station-exceeds) (One 𝓤 H A mem run)
+stations-exceed-meets : {M : Type 1} (𝓤 : URA M) (H : Heap 𝓤) (A : Atoms 𝓤) → Given 𝓤 H A → (mem : Memory → SProp 𝓤) (run : Routine → Fun 𝓤) (𝓣 : Tables 𝓤 H) → Triple 𝓤 (𝓣 .C #stations·station-exceeds) (One 𝓤 H A mem run)
     → Meets 𝓤 H A f.signature (WpFn 𝓤 H (𝓣 .C) (𝓣 .Λ) code.function) (f.spec 𝓤 H A mem run)
 stations-exceed-meets 𝓤 H A W mem run 𝓣 known = walk-meets 𝓤 H A f.ended stayed W (goes-none-slice 𝓤 H A W 1 (0 ∷ []) tt (plain (λ _. T.the-row)) yes, (goes-none 𝓤 H A W 1 (λ _. R.the-row) yes (λ κs x f. refl), tt)) (f.clauses 𝓤 H A mem run)
     (WpFn 𝓤 H (𝓣 .C) (𝓣 .Λ) code.function) (WpFn-mono 𝓤 H (W .laws) 𝓣 code.function) (stations-exceed-walks 𝓤 H A W mem run 𝓣 known)
@@ -267,6 +267,6 @@ pub stations-exceed-spec : {M : Type 1} → stated.statement M
 unfolding code.routine tablesOf
 stations-exceed-spec 𝓤 H 𝓜 𝓖 𝓡 =
     entered 𝓤 H (tripleOf 𝓤 H (𝓖 .A) f.signature (f.spec 𝓤 H (𝓖 .A) (𝓜 .mem) (𝓡 .run)))
-    (tables 𝓤 H 𝓜 𝓡 code.env .C) (tables 𝓤 H 𝓜 𝓡 code.env .Λ) #accounts·stations-exceed code.function (code.unfolded 𝓤 H 𝓜 𝓡)
+    (tables 𝓤 H 𝓜 𝓡 code.env .C) (tables 𝓤 H 𝓜 𝓡 code.env .Λ) #stations·stations-exceed code.function (code.unfolded 𝓤 H 𝓜 𝓡)
     (stations-exceed-meets 𝓤 H (𝓖 .A) (givenOf 𝓤 H 𝓜 𝓖) (𝓜 .mem) (𝓡 .run) (tablesOf 𝓤 H 𝓜 (tables 𝓤 H 𝓜 𝓡 code.env))
-    (cited 𝓤 H (One 𝓤 H (𝓖 .A) (𝓜 .mem) (𝓡 .run)) 𝓜 𝓡 code.env #accounts·station-exceeds g-def.routine code.calls-accounts·station-exceeds (g-thm.met 𝓤 H 𝓜 𝓖 𝓡)))
+    (cited 𝓤 H (One 𝓤 H (𝓖 .A) (𝓜 .mem) (𝓡 .run)) 𝓜 𝓡 code.env #stations·station-exceeds g-def.routine code.calls-stations·station-exceeds (g-thm.met 𝓤 H 𝓜 𝓖 𝓡)))
