@@ -14,12 +14,15 @@ use Rattle.auction.specs.declared.Refusal.the-variants.{LentLengths}
 use Rattle.auction.specs.declared.Refusal.{Refusal}
 use Rattle.auction.proofs.Counting.{length-list}
 use Rattle.auction.proofs.Tests.{is-eq, neither}
-use Rattle.sheet.specs.Sheet.{stations, bidOf, tablesOf, sheetFaults, lentTables, tables, fault, contentBy, readSheet, readInto, over, written, Reads}
+use Rattle.fields.specs.Rows.{bidOf}
+use Rattle.fields.proofs.Lists.{fault-later, no-fault}
+use Rattle.filling.specs.Over.{over}
+use Rattle.filling.proofs.Rows.{joined-length}
+use Rattle.sheet.specs.Sheet.{stations, tablesOf, sheetFaults, lentTables, tables, fault, contentBy, readSheet, readInto, written, Reads}
 use Rattle.sheet.specs.declared.Reading.the-variants.{Read, Refused}
 use Rattle.sheet.specs.declared.Reading.{Reading}
 use Rattle.sheet.proofs.Faults.{sheet-sound}
-use Rattle.sheet.proofs.Lists.{fault-later, no-fault}
-use Rattle.sheet.proofs.Tables.{joined-length, room-for, told-read, told-refused}
+use Rattle.sheet.proofs.Tables.{room-for, told-read, told-refused}
 
 -- an accepted sheet: the first places of the tables (′) are the market that it states
 pub record ReadTables (s : List ℕ) (n m : ℕ) (amounts′ asks′ bays′ bids′ : List ℕ) : Type 0 where

@@ -12,9 +12,9 @@ use lib.Seq.{ext-getD}
 use Rattle.auction.specs.Counting.{_=?_, only, joined}
 use Rattle.auction.proofs.Counting.{up, here}
 use Rattle.auction.proofs.Tests.{is-eq, not-eq, only-le}
+use Rattle.fields.specs.Fields.{number, mapWidth, hasBit}
+use Rattle.fields.proofs.Fields.{bytes-pow, bit-is, next-bit}
 use Rattle.sheet.specs.Layout.{bytesOf, pack, Bytes}
-use Rattle.sheet.specs.Sheet.{number, mapWidth, hasBit}
-use Rattle.sheet.proofs.Fields.{bytes-pow, bit-is, next-bit}
 
 -- xs stands at p in s
 abbrev pub Holds : List ℕ → ℕ → List ℕ → Type 0

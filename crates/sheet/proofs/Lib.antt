@@ -1,7 +1,4 @@
-pub mod Lists
-pub mod Fields
 pub mod Faults
-pub mod Filled
 pub mod Tables
 pub mod Callers
 pub mod Holds

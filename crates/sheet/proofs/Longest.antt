@@ -7,8 +7,8 @@ use native.Mathlib.Omega.{arith}
 use lib.ListN.{length, getD, length-append}
 use Rattle.auction.specs.Counting.{joined}
 use Rattle.auction.specs.Market.{Tables, bidAt}
+use Rattle.fields.specs.Fields.{mapWidth}
 use Rattle.sheet.specs.Layout.{pack, station, stated, row, layout, maxSheet, SheetsAreShort}
-use Rattle.sheet.specs.Sheet.{mapWidth}
 use Rattle.sheet.proofs.Holds.{bytes-length}
 
 joined-most : (n k : ℕ) (f : ℕ → List ℕ) → ((i : ℕ) → length (f i) ≤ k) → length (joined n f) ≤ n * k

@@ -9,9 +9,11 @@ use Rattle.auction.specs.Counting.{only, sum, count, joined}
 use Rattle.auction.specs.Market.{Tables, bidAt}
 use Rattle.auction.proofs.Counting.{count-start}
 use Rattle.auction.proofs.Tests.{clash}
+use Rattle.fields.specs.Fields.{number, mapWidth, hasBit}
+use Rattle.fields.specs.Rows.{mapAt, bidsAt, nextAt, rowAt}
+use Rattle.fields.proofs.Rows.{first-row, bids-at}
 use Rattle.sheet.specs.Layout.{bytesOf, pack, station, stated, row, layout, Fitting, Bytes}
-use Rattle.sheet.specs.Sheet.{number, guests, stations, mapWidth, hasBit, mapAt, bidsAt, nextAt, rowAt}
-use Rattle.sheet.proofs.Faults.{first-row, bids-at}
+use Rattle.sheet.specs.Sheet.{guests, stations}
 use Rattle.sheet.proofs.Holds.{Holds, holds-left, holds-then, holds-next, holds-all, holds-self, bytes-length, holds-number, number-holds, joined-place, joined-holds, joined-each, pack-bit, pack-fits}
 
 -- the market's counts

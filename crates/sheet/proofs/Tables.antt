@@ -1,12 +1,11 @@
--- The answer and the tables, as the filling pass and `read` make them.
-use Prim.Native.Nat.{ℕ, zero, suc, _+_, _*_, _≤_, _<_}
+-- The answer and the tables, as `read` makes them.
+use Prim.Native.Nat.{ℕ, _*_, _≤_}
 use mathlib.Core.Bool.{Bool, true, false, not}
 use mathlib.Core.List.{List, _∷_}
 use mathlib.Core.Path.{_≡_, refl, sym, ap, _∙_}
 use native.Mathlib.Nat.{mul-le-mul-right}
-use native.Mathlib.Numerals.{add-one}
 use native.Mathlib.Omega.{arith}
-use lib.ListN.{length, length-append}
+use lib.ListN.{length}
 use Rattle.auction.specs.Counting.{_=?_, _or_, list, joined}
 use Rattle.auction.specs.Market.{Tables}
 use Rattle.auction.specs.Refusals.{_gives_, Verdict, accepted, refused, firstFault}
@@ -14,38 +13,15 @@ use Rattle.auction.specs.declared.Refusal.the-variants.{LentLengths}
 use Rattle.auction.specs.declared.Refusal.{Refusal}
 use Rattle.auction.proofs.Counting.{length-list}
 use Rattle.auction.proofs.Tests.{eq-yes, or-no}
-use Rattle.sheet.specs.Passes.{placed}
-use Rattle.sheet.specs.Sheet.{guests, stations, rowAt, askOf, baysOf, amountOf, bidBy, bidOf, tablesOf, rowsFaults, sheetFaults, lentTables, contentBy, readSheet, readInto, answerOf, over, written, Reads}
+use Rattle.fields.specs.Rows.{askOf, baysOf, amountOf, bidOf, rowsFaults}
+use Rattle.fields.proofs.Lists.{fault-here, fault-later}
+use Rattle.filling.specs.Over.{over}
+use Rattle.sheet.specs.Sheet.{guests, stations, tablesOf, sheetFaults, lentTables, contentBy, readSheet, readInto, answerOf, written, Reads}
 use Rattle.sheet.specs.declared.Reading.the-variants.{Read, Refused}
 use Rattle.sheet.specs.declared.Reading.{Reading}
-use Rattle.sheet.proofs.Faults.{MapTaken, Sound}
-use Rattle.sheet.proofs.Filled.{Filled, filled-start, filled-row}
-use Rattle.sheet.proofs.Lists.{fault-here, fault-later}
+use Rattle.sheet.proofs.Faults.{Sound}
 
-pub joined-length : (n m : ℕ) (f : ℕ → ℕ → ℕ) → length (joined n (λ i. list m (f i))) ≡ n * m
-unfolding joined
-joined-length zero m f = omega arith
-joined-length (suc n) m f = simp (length-append, length-list) (omega (arith, joined-length n m f))
-
--- ---- the bids, row after row
-
-pub rows-start : (f : ℕ → ℕ → ℕ) (m : ℕ) (l : List ℕ) → Filled (joined 0 (λ i. list m (f i))) l l
-unfolding joined list
-rows-start f m l = filled-start (λ k. 0) l
-
-pub rows-turn : (s : List ℕ) (m i p x q : ℕ) (l₀ l l′ : List ℕ) → Filled (joined i (λ i. list m (bidOf s m i))) l₀ l → p ≡ rowAt s m i → MapTaken s m p x q
-    → length l′ ≡ length l → l′ ≡ placed (i * m) m (bidBy s x q) l → Filled (joined (i + 1) (λ i. list m (bidOf s m i))) l₀ l′
-unfolding joined bidOf
-rows-turn s m i p x q l₀ l l′ g e t h z =
-    rw (add-one i, ← e, ← t .map, ← t .to) (filled-row l′ (bidBy s x q) (i * m) m g (joined-length i m (bidOf s m)) h z)
-
-pub rows-end : (f : ℕ → ℕ → ℕ) (m i n : ℕ) (l₀ l : List ℕ) → Filled (joined i (λ i. list m (f i))) l₀ l → i ≡ n → l ≡ over (joined n (λ i. list m (f i))) l₀
-rows-end f m i n l₀ l g e = rw (← e) (g .is)
-
--- room for a row, and for the table
-pub room : (n m i k : ℕ) → i < n → n * m ≤ k → i * m + m ≤ k
-room n m i k h g = omega (arith, mul-le-mul-right m h)
-
+-- room for the table
 pub room-for : (n m k : ℕ) → n ≤ 200 → m ≤ 40 → k ≡ 8000 → n * m ≤ k
 room-for n m k h g e = omega (arith, mul-le-mul-right m h)
 

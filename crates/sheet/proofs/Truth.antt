@@ -14,13 +14,16 @@ use Rattle.auction.specs.Market.{Tables, bidAt}
 use Rattle.auction.specs.Refusals.{Verdict, accepted, refused, firstFault}
 use Rattle.auction.proofs.Counting.{up, here, length-list, getD-list}
 use Rattle.auction.proofs.Tests.{decide, only-le, only-yes, only-no}
+use Rattle.fields.specs.Fields.{number, hasBit}
+use Rattle.fields.specs.Rows.{mapAt, bidsAt, nextAt, rowAt, askOf, baysOf, amountOf, bidBy, bidOf, rowsFaults}
+use Rattle.fields.proofs.Rows.{bids-at, RowSound, sound-row, sound-at, rows-none, rows-suc, first-row}
+use Rattle.fields.proofs.Fields.{number-low}
+use Rattle.filling.proofs.Rows.{joined-length}
 use Rattle.sheet.specs.Layout.{Fitting, States, Bytes, ReadsExactlyWhatIsStated, StatesOneMarket}
-use Rattle.sheet.specs.Sheet.{number, guests, stations, hasBit, mapAt, bidsAt, nextAt, rowAt, askOf, baysOf, amountOf, bidBy, bidOf, tablesOf, rowsFaults, sheetFaults, tables, fault, contentBy, readSheet}
-use Rattle.sheet.proofs.Faults.{bids-at, RowSound, sound-row, sound-at, rows-none, rows-suc, first-row, counts-good, whole, Sound, sheet-sound}
-use Rattle.sheet.proofs.Fields.{number-low}
+use Rattle.sheet.specs.Sheet.{guests, stations, tablesOf, sheetFaults, tables, fault, contentBy, readSheet}
+use Rattle.sheet.proofs.Faults.{counts-good, whole, Sound, sheet-sound}
 use Rattle.sheet.proofs.Holds.{pack-bit, pack-low, pack-bits}
 use Rattle.sheet.proofs.Stated.{n, m, Fields, row-suc, fields-layout, layout-fields}
-use Rattle.sheet.proofs.Tables.{joined-length}
 
 -- ---- lists by their places
 

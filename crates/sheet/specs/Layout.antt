@@ -7,7 +7,8 @@ use lib.ListN.{length, getD}
 use Rattle.auction.specs.Counting.{only, joined}
 use Rattle.auction.specs.Limits.{maxGuests, maxStations}
 use Rattle.auction.specs.Market.{Tables, bidAt}
-use Rattle.sheet.specs.Sheet.{mapWidth, tables, readSheet}
+use Rattle.fields.specs.Fields.{mapWidth}
+use Rattle.sheet.specs.Sheet.{tables, readSheet}
 
 -- x in k bytes, lowest byte first
 unfoldable pub bytesOf : (k x : ℕ) → List ℕ

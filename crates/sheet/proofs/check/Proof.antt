@@ -9,7 +9,8 @@ use Rattle.auction.specs.Faults.{counts}
 use Rattle.auction.specs.Refusals.{_gives_}
 use Rattle.auction.specs.declared.Refusal.the-variants.{CountsOutOfRange}
 use Rattle.auction.proofs.Tests.{lt-yes, lt-no}
-use Rattle.sheet.proofs.Faults.{Headed, headed, sheet-short, bad-counts, stations-end, bad-rows, trailing, whole, first-row, counted, told-next, told-fault}
+use Rattle.fields.proofs.Rows.{first-row}
+use Rattle.sheet.proofs.Faults.{Headed, headed, sheet-short, bad-counts, stations-end, bad-rows, trailing, whole, counted, told-next, told-fault}
 use Rattle.sheet.proofs.Tables.{answer-fault, answer-read}
 use Rattle.sheet.proofs.check.Statement.{statement}
 use Rattle.sheet.proofs.check.Tie as tie

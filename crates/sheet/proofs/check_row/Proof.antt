@@ -3,9 +3,10 @@ use mathlib.Core.Path.{_∙_, sym}
 use borrow.Author.Needs.{needs}
 use native.Mathlib.Omega.{arith}
 use Rattle.auction.proofs.Tests.{lt-yes, lt-no}
-use Rattle.sheet.specs.Sheet.{hasBit}
-use Rattle.sheet.proofs.Faults.{MapTaken, map-taken, step-fault, step-next, amount-ends, map-ends, stray, bids-end, row-good, next-is, bids-at}
-use Rattle.sheet.proofs.Lists.{count-le}
+use Rattle.fields.specs.Fields.{hasBit}
+use Rattle.fields.proofs.Rows.{MapTaken, map-taken, amount-ends, map-ends, stray, bids-end, row-good, next-is, bids-at}
+use Rattle.fields.proofs.Lists.{count-le}
+use Rattle.sheet.proofs.Faults.{step-fault, step-next}
 use Rattle.sheet.proofs.check_row.Statement.{statement}
 use Rattle.sheet.proofs.check_row.Tie as tie
 

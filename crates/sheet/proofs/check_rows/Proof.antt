@@ -6,8 +6,9 @@ use native.Mathlib.Nat.{le-antisymm}
 use native.Mathlib.Omega.{arith}
 use lib.ListN.{length}
 use Rattle.auction.specs.Refusals.{accepted, firstFault}
-use Rattle.sheet.specs.Sheet.{rowAt, rowsFaults}
-use Rattle.sheet.proofs.Faults.{step-fault, step-next, told-next, told-fault, row-sound, rows-none, rows-to, rows-more, rows-fault, rows-all}
+use Rattle.fields.specs.Rows.{rowAt, rowsFaults}
+use Rattle.fields.proofs.Rows.{row-sound, rows-none, rows-to, rows-more, rows-fault, rows-all}
+use Rattle.sheet.proofs.Faults.{step-fault, step-next, told-next, told-fault}
 use Rattle.sheet.proofs.check_rows.Statement.{statement}
 use Rattle.sheet.proofs.check_rows.Tie as tie
 

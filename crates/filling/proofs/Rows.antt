@@ -1,0 +1,37 @@
+-- Laws of the bids, written row after row.
+use Prim.Native.Nat.{ℕ, zero, suc, _+_, _*_, _≤_, _<_}
+use mathlib.Core.List.{List}
+use mathlib.Core.Path.{_≡_, ap}
+use native.Mathlib.Nat.{mul-le-mul-right}
+use native.Mathlib.Numerals.{add-one}
+use native.Mathlib.Omega.{arith}
+use lib.ListN.{length, length-append}
+use Rattle.auction.specs.Counting.{_or_, list, joined}
+use Rattle.auction.proofs.Counting.{length-list}
+use Rattle.fields.specs.Rows.{rowAt, bidBy, bidOf}
+use Rattle.fields.proofs.Rows.{MapTaken}
+use Rattle.filling.specs.Over.{over}
+use Rattle.filling.specs.Filling.{placed}
+use Rattle.filling.proofs.Filled.{Filled, filled-start, filled-row}
+
+pub joined-length : (n m : ℕ) (f : ℕ → ℕ → ℕ) → length (joined n (λ i. list m (f i))) ≡ n * m
+unfolding joined
+joined-length zero m f = omega arith
+joined-length (suc n) m f = simp (length-append, length-list) (omega (arith, joined-length n m f))
+
+pub rows-start : (f : ℕ → ℕ → ℕ) (m : ℕ) (l : List ℕ) → Filled (joined 0 (λ i. list m (f i))) l l
+unfolding joined list
+rows-start f m l = filled-start (λ k. 0) l
+
+pub rows-turn : (s : List ℕ) (m i p x q : ℕ) (l₀ l l′ : List ℕ) → Filled (joined i (λ i. list m (bidOf s m i))) l₀ l → p ≡ rowAt s m i → MapTaken s m p x q
+    → length l′ ≡ length l → l′ ≡ placed (i * m) m (bidBy s x q) l → Filled (joined (i + 1) (λ i. list m (bidOf s m i))) l₀ l′
+unfolding joined bidOf
+rows-turn s m i p x q l₀ l l′ g e t h z =
+    rw (add-one i, ← e, ← t .map, ← t .to) (filled-row l′ (bidBy s x q) (i * m) m g (joined-length i m (bidOf s m)) h z)
+
+pub rows-end : (f : ℕ → ℕ → ℕ) (m i n : ℕ) (l₀ l : List ℕ) → Filled (joined i (λ i. list m (f i))) l₀ l → i ≡ n → l ≡ over (joined n (λ i. list m (f i))) l₀
+rows-end f m i n l₀ l g e = rw (← e) (g .is)
+
+-- room for a row
+pub room : (n m i k : ℕ) → i < n → n * m ≤ k → i * m + m ≤ k
+room n m i k h g = omega (arith, mul-le-mul-right m h)
