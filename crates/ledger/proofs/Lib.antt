@@ -3,3 +3,4 @@ pub mod LentBook
 pub mod Ledger
 pub mod Posting
 pub mod Example
+pub mod Existence

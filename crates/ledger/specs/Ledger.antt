@@ -48,6 +48,10 @@ pub record Kept (g s : ℕ) (ps : List Posting) (vs : List Verdict) (B : LentBoo
 abbrev pub BookKept : Type 0
 BookKept = (g s : ℕ) (ps : List Posting) (vs : List Verdict) (B : LentBook) → Calls (blank g s) ps vs B → Kept g s ps vs B
 
+-- whatever is posted, there are such calls: the claim speaks of every list
+abbrev pub CallsExist : Type 0
+CallsExist = (g s : ℕ) (ps : List Posting) → (vs : List Verdict) × (B : LentBook) × Calls (blank g s) ps vs B
+
 -- document 01's example: case E as round 1, and once more. There are such calls, and all of them come to the same
 abbrev pub ExampleCalled : Type 0
 ExampleCalled = Calls (blank 2 2) (posting caseE 1 ∷ posting caseE 1 ∷ []) (accepted ∷ refused RoundOutOfTurn ∷ []) (book (24 ∷ 0 ∷ []) (account 3 18 ∷ account 0 0 ∷ []) 6 1)
