@@ -66,7 +66,7 @@ impl UnitPrice {
 }
 
 impl Mills {
-    // From a table of 32-bit numbers, and back into one. A `requires`, here and below, is for `offers` and `sales`, whose sums fit.
+    // From a table of 32-bit numbers, and back into one. A `requires`, here and below, is for `selection`, `offers` and `sales`, whose numbers fit.
     pub fn wide(x: u32) -> Mills
         ensures { λ r. ⌜ r .0 ≡ x ⌝ }
     {
