@@ -22,6 +22,7 @@ pub struct Round {
     pub margin: u64,
 }
 
+// A round that is refused and adds nothing.
 pub fn refusing(refusal: Refusal) -> Round
     ensures { λ r. ⌜ r ≡ refusingOf refusal ⌝ }
 {
@@ -64,6 +65,7 @@ pub fn any_exceeds(accounts: &[u64], adds: &[u64]) -> bool
     found
 }
 
+// For `settling`, once `any_exceeds` has found room, which is what it requires.
 pub fn add(accounts: &mut [u64], adds: &[u64])
     requires { ⌜ Addable (now accounts) (now adds) ⌝ }
     ensures { λ _. ⌜ now (accounts .exit) ≡ plus (now (accounts .entry)) (now (adds .entry)) ⌝ }
@@ -76,6 +78,7 @@ pub fn add(accounts: &mut [u64], adds: &[u64])
     }
 }
 
+// For `rounds`, whose lists are of one length, which is what it requires.
 pub fn widen(xs: &[u32], ys: &mut [u64])
     requires { ⌜ length (now ys) ≡ length (now xs) ⌝ }
     ensures { λ _. ⌜ now (ys .exit) ≡ now (xs .entry) ⌝ }

@@ -120,7 +120,7 @@ fn assign(
     offers::charge_guests(chosen, least, criticals, stations, charges);
 }
 
-// The same, with its own room.
+// The same, with its own room. For `clearing`, which has checked the tables and found the cut and the least charges.
 pub fn assign_all(
     asks: &[u32],
     bays: &[u16],

@@ -109,7 +109,10 @@ element n f e k lk = ap (λ l. getD l k 0) e ∙ getD-list n f k lk
 pub relist : (m n : ℕ) (f g : ℕ → ℕ) {l : List ℕ} → l ≡ list m f → m ≡ n → ((k : ℕ) → k < n → f k ≡ g k) → l ≡ list n g
 relist m n f g e q h = e ∙ ap (λ n. list n f) q ∙ list-cong n f g h
 
--- the first n of an array of zeros
+-- an array of zeros, and the first n of one
+pub zeros : (n : ℕ) → replicate n 0 ≡ list n (λ _. 0)
+zeros n = is-list _ _ _ (length-replicate {A = ℕ} n 0) (λ k l. getD-replicate {A = ℕ} n k 0 0 l)
+
 pub zeros-long : (size n : ℕ) → n ≤ size → n ≡ length (take n (replicate {A = ℕ} size 0))
 zeros-long size n h = omega (arith, length-take n (replicate {A = ℕ} size 0), length-replicate {A = ℕ} size 0)
 

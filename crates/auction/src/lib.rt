@@ -66,13 +66,14 @@ impl UnitPrice {
 }
 
 impl Mills {
-    // From a table of 32-bit numbers, and back into one. A `requires`, here and below, is for `selection`, `offers` and `sales`, whose numbers fit.
+    // From a table of 32-bit numbers.
     pub fn wide(x: u32) -> Mills
         ensures { λ r. ⌜ r .0 ≡ x ⌝ }
     {
         Mills(x as u64)
     }
 
+    // Into a table of 32-bit numbers, for `selection` and `offers`, whose products fit.
     pub fn narrow(self) -> u32
         requires { ⌜ self .0 < 2 ^ 32 ⌝ }
         ensures { λ r. ⌜ r ≡ self .0 ⌝ }
@@ -80,6 +81,7 @@ impl Mills {
         self.0 as u32
     }
 
+    // For `sales`, whose sums fit.
     pub fn plus(self, other: Mills) -> Mills
         requires { ⌜ self .0 + other .0 < 2 ^ 64 ⌝ }
         ensures { λ r. ⌜ r .0 ≡ self .0 + other .0 ⌝ }
@@ -87,6 +89,7 @@ impl Mills {
         Mills(self.0 + other.0)
     }
 
+    // For `offers` and `sales`, which take away no more than there is.
     pub fn less(self, other: Mills) -> Mills
         requires { ⌜ other .0 ≤ self .0 ⌝ }
         ensures { λ r. ⌜ r .0 ≡ self .0 - other .0 ⌝ }

@@ -11,6 +11,7 @@ ghost use Rattle.filling.specs.Filling.{BidTaken, StationsFilled, RowFil
 use fields::Cursor;
 use fields::Long;
 
+// The asks and bays of all stations. For `sheet`, whose check has found no fault: that is what it and `fill_rows` require.
 pub fn fill_stations(
     s: &[u8],
     c: Cursor,
@@ -104,6 +105,7 @@ fn fill_row(
     fill_some(s, c, bits, stations, base, bids)
 }
 
+// The amounts and bids of all guests.
 pub fn fill_rows(
     s: &[u8],
     c: Cursor,

@@ -1,5 +1,5 @@
 -- Demand 3, third sentence, proved: by induction over the list, one law for each kind of number that the book keeps.
-use Prim.Native.Nat.{ℕ, _+_, _≤_, _<_}
+use Prim.Native.Nat.{ℕ, _+_, _<_}
 use mathlib.Core.Bool.{false}
 use mathlib.Core.List.{List, [], _∷_}
 use mathlib.Core.Path.{_≡_, refl, sym, ap, ap₂, _∙_}
@@ -10,10 +10,11 @@ use Rattle.auction.specs.Market.{market}
 use Rattle.auction.specs.Mechanism.{charged, paid}
 use Rattle.auction.specs.Outcome.{seen, decided}
 use Rattle.auction.specs.Refusals.{Verdict, accepted, refused}
-use Rattle.auction.specs.Faults.{Book, raised, entered, overLimit, bookSize, outOfTurn, marketFaults, postingFaults}
-use Rattle.auction.proofs.Tests.{or-no, neither, not-lt}
+use Rattle.auction.specs.Faults.{Book, raised, entered, overLimit}
+use Rattle.auction.proofs.Tests.{neither, not-lt}
 use Rattle.auction.proofs.Counting.{none-any}
-use Rattle.auction.proofs.Acceptance.{clear-of, clear-of-both, inside}
+use Rattle.auction.specs.Readings.{PostingWithinLimits}
+use Rattle.auction.proofs.Acceptance.{posting-accepted-reads}
 use Rattle.auction.proofs.Truth.{balanced}
 use Rattle.rounds.specs.Posting.{Posting, toGuest, toSold, toPaid, toHouse}
 use Rattle.ledger.specs.PlainBook.{empty, answer, settled, after, answers, final, kept, rounds, total, together}
@@ -23,25 +24,13 @@ use Rattle.ledger.proofs.Accounts.{length-raised, getD-raised, together
 use Rattle.stations.proofs.Stations.{length-sold, getD-sold, getD-paid}
 use Rattle.ledger.proofs.LentBook.{plain-blank}
 
--- a posted round fits the book, and no account passes the limit
-pub record Fits (B : Book) (p : Posting) : Type 0 where
-  pub guests : length (p .tables .amounts) ≤ length (B .guests)
-  pub stations : length (p .tables .asks) ≤ length (B .sold)
-  pub within : overLimit (entered (p .tables) (p .round) B) ≡ false
+-- what a posted round's acceptance says
+abbrev Fits : Book → Posting → Type 0
+Fits B p = PostingWithinLimits (p .tables) (p .round) B
 
 fits : (B : Book) (p : Posting) → answer B p ≡ accepted → Fits B p
-unfolding answer postingFaults bookSize outOfTurn
-fits B p e =
-    let (_, e0) = clear-of-both (marketFaults (p .tables)) _ e in
-    let (size, e1) = clear-of _ _ _ e0 in
-    let (turn, e2) = clear-of _ _ _ e1 in
-    let (limit, e3) = clear-of _ _ _ e2 in
-    let (guest-size, station-size) = or-no _ _ size in
-    record {
-      guests = inside _ _ _ guest-size .0;
-      stations = inside _ _ _ station-size .0;
-      within = or-no _ _ limit .1;
-    }
+unfolding answer
+fits B p e = posting-accepted-reads (p .tables) (p .round) B .0 e
 
 -- a number of the book that a posted round raises by `more` is, after a list, what it was and the sum over the posted rounds; P is what the
 -- number needs of the book, and a posted round keeps it
@@ -92,10 +81,10 @@ sound-entered g s B p f h = record {
     arith,
     h .level,
     balanced (p .tables),
-    together-raised _ (charged (seen (p .tables)) (decided (p .tables))) (B .guests) (f .guests),
-    together-raised (length (p .tables .asks)) (paid (seen (p .tables)) (decided (p .tables))) (B .paid) (omega (arith, f .stations, h .sold, h .paid)),
+    together-raised _ (charged (seen (p .tables)) (decided (p .tables))) (B .guests) (f .guests-least),
+    together-raised (length (p .tables .asks)) (paid (seen (p .tables)) (decided (p .tables))) (B .paid) (omega (arith, f .stations-least, h .sold, h .paid)),
   );
-  within = f .within;
+  within = f .within-after;
 }
 
 -- the plain book after a list

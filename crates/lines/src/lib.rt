@@ -64,6 +64,7 @@ pub fn refusal_text(refusal: Refusal, out: &mut [u8]) -> usize
     text::put(out, p, 10)
 }
 
+// For `report`, whose lists are those of a cleared market, which is what it requires.
 pub fn clearing_text(
     cut: u32,
     margin: u64,

@@ -1,4 +1,5 @@
-// Offers of places to guests, and the charges of those who chose one.
+// Offers of places to guests, and the charges of those who chose one. `clearing` and `assignment` have checked the market's tables,
+// and that gives what is required here.
 use auction::Mills;
 use auction::UnitPrice;
 ghost use mathlib.Core.Bool.{true};
@@ -17,7 +18,7 @@ fn least_charge(cut: UnitPrice, amount: u16) -> u32
     cut.times(amount as u32).narrow()
 }
 
-// Cut times amount for each guest.
+// Cut times amount for each guest. For `clearing`.
 pub fn least_charges(amounts: &[u16], cut: UnitPrice, least: &mut [u32])
     requires { ⌜ (length (now least) ≡ length (now amounts)) × (cut .0 ≤ maxPrice) ⌝ }
     requires { ⌜ ((k : ℕ) → k < length (now amounts) → getD (now amounts) k 0 ≤ maxAmount) ⌝ }
@@ -71,7 +72,7 @@ fn pick(old: u32, new: u32, a: u32, b: u32) -> u32
     if selection::below(old, new) { a } else { b }
 }
 
-// One station's offers to every guest: where an offer gains more than the best so far, it is chosen.
+// One station's offers to every guest: where an offer gains more than the best so far, it is chosen. For `assignment`.
 pub fn offer(
     totals: &[u32],
     least: &[u32],
@@ -107,7 +108,7 @@ fn charge_at(station: u32, least: u32, critical: u32) -> u32
     }
 }
 
-// Each guest's station and charge, from the station chosen and the critical total of each station number.
+// Each guest's station and charge, from the station chosen and the critical total of each station number. For `assignment`.
 pub fn charge_guests(
     chosen: &[u32],
     least: &[u32],

@@ -4,13 +4,13 @@ use mathlib.Core.List.{List}
 use mathlib.Core.Logic.{⊎-elim}
 use mathlib.Core.Path.{_≡_, sym, ap, _∙_}
 use native.Mathlib.Omega.{arith}
-use lib.ListN.{getD, length, set, length-set, replicate, length-replicate, getD-replicate}
+use lib.ListN.{getD, length, set, length-set}
 use lib.Seq.{getD-set-same, getD-set-other}
 use Rattle.auction.specs.Counting.{_=?_, only, sum, list}
 use Rattle.auction.specs.Limits.{maxStations, maxAmount}
 use Rattle.auction.proofs.Tests.{only-yes, only-no, is-eq, not-eq, lt-or-le, eq-or-ne}
 use Rattle.auction.proofs.Counting.{length-list, getD-list, list-cong}
-use Rattle.auction.proofs.Loops.{sum-more, sum-end, is-list}
+use Rattle.auction.proofs.Loops.{sum-more, sum-end}
 use Rattle.sales.specs.Sales.{kwhAt, slots, Tallied, PaidOut}
 
 unfoldable pub kwhBy : (stations amounts : List ℕ) → ℕ → ℕ → ℕ
@@ -58,9 +58,6 @@ tallied-more {stations} {amounts} {i} {kwh} {s} {r} {v} h e (l, here, past) a q 
 pub tallied-end : {stations amounts : List ℕ} {i : ℕ} {kwh : List ℕ} → Tallying stations amounts i kwh → i ≤ length amounts → length amounts ≤ i → Tallied stations amounts kwh
 unfolding kwhAt kwhBy
 tallied-end h a b = record { long = h .long; sales-are = λ s p l. sum-end _ _ _ _ (h .is s p l) a b }
-
-pub zeros : (n : ℕ) → replicate n 0 ≡ list n (λ _. 0)
-zeros n = is-list _ _ _ (length-replicate {A = ℕ} n 0) (λ k l. getD-replicate {A = ℕ} n k 0 0 l)
 
 pub sells : {stations amounts : List ℕ} {cut m : ℕ} {kwh sold paid : List ℕ} → Tallied stations amounts kwh → m ≤ maxStations → PaidOut (λ s. getD kwh s 0) cut m sold paid
     → PaidOut (kwhAt stations amounts) cut m sold paid

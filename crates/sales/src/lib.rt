@@ -50,7 +50,8 @@ fn pay_out(kwh: &[u32], cut: UnitPrice, sold: &mut [u32], paid: &mut [u64])
     }
 }
 
-// What each station sold and is paid, from each guest's station number.
+// What each station sold and is paid, from each guest's station number. It and `margin` are for `clearing`, whose checks and
+// assignment give what they require.
 pub fn sell(stations: &[u16], amounts: &[u16], cut: UnitPrice, sold: &mut [u32], paid: &mut [u64])
     requires { ⌜ (length (now stations) ≡ length (now amounts)) × (length (now amounts) ≤ maxGuests) ⌝ }
     requires { ⌜ ((k : ℕ) → k < length (now amounts) → getD (now amounts) k 0 ≤ maxAmount) ⌝ }
@@ -70,7 +71,7 @@ fn excess(charge: u32, least: u32) -> Mills
     Mills::wide(charge).larger(other).less(other)
 }
 
-// What the charges exceed the least charges by, in all: whoever is charged nothing adds nothing.
+// What the charges exceed the least charges by, in all: whoever is charged nothing adds nothing. Required as in `sell`.
 pub fn margin(charges: &[u32], least: &[u32]) -> Mills
     requires { ⌜ (length (now least) ≡ length (now charges)) × (length (now charges) ≤ maxGuests) ⌝ }
     ensures { λ r. ⌜ r .0 ≡ sum (length (now (charges .entry))) (λ i. getD (now (charges .entry)) i 0 - getD (now (least .entry)) i 0) ⌝ }

@@ -5,7 +5,7 @@ ghost use lib.ListN.{length};
 ghost use Rattle.text.specs.Decimal.{digits, field};
 ghost use Rattle.text.specs.Writing.{Wrote};
 
-// A byte at a place, if the buffer reaches that far.
+// A byte at a place, if the buffer reaches that far. For `lines`, whose places are far below what is required.
 pub fn put(out: &mut [u8], at: usize, b: u8) -> usize
     requires { ⌜ at + 1 < 2 ^ 64 ⌝ }
     ensures { λ r. ⌜ Wrote (now (out .entry)) at (b ∷ []) (now (out .exit)) r ⌝ }
@@ -43,6 +43,7 @@ fn put_number(out: &mut [u8], at: usize, x: u64) -> usize
     put(out, p, digit)
 }
 
+// A word and a number. Required as in `put`.
 pub fn put_field(out: &mut [u8], at: usize, word: &[u8], x: u64) -> usize
     requires { ⌜ at + length (now word) + 20 < 2 ^ 64 ⌝ }
     ensures { λ r. ⌜ Wrote (now (out .entry)) at (field (now (word .entry)) x) (now (out .exit)) r ⌝ }

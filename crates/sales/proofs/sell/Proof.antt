@@ -2,7 +2,8 @@ use borrow.Author.Needs.{needs}
 use Rattle.sales.proofs.sell.Statement.{statement}
 use Rattle.sales.proofs.sell.Tie as tie
 use native.Mathlib.Omega.{arith}
-use Rattle.sales.proofs.Sales.{zeros, sells}
+use Rattle.auction.proofs.Loops.{zeros}
+use Rattle.sales.proofs.Sales.{sells}
 
 slice-aggregate-tally-sales : tie.Need-slice-aggregate-tally-sales
 slice-aggregate-tally-sales c = search needs
