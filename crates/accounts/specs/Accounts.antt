@@ -1,14 +1,8 @@
--- What the functions over lists of accounts promise: whether a sum is above the limit, and the sums.
+-- Accounts with what is added to them.
 use Prim.Native.Nat.{ℕ, _+_, _<_, _^_}
-use mathlib.Core.Bool.{Bool}
 use mathlib.Core.List.{List}
 use lib.ListN.{getD, length}
-use Rattle.auction.specs.Counting.{_<?_, some, list}
-use Rattle.auction.specs.Limits.{maxAccount}
-
--- some account would be above the limit with what is added
-unfoldable pub exceeding : (accounts adds : List ℕ) → Bool
-exceeding xs adds = some (length xs) (λ k. maxAccount <? getD xs k 0 + getD adds k 0)
+use Rattle.auction.specs.Counting.{list}
 
 -- the accounts with what is added
 unfoldable pub plus : (accounts adds : List ℕ) → List ℕ

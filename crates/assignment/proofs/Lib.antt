@@ -1,2 +1,1 @@
-pub mod Winners
-pub mod Turns
+pub mod Assignment

@@ -1,51 +1,14 @@
 // Every guest's station and charge: the stations of an accepted market take their turns.
-use auction::MAX_GUESTS;
-use auction::MAX_STATIONS;
-use auction::UnitPrice;
-ghost use mathlib.Core.Path.{_≡_};
+use money::UnitPrice;
+use terms::MAX_GUESTS;
+use terms::MAX_STATIONS;
 ghost use Prim.Native.Nat.{_+_, _<_};
+ghost use mathlib.Core.Path.{_≡_};
 ghost use lib.ListN.{length};
 ghost use Rattle.auction.specs.Outcome.{seen};
-ghost use Rattle.assignment.specs.Stages.{regular, AtCut, After, Assigned};
-
-// Station j's turn: where it is open, its offers go to every guest.
-fn station(
-    asks: &[u32],
-    bays: &[u16],
-    amounts: &[u16],
-    bids: &[u32],
-    cut: UnitPrice,
-    least: &[u32],
-    j: usize,
-    totals: &mut [u32],
-    chosen: &mut [u32],
-    gains: &mut [u32],
-    criticals: &mut [u32],
-)
-    requires { ⌜ AtCut (regular (now asks) (now bays) (now amounts) (now bids)) (cut .0) (now least) ⌝ }
-    requires { ⌜ (j < length (now asks)) × (length (now totals) ≡ length (now amounts)) ⌝ }
-    requires { ⌜ After (seen (regular (now asks) (now bays) (now amounts) (now bids))) (length (now amounts)) j (now chosen) (now gains) (now criticals) ⌝ }
-    ensures { λ _. ⌜ After (seen (regular (now (asks .entry)) (now (bays .entry)) (now (amounts .entry)) (now (bids .entry)))) (length (now (amounts .entry))) (j + 1) (now (chosen .exit)) (now (gains .exit)) (now (criticals .exit)) ⌝ }
-{
-    let ask = asks[j];
-    if UnitPrice(ask).below(cut) {
-        let top = selection::gather(bids, amounts, asks.len(), j, cut, totals);
-        let b = bays[j] as u32;
-        let critical = selection::critical_total(totals, top, b);
-        let bound = selection::tie_bound(totals, critical.total, critical.above, b);
-        let s = j + 1;
-        criticals[s] = critical.total;
-        offers::offer(
-            totals,
-            least,
-            critical.total,
-            bound,
-            s as u32,
-            chosen,
-            gains,
-        );
-    }
-}
+ghost use Rattle.auction.specs.Market.{regular};
+ghost use Rattle.turns.specs.Stages.{AtCut, After};
+ghost use Rattle.assignment.specs.Assignment.{Assigned};
 
 // Every station's turn.
 fn all_stations(
@@ -67,7 +30,7 @@ fn all_stations(
 {
     let mut j = 0;
     while j < asks.len() {
-        station(
+        turns::station(
             asks,
             bays,
             amounts,
@@ -117,7 +80,7 @@ fn assign(
         gains,
         criticals,
     );
-    offers::charge_guests(chosen, least, criticals, stations, charges);
+    charges::charge_guests(chosen, least, criticals, stations, charges);
 }
 
 // The same, with its own room. For `clearing`, which has checked the tables and found the cut and the least charges.

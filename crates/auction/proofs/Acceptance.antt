@@ -4,12 +4,12 @@ use mathlib.Core.Bool.{Bool, true, false, not}
 use mathlib.Core.List.{List, [], _∷_, _++_}
 use mathlib.Core.Path.{_≡_, refl, ap}
 use native.Mathlib.Omega.{arith}
-use borrow.Author.Tests.{not-false}
 use lib.ListN.{getD, length}
-use Rattle.auction.specs.declared.Refusal.{Refusal}
-use Rattle.auction.specs.Counting.{_=?_, _or_, any}
+use borrow.Author.Tests.{not-false}
+use Rattle.terms.specs.Limits.{maxPrice}
+use Rattle.terms.specs.declared.Refusal.{Refusal}
+use Rattle.auction.specs.Counting.{_=?_, any}
 use Rattle.auction.specs.Refusals.{Row, _gives_, accepted, refused, firstFault}
-use Rattle.auction.specs.Limits.{maxPrice}
 use Rattle.auction.specs.Market.{Tables}
 use Rattle.auction.specs.Faults.{outside, counts, lengths, lent, values, marketFaults, verdict, Accepted, clearingFaults, Book, bookSize, outOfTurn, postingFaults}
 use Rattle.auction.specs.Outcome.{Results}

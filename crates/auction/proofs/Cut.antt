@@ -1,15 +1,15 @@
 -- The cut is the ask at its position in the asks in rising order, and every list has a rising order.
 use Prim.Native.Nat.{ℕ, zero, suc, _+_, _-_, _≤_, _<_}
 use mathlib.Core.Bool.{true, false, cond}
-use mathlib.Core.Logic.{_⊎_, ⊎-elim}
+use mathlib.Core.Logic.{⊎-elim}
 use mathlib.Core.Path.{_≡_, refl, sym, ap, ap₂, _∙_}
 use mathlib.Core.List.{List, [], _∷_}
 use native.Mathlib.Nat.{le-refl, le-trans, le-antisymm, le-of-suc-le-suc, not-suc-le-zero}
 use native.Mathlib.Omega.{arith}
 use lib.ListN.{getD, length}
-use Rattle.auction.specs.Counting.{_<?_, _≤?_, _=?_, only, sum, greatest, count}
+use Rattle.auction.specs.Counting.{_<?_, _≤?_, _=?_, only, sum, count}
 use Rattle.auction.specs.Market.{Market, marketBy, median, cut}
-use Rattle.auction.specs.Readings.{Rising, Rearranged, RisingOrderExists, CutReads, Median, MedianReads}
+use Rattle.auction.specs.Readings.{Rising, Rearranged, RisingOrderExists, CutReads, MedianReads}
 use Rattle.auction.proofs.Tests.{decide, clash, lt-yes, is-lt, not-lt, le-yes, le-no, eq-yes, is-eq, not-eq, lt-or-le, only-le, le-only, only-yes, only-no}
 use Rattle.auction.proofs.Counting.{sum-cong, sum-swap, sum-single, sum-zero, sum-front, count-mono, count-none, count-initial, count-some, search-below, le-greatest, greatest-le}
 

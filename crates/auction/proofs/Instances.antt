@@ -12,7 +12,7 @@ use Rattle.auction.specs.Outcome.{seen, decided}
 use Rattle.auction.specs.Faults.{outside, counts, lengths, values, marketFaults, verdict, Accepted}
 use Rattle.auction.specs.Gains.{guestGain, stationGain}
 use Rattle.auction.specs.Truth.{AlikeButForGuest, AlikeButForStation}
-use Rattle.auction.specs.Cases.{tables, pair, caseE, caseG}
+use Rattle.auction.specs.Cases.{pair, caseE, caseG}
 use Rattle.auction.specs.Instances.{overbid, GuestInstance, costly, underasked, StationInstance, MenuInstance, LimitsInstance}
 use Rattle.auction.proofs.Pivots.{without, left-out, pivot, past, bar}
 use Rattle.auction.proofs.Menus.{menu}
@@ -36,7 +36,7 @@ pub record Numbers : Type 0 where
   pub margin-is : margin (seen caseE) (decided caseE) ≡ 6
 
 numbers : Numbers
-unfolding _<?_ _≤?_ _=?_ _and_ _or_ only sum greatest count some any firstFault bidAt marketBy median byNumber market cut opens screen queue before rank provisional critical at charge charged obtained sold paid margin better best surplus truthful seen decided outside counts lengths values marketFaults verdict guestGain stationGain tables pair caseE caseG overbid costly underasked without left-out pivot past bar menu
+unfolding _<?_ _≤?_ _=?_ _and_ _or_ only sum greatest count some any firstFault bidAt marketBy median byNumber market cut opens screen queue before rank provisional critical at charge charged obtained sold paid margin better best surplus truthful seen decided outside counts lengths values marketFaults verdict guestGain stationGain pair caseE caseG overbid costly underasked without left-out pivot past bar menu
 numbers = record {
   accepted-G = refl;
   accepted-overbid = refl;
@@ -55,7 +55,7 @@ numbers = record {
 }
 
 guests-alike : AlikeButForGuest caseG overbid 1
-unfolding tables pair caseG overbid bidAt
+unfolding pair caseG overbid bidAt
 guests-alike = record { same-asks = refl; same-bays = refl; same-amounts = refl; same-bids = row }
   where
     row : (k j : ℕ) → k < 2 → j < 2 → (k ≡ 1 → ⊥) → bidAt overbid k j ≡ bidAt caseG k j
@@ -66,7 +66,7 @@ guests-alike = record { same-asks = refl; same-bays = refl; same-amounts = refl;
     row (suc (suc k)) j lk lj n = absurd (omega arith)
 
 stations-alike : AlikeButForStation costly underasked 0
-unfolding tables costly underasked
+unfolding costly underasked
 stations-alike = record { same-count = refl; same-asks = asks; same-bays = refl; same-amounts = refl; same-bids = refl }
   where
     asks : (k : ℕ) → k < 2 → (k ≡ 0 → ⊥) → getD (underasked .asks) k 0 ≡ getD (costly .asks) k 0
@@ -77,7 +77,7 @@ second-of-two : 1 < 2
 second-of-two = omega arith
 
 pub guest-instance : GuestInstance
-unfolding seen decided market tables pair caseG
+unfolding seen decided market pair caseG
 guest-instance = record {
   accepted = numbers .accepted-G;
   accepted′ = numbers .accepted-overbid;
@@ -88,7 +88,7 @@ guest-instance = record {
 }
 
 pub station-instance : StationInstance
-unfolding seen decided market tables costly
+unfolding seen decided market costly
 station-instance = record {
   accepted = numbers .accepted-costly;
   accepted′ = numbers .accepted-underasked;
@@ -99,7 +99,7 @@ station-instance = record {
 }
 
 pub menu-instance : MenuInstance
-unfolding market tables pair caseG
+unfolding market pair caseG
 menu-instance = record {
   menu = menu (market caseG) 1;
   is-menu = menu-of caseG 1 (numbers .accepted-G) second-of-two;

@@ -7,7 +7,7 @@ use native.Mathlib.Nat.{mul-le-mul-right}
 use native.Mathlib.Omega.{arith}
 use Rattle.auction.specs.Counting.{_≤?_, _and_}
 use Rattle.auction.specs.Market.{Market, cut, opens, Screened, screen, queue, provisional}
-use Rattle.auction.specs.Mechanism.{at, charge, charged, surplus, best, truthful}
+use Rattle.auction.specs.Mechanism.{at, charge, charged, surplus, truthful}
 use Rattle.auction.specs.Truth.{Menu, choice}
 use Rattle.auction.proofs.Tests.{both, first, second, same-test, le-yes, is-le, lt-or-le}
 use Rattle.auction.proofs.Choice.{best-holds, best-best, best-cong}

@@ -5,7 +5,7 @@ use mathlib.Core.Logic.{⊎-elim}
 use mathlib.Core.Path.{_≡_, sym, ap, ap₂, _∙_}
 use native.Mathlib.Nat.{le-trans, le-antisymm, mul-le-mul-right}
 use native.Mathlib.Omega.{arith}
-use Rattle.auction.specs.Counting.{_<?_, _≤?_, _and_, only, count}
+use Rattle.auction.specs.Counting.{_<?_, _≤?_, _and_, count}
 use Rattle.auction.specs.Market.{Market, cut, opens, Screened, screen}
 use Rattle.auction.specs.Mechanism.{Decision, sold, paid}
 use Rattle.auction.proofs.Tests.{decide, lt-yes, lt-no, is-lt, lt-or-le, eq-or-ne, only-le}

@@ -4,18 +4,18 @@ use mathlib.Core.Bool.{Bool, true, false, cond}
 use mathlib.Core.Logic.{⊎-elim}
 use mathlib.Core.Path.{_≡_, refl, sym, ap, subst, _∙_}
 use native.Mathlib.Omega.{arith}
-use lib.Dec.{T, ltb, leb, leb→le, le→leb}
+use lib.Dec.{T, ltb, leb→le, le→leb}
 use lib.IntN.{pos, negsuc, subℕ}
 use lib.ListN.{getD, length, List·getD-eq-default}
 use lib.Signed.{leZ}
 use borrow.Author.Tests.{ltb-true, ltb-false}
 use Rattle.auction.specs.Counting.{sum}
-use Rattle.auction.specs.Market.{Tables, bidAt, Market, marketBy, median, byNumber, market, opens, screen}
+use Rattle.auction.specs.Market.{Tables, bidAt, Market, marketBy, median, byNumber, market, screen}
 use Rattle.auction.specs.Mechanism.{at, charged, obtained, sold, paid, margin, truthful}
 use Rattle.auction.specs.Outcome.{seen, decided}
 use Rattle.auction.specs.Faults.{Accepted}
 use Rattle.auction.specs.Gains.{guestGain, stationGain}
-use Rattle.auction.specs.Truth.{AlikeButForGuest, AlikeButForStation, GuestTruthful, StationTruthful, SignedReads, Menu, choice, MenuOf, GuestMenu, ClearingLimits}
+use Rattle.auction.specs.Truth.{AlikeButForGuest, AlikeButForStation, GuestTruthful, StationTruthful, SignedReads, choice, MenuOf, GuestMenu, ClearingLimits}
 use Rattle.auction.proofs.Tests.{lt-or-le}
 use Rattle.auction.proofs.Acceptance.{accepted-reads}
 use Rattle.auction.proofs.Decisions.{charged-within-bid, payment-covers-ask, balance}

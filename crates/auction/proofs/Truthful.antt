@@ -1,14 +1,13 @@
 -- Document 01's mechanism: whom it assigns, and that its decisions are fair.
-use Prim.Native.Nat.{ℕ, suc, _*_, _-_, _≤_, _<_}
+use Prim.Native.Nat.{ℕ, suc, _*_, _≤_, _<_}
 use mathlib.Core.Bool.{true}
 use mathlib.Core.Logic.{⊎-elim}
 use mathlib.Core.Path.{_≡_, sym, _∙_}
 use native.Mathlib.Nat.{le-trans, mul-le-mul-right}
 use native.Mathlib.Omega.{arith}
 use lib.ListN.{getD, length}
-use Rattle.auction.specs.Counting.{_and_}
 use Rattle.auction.specs.Market.{Tables, bidAt, Market, marketBy, byNumber, market, cut, opens, Screened, screen, queue, provisional, critical}
-use Rattle.auction.specs.Mechanism.{at, charge, charged, obtained, served, paid, surplus, best, truthful}
+use Rattle.auction.specs.Mechanism.{at, charge, charged, obtained, served, paid, surplus, truthful}
 use Rattle.auction.specs.Outcome.{seen, decided}
 use Rattle.auction.specs.Faults.{Accepted}
 use Rattle.auction.specs.Gains.{guestGain, stationGain}

@@ -2,21 +2,13 @@
 use Prim.Native.Nat.{ℕ}
 use mathlib.Core.List.{List, [], _∷_, map}
 use mathlib.Core.Path.{_≡_}
-use lib.ListN.{length, replicate}
-use Rattle.auction.specs.declared.Refusal.the-variants.{CountsOutOfRange, LengthsDiffer, AskOutOfRange, BaysOutOfRange, AmountOutOfRange, BidOutOfRange, LentLengths, RoundOutOfTurn, AccountOverLimit, BookSize}
+use lib.ListN.{replicate}
+use Rattle.terms.specs.declared.Refusal.the-variants.{CountsOutOfRange, LengthsDiffer, AskOutOfRange, BaysOutOfRange, AmountOutOfRange, BidOutOfRange, LentLengths, RoundOutOfTurn, AccountOverLimit, BookSize}
 use Rattle.auction.specs.Refusals.{Verdict, accepted, refused, firstFault}
-use Rattle.auction.specs.Market.{Tables}
+use Rattle.auction.specs.Market.{Tables, regular}
 use Rattle.auction.specs.Mechanism.{charge}
-use Rattle.auction.specs.Outcome.{Results, Outcome, seen, decided, outcome}
+use Rattle.auction.specs.Outcome.{Results, Outcome, outcomeOf, seen, decided, outcome}
 use Rattle.auction.specs.Faults.{verdict, clearingFaults, Book, postingFaults}
-
--- asks, bays, amounts, bids
-unfoldable pub tables : (asks bays amounts bids : List ℕ) → Tables
-tables asks bays amounts bids = record { asks = asks; bays = bays; amounts = amounts; bids = bids; width = length asks }
-
--- cut, margin; each guest's station and charge; each station's kWh and payment
-unfoldable pub clears : (cut margin : ℕ) (stations charges sold paid : List ℕ) → Outcome
-clears cut margin stations charges sold paid = record { cut = cut; margin = margin; results = record { stations = stations; charges = charges; sold = sold; paid = paid } }
 
 pub record Case : Type 0 where
   pub given : Tables
@@ -27,7 +19,7 @@ case t o = record { given = t; expected = o }
 
 -- Table I of document 000
 unfoldable pub tableI : Tables
-tableI = tables (4 ∷ 1 ∷ 3 ∷ 2 ∷ 5 ∷ []) (1 ∷ 2 ∷ 4 ∷ 2 ∷ 3 ∷ []) (5 ∷ 2 ∷ 6 ∷ 4 ∷ 3 ∷ [])
+tableI = regular (4 ∷ 1 ∷ 3 ∷ 2 ∷ 5 ∷ []) (1 ∷ 2 ∷ 4 ∷ 2 ∷ 3 ∷ []) (5 ∷ 2 ∷ 6 ∷ 4 ∷ 3 ∷ [])
     (0 ∷ 4 ∷ 0 ∷ 5 ∷ 2
     ∷ 2 ∷ 0 ∷ 5 ∷ 1 ∷ 0
     ∷ 7 ∷ 5 ∷ 0 ∷ 4 ∷ 0
@@ -36,7 +28,7 @@ tableI = tables (4 ∷ 1 ∷ 3 ∷ 2 ∷ 5 ∷ []) (1 ∷ 2 ∷ 4 ∷ 2 ∷ 3 �
 
 -- asks 2 and 6, one bay each, bids at station 1 only
 unfoldable pub pair : (amounts bids : List ℕ) → Tables
-pair amounts bids = tables (2 ∷ 6 ∷ []) (1 ∷ 1 ∷ []) amounts bids
+pair amounts bids = regular (2 ∷ 6 ∷ []) (1 ∷ 1 ∷ []) amounts bids
 
 unfoldable pub caseE : Tables
 caseE = pair (3 ∷ 3 ∷ []) (8 ∷ 0 ∷ 8 ∷ 0 ∷ [])
@@ -47,16 +39,16 @@ caseG = pair (3 ∷ 2 ∷ []) (9 ∷ 0 ∷ 10 ∷ 0 ∷ [])
 -- A to J
 unfoldable pub cases : List Case
 cases =
-    case tableI (clears 3 0 (4 ∷ 0 ∷ 2 ∷ 0 ∷ 0 ∷ []) (15 ∷ 0 ∷ 18 ∷ 0 ∷ 0 ∷ []) (0 ∷ 6 ∷ 0 ∷ 5 ∷ 0 ∷ []) (0 ∷ 18 ∷ 0 ∷ 15 ∷ 0 ∷ []))
-    ∷ case (tables (5 ∷ []) (1 ∷ []) (1 ∷ []) (9 ∷ [])) (clears 5 0 (0 ∷ []) (0 ∷ []) (0 ∷ []) (0 ∷ []))
-    ∷ case (pair (1 ∷ []) (6 ∷ 0 ∷ [])) (clears 6 0 (1 ∷ []) (6 ∷ []) (1 ∷ 0 ∷ []) (6 ∷ 0 ∷ []))
-    ∷ case (pair (1 ∷ []) (5 ∷ 0 ∷ [])) (clears 6 0 (0 ∷ []) (0 ∷ []) (0 ∷ 0 ∷ []) (0 ∷ 0 ∷ []))
-    ∷ case caseE (clears 6 6 (1 ∷ 0 ∷ []) (24 ∷ 0 ∷ []) (3 ∷ 0 ∷ []) (18 ∷ 0 ∷ []))
-    ∷ case (pair (10 ∷ 2 ∷ []) (7 ∷ 0 ∷ 20 ∷ 0 ∷ [])) (clears 6 0 (1 ∷ 0 ∷ []) (60 ∷ 0 ∷ []) (10 ∷ 0 ∷ []) (60 ∷ 0 ∷ []))
-    ∷ case caseG (clears 6 2 (1 ∷ 0 ∷ []) (20 ∷ 0 ∷ []) (3 ∷ 0 ∷ []) (18 ∷ 0 ∷ []))
-    ∷ case (tables (4 ∷ 4 ∷ []) (1 ∷ 1 ∷ []) (1 ∷ []) (9 ∷ 9 ∷ [])) (clears 4 0 (0 ∷ []) (0 ∷ []) (0 ∷ 0 ∷ []) (0 ∷ 0 ∷ []))
-    ∷ case (pair [] []) (clears 6 0 [] [] (0 ∷ 0 ∷ []) (0 ∷ 0 ∷ []))
-    ∷ case (tables (1 ∷ 1 ∷ 6 ∷ 6 ∷ []) (1 ∷ 1 ∷ 1 ∷ 1 ∷ []) (1 ∷ []) (8 ∷ 8 ∷ 0 ∷ 0 ∷ [])) (clears 6 0 (1 ∷ []) (6 ∷ []) (1 ∷ 0 ∷ 0 ∷ 0 ∷ []) (6 ∷ 0 ∷ 0 ∷ 0 ∷ []))
+    case tableI (outcomeOf 3 0 (4 ∷ 0 ∷ 2 ∷ 0 ∷ 0 ∷ []) (15 ∷ 0 ∷ 18 ∷ 0 ∷ 0 ∷ []) (0 ∷ 6 ∷ 0 ∷ 5 ∷ 0 ∷ []) (0 ∷ 18 ∷ 0 ∷ 15 ∷ 0 ∷ []))
+    ∷ case (regular (5 ∷ []) (1 ∷ []) (1 ∷ []) (9 ∷ [])) (outcomeOf 5 0 (0 ∷ []) (0 ∷ []) (0 ∷ []) (0 ∷ []))
+    ∷ case (pair (1 ∷ []) (6 ∷ 0 ∷ [])) (outcomeOf 6 0 (1 ∷ []) (6 ∷ []) (1 ∷ 0 ∷ []) (6 ∷ 0 ∷ []))
+    ∷ case (pair (1 ∷ []) (5 ∷ 0 ∷ [])) (outcomeOf 6 0 (0 ∷ []) (0 ∷ []) (0 ∷ 0 ∷ []) (0 ∷ 0 ∷ []))
+    ∷ case caseE (outcomeOf 6 6 (1 ∷ 0 ∷ []) (24 ∷ 0 ∷ []) (3 ∷ 0 ∷ []) (18 ∷ 0 ∷ []))
+    ∷ case (pair (10 ∷ 2 ∷ []) (7 ∷ 0 ∷ 20 ∷ 0 ∷ [])) (outcomeOf 6 0 (1 ∷ 0 ∷ []) (60 ∷ 0 ∷ []) (10 ∷ 0 ∷ []) (60 ∷ 0 ∷ []))
+    ∷ case caseG (outcomeOf 6 2 (1 ∷ 0 ∷ []) (20 ∷ 0 ∷ []) (3 ∷ 0 ∷ []) (18 ∷ 0 ∷ []))
+    ∷ case (regular (4 ∷ 4 ∷ []) (1 ∷ 1 ∷ []) (1 ∷ []) (9 ∷ 9 ∷ [])) (outcomeOf 4 0 (0 ∷ []) (0 ∷ []) (0 ∷ 0 ∷ []) (0 ∷ 0 ∷ []))
+    ∷ case (pair [] []) (outcomeOf 6 0 [] [] (0 ∷ 0 ∷ []) (0 ∷ 0 ∷ []))
+    ∷ case (regular (1 ∷ 1 ∷ 6 ∷ 6 ∷ []) (1 ∷ 1 ∷ 1 ∷ 1 ∷ []) (1 ∷ []) (8 ∷ 8 ∷ 0 ∷ 0 ∷ [])) (outcomeOf 6 0 (1 ∷ []) (6 ∷ []) (1 ∷ 0 ∷ 0 ∷ 0 ∷ []) (6 ∷ 0 ∷ 0 ∷ 0 ∷ []))
     ∷ []
 
 pub record Judged : Type 0 where
@@ -69,22 +61,22 @@ t is v = record { given = t; expected = v }
 
 -- one station, one guest: ask, bays, amount, bid
 unfoldable pub single : (ask bays amount bid : ℕ) → Tables
-single ask bays amount bid = tables (ask ∷ []) (bays ∷ []) (amount ∷ []) (bid ∷ [])
+single ask bays amount bid = regular (ask ∷ []) (bays ∷ []) (amount ∷ []) (bid ∷ [])
 
 -- the limits, and the order of two faults
 unfoldable pub limitCases : List Judged
 limitCases =
     (single 1_000_000 200 1_000 1_000_000 is accepted)
     ∷ (single 0 1 1 0 is accepted)
-    ∷ (tables (1 ∷ []) (1 ∷ []) (replicate 200 1) (replicate 200 1) is accepted)
-    ∷ (tables (1 ∷ []) (1 ∷ []) (replicate 201 1) (replicate 201 1) is refused CountsOutOfRange)
-    ∷ (tables [] [] [] [] is refused CountsOutOfRange)
-    ∷ (tables (replicate 41 1) (replicate 41 1) [] [] is refused CountsOutOfRange)
+    ∷ (regular (1 ∷ []) (1 ∷ []) (replicate 200 1) (replicate 200 1) is accepted)
+    ∷ (regular (1 ∷ []) (1 ∷ []) (replicate 201 1) (replicate 201 1) is refused CountsOutOfRange)
+    ∷ (regular [] [] [] [] is refused CountsOutOfRange)
+    ∷ (regular (replicate 41 1) (replicate 41 1) [] [] is refused CountsOutOfRange)
     ∷ (pair (1 ∷ []) (8 ∷ []) is refused LengthsDiffer)
-    ∷ (tables (1 ∷ []) [] [] [] is refused LengthsDiffer)
+    ∷ (regular (1 ∷ []) [] [] [] is refused LengthsDiffer)
     ∷ (record { asks = 1 ∷ []; bays = 1 ∷ []; amounts = []; bids = []; width = 2 } is refused LengthsDiffer)
-    ∷ (tables [] (1 ∷ []) [] [] is refused CountsOutOfRange)
-    ∷ (tables (1_000_001 ∷ []) [] [] [] is refused LengthsDiffer)
+    ∷ (regular [] (1 ∷ []) [] [] is refused CountsOutOfRange)
+    ∷ (regular (1_000_001 ∷ []) [] [] [] is refused LengthsDiffer)
     ∷ (single 1_000_001 0 1 1 is refused AskOutOfRange)
     ∷ (single 1_000_001 1 0 1 is refused AskOutOfRange)
     ∷ (single 1 0 0 1 is refused BaysOutOfRange)
@@ -119,7 +111,7 @@ calls =
     ∷ called lone 1 1 3 2 (refused LentLengths)
     ∷ called lone 1 1 2 1 (refused LentLengths)
     ∷ called lone 1 1 2 3 (refused LentLengths)
-    ∷ called (tables [] (1 ∷ []) [] []) 1 1 1 1 (refused CountsOutOfRange)
+    ∷ called (regular [] (1 ∷ []) [] []) 1 1 1 1 (refused CountsOutOfRange)
     ∷ called (pair (1 ∷ []) (8 ∷ [])) 0 0 0 0 (refused LengthsDiffer)
     ∷ called (single 1_000_001 1 1 1) 0 0 0 0 (refused LentLengths)
     ∷ []
@@ -160,7 +152,7 @@ postings =
     ∷ posted 1 (0 ∷ 0 ∷ 1_000_000_000_000_001 ∷ []) (0 ∷ 0 ∷ []) (0 ∷ 0 ∷ []) 0 0 (refused AccountOverLimit)
     ∷ []
 
--- each case is accepted and clears as expected, in A guest 1's other place would have cost 16, and each limit is judged as expected
+-- each case is accepted and outcomeOf as expected, in A guest 1's other place would have cost 16, and each limit is judged as expected
 pub record CasesHold : Type 0 where
   pub all-accepted : map (λ c. verdict (c .given)) cases ≡ map (λ c. accepted) cases
   pub all-cleared : map (λ c. outcome (c .given)) cases ≡ map (λ c. c .expected) cases

@@ -4,9 +4,9 @@ use mathlib.Core.Bool.{Bool, not}
 use mathlib.Core.List.{List, [], _∷_, _++_}
 use mathlib.Core.Path.{_≡_}
 use lib.ListN.{getD, length}
-use Rattle.auction.specs.declared.Refusal.the-variants.{CountsOutOfRange, LengthsDiffer, AskOutOfRange, BaysOutOfRange, AmountOutOfRange, BidOutOfRange, LentLengths, RoundOutOfTurn, AccountOverLimit, BookSize}
+use Rattle.terms.specs.Limits.{maxGuests, maxStations, maxPrice, maxAmount, maxCapacity, maxAccount, maxRound}
+use Rattle.terms.specs.declared.Refusal.the-variants.{CountsOutOfRange, LengthsDiffer, AskOutOfRange, BaysOutOfRange, AmountOutOfRange, BidOutOfRange, LentLengths, RoundOutOfTurn, AccountOverLimit, BookSize}
 use Rattle.auction.specs.Counting.{_<?_, _≤?_, _=?_, _or_, only, any, list}
-use Rattle.auction.specs.Limits.{maxGuests, maxStations, maxPrice, maxAmount, maxCapacity, maxAccount, maxRound}
 use Rattle.auction.specs.Refusals.{Row, _gives_, Verdict, accepted, firstFault}
 use Rattle.auction.specs.Market.{Tables}
 use Rattle.auction.specs.Mechanism.{charged, sold, paid, margin}

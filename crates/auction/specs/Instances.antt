@@ -4,13 +4,13 @@ use mathlib.Core.Path.{_≡_}
 use lib.IntN.{pos, negsuc}
 use lib.Signed.{_≤ℤ_}
 use Rattle.auction.specs.Counting.{sum}
-use Rattle.auction.specs.Market.{Tables, bidAt}
+use Rattle.auction.specs.Market.{Tables, regular, bidAt}
 use Rattle.auction.specs.Mechanism.{charged, paid, margin}
 use Rattle.auction.specs.Outcome.{seen, decided}
 use Rattle.auction.specs.Faults.{Accepted}
 use Rattle.auction.specs.Gains.{guestGain, stationGain}
 use Rattle.auction.specs.Truth.{AlikeButForGuest, AlikeButForStation, Menu, MenuOf, ClearsWithin}
-use Rattle.auction.specs.Cases.{tables, pair, caseE, caseG}
+use Rattle.auction.specs.Cases.{pair, caseE, caseG}
 
 -- case G, where guest 2 is worth 10 per kWh and bids 14: it takes the bay for 27, and is worth 20
 unfoldable pub overbid : Tables
@@ -26,10 +26,10 @@ pub record GuestInstance : Type 0 where
 
 -- station 1 costs 5 and stays closed; asking 1 it opens, and sells at the cut, 3
 unfoldable pub costly : Tables
-costly = tables (5 ∷ 3 ∷ []) (1 ∷ 1 ∷ []) (1 ∷ []) (4 ∷ 0 ∷ [])
+costly = regular (5 ∷ 3 ∷ []) (1 ∷ 1 ∷ []) (1 ∷ []) (4 ∷ 0 ∷ [])
 
 unfoldable pub underasked : Tables
-underasked = tables (1 ∷ 3 ∷ []) (1 ∷ 1 ∷ []) (1 ∷ []) (4 ∷ 0 ∷ [])
+underasked = regular (1 ∷ 3 ∷ []) (1 ∷ 1 ∷ []) (1 ∷ []) (4 ∷ 0 ∷ [])
 
 pub record StationInstance : Type 0 where
   pub accepted : Accepted costly

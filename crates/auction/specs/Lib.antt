@@ -1,5 +1,4 @@
 pub mod Counting
-pub mod Limits
 pub mod Refusals
 pub mod Market
 pub mod Mechanism

@@ -14,6 +14,13 @@ pub record Tables : Type 0 where
   pub bids : List ℕ
   pub width : ℕ
 
+abbrev pub tables : (asks bays amounts bids : List ℕ) (width : ℕ) → Tables
+tables asks bays amounts bids width = record { asks = asks; bays = bays; amounts = amounts; bids = bids; width = width }
+
+-- rows as wide as there are stations
+abbrev pub regular : (asks bays amounts bids : List ℕ) → Tables
+regular asks bays amounts bids = tables asks bays amounts bids (length asks)
+
 -- guest i's bid at station j: bids stand row after row
 unfoldable pub bidAt : Tables → ℕ → ℕ → ℕ
 bidAt t i j = getD (t .bids) (i * length (t .asks) + j) 0

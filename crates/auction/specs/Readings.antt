@@ -6,8 +6,8 @@ use mathlib.Core.Logic.{_↔_}
 use mathlib.Core.Path.{_≡_}
 use lib.IntN.{pos}
 use lib.ListN.{getD, length}
+use Rattle.terms.specs.Limits.{maxGuests, maxStations, maxPrice, maxAmount, maxCapacity, maxRound}
 use Rattle.auction.specs.Counting.{_=?_, count}
-use Rattle.auction.specs.Limits.{maxGuests, maxStations, maxPrice, maxAmount, maxCapacity, maxRound}
 use Rattle.auction.specs.Market.{Tables, bidAt, marketBy, median, cut, Screened, Queue, queue, before, rank, provisional, critical}
 use Rattle.auction.specs.Mechanism.{Decision, charge, sold, surplus}
 use Rattle.auction.specs.Outcome.{Results, seen, decided}

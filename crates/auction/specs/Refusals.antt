@@ -1,24 +1,9 @@
--- The refusals of document 01: the number of each, and tables of (condition, refusal) of which the first that holds is answered.
+-- Tables of (condition, refusal), of which the first that holds is answered.
 use Prim.Native.Nat.{ℕ}
 use mathlib.Core.Bool.{Bool, true, false}
 use mathlib.Core.List.{List, [], _∷_}
-use Rattle.auction.specs.declared.Refusal.{Refusal}
-use Rattle.auction.specs.declared.Refusal.the-variants.{SheetEnds, CountsOutOfRange, StrayBit, TrailingBytes, LengthsDiffer, AskOutOfRange, BaysOutOfRange, AmountOutOfRange, BidOutOfRange, LentLengths, RoundOutOfTurn, AccountOverLimit, BookSize}
-
-abbrev pub number : Refusal → ℕ
-number SheetEnds = 1
-number CountsOutOfRange = 2
-number StrayBit = 3
-number TrailingBytes = 4
-number LengthsDiffer = 5
-number AskOutOfRange = 6
-number BaysOutOfRange = 7
-number AmountOutOfRange = 8
-number BidOutOfRange = 9
-number LentLengths = 10
-number RoundOutOfTurn = 11
-number AccountOverLimit = 12
-number BookSize = 13
+use Rattle.terms.specs.Numbers.{number}
+use Rattle.terms.specs.declared.Refusal.{Refusal}
 
 -- a row of a table: where the condition holds, the refusal is answered
 infix 20 _gives_

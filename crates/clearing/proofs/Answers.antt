@@ -1,45 +1,39 @@
 -- The table of refusals, the sums of an accepted market, and the answers of `clear`.
 use Prim.Native.Nat.{ℕ, zero, suc, _+_, _*_, _-_, _≤_, _<_}
-use mathlib.Core.Bool.{false, not}
 use mathlib.Core.List.{List}
 use mathlib.Core.Path.{_≡_, refl, sym, ap, ap₂, subst, _∙_}
-use native.Mathlib.Nat.{mul-le-mul-right}
 use native.Mathlib.Numerals.{add-one}
 use native.Mathlib.Omega.{arith}
 use lib.ListN.{getD, length}
-use Rattle.auction.specs.declared.Refusal.{Refusal}
-use Rattle.auction.specs.Counting.{_<?_, _=?_, _or_, only, sum, list}
-use Rattle.auction.specs.Limits.{maxGuests, maxStations, maxPrice}
+use Rattle.terms.specs.Limits.{maxStations, maxPrice}
+use Rattle.terms.specs.declared.Refusal.{Refusal}
+use Rattle.auction.specs.Counting.{_=?_, only, sum, list}
 use Rattle.auction.specs.Refusals as refusals
 use Rattle.auction.specs.Refusals.{accepted, refused, firstFault}
-use Rattle.auction.specs.Market.{Tables, marketBy, market, cut, screen}
+use Rattle.auction.specs.Market.{Tables, marketBy, market, cut, screen, tables, regular}
 use Rattle.auction.specs.Mechanism.{at, charge, charged, sold, paid, margin}
-use Rattle.auction.specs.Outcome.{Results, settle, seen, decided, outcome}
-use Rattle.auction.specs.Faults.{lengths, verdict, clearingFaults}
+use Rattle.auction.specs.Outcome.{Results, settle, seen, decided, outcome, results}
+use Rattle.auction.specs.Faults.{clearingFaults}
 use Rattle.auction.specs.Readings.{WithinLimits, RightLengths}
-use Rattle.auction.proofs.Tests.{or-no, lt-no, only-le}
+use Rattle.auction.proofs.Tests.{only-le}
 use Rattle.auction.proofs.Counting.{sum-cong, greatest-le}
-use Rattle.auction.proofs.Acceptance.{clear, accepted-reads, call-accepted-reads}
+use Rattle.auction.proofs.Acceptance.{accepted-reads, call-accepted-reads}
+use Rattle.auction.proofs.Loops.{long, element, relist}
 use Rattle.sales.specs.Sales.{kwhAt, PaidOut}
-use Rattle.scans.specs.MedianAsk.{under, eligible, medianAsk}
-use Rattle.offers.specs.Offers.{leastAt}
-use Rattle.clearing.specs.Clears.{tables, results, answerTo, resultsOf, Clears}
-use Rattle.clearing.specs.Stages.{asVerdict, Settles}
-use Rattle.assignment.specs.Stages.{regular, AtCut, Assigned}
+use Rattle.cut.specs.MedianAsk.{under, eligible, medianAsk}
+use Rattle.faults.specs.Verdicts.{asVerdict}
+use Rattle.faults.specs.declared.Verdict.{Verdict}
+use Rattle.faults.specs.declared.Verdict.the-variants as verdicts
+use Rattle.charges.specs.Charges.{leastAt}
+use Rattle.turns.specs.Stages.{AtCut}
+use Rattle.assignment.specs.Assignment.{Assigned}
+use Rattle.assignment.proofs.Assignment.{numbered}
+use Rattle.clearing.specs.Clears.{answerTo, resultsOf, Clears}
+use Rattle.clearing.specs.Stages.{Settles}
 use Rattle.clearing.specs.declared.Clearing.{Clearing}
 use Rattle.clearing.specs.declared.Clearing.the-variants as clearings
-use Rattle.clearing.specs.declared.Verdict.{Verdict}
-use Rattle.clearing.specs.declared.Verdict.the-variants as verdicts
-use Rattle.auction.proofs.Loops.{long, element, relist}
-use Rattle.assignment.proofs.Turns.{numbered}
 
 -- ---- the table of refusals
-
-pub counted : (n m : ℕ) → (maxGuests <? n or m =? 0 or maxStations <? m) ≡ false → (n ≤ maxGuests) × (m ≤ maxStations)
-counted n m e = let (a, b) = or-no _ _ e in (lt-no _ _ (or-no _ _ a .0), lt-no _ _ b)
-
-pub product-fits : (n m : ℕ) → n ≤ maxGuests → m ≤ maxStations → n * m ≤ 8000
-product-fits n m a b = omega (arith, mul-le-mul-right m a)
 
 -- no fault: a market within the limits, and result lists of the right lengths
 pub record Accepts (t : Tables) (r : Results) : Type 0 where

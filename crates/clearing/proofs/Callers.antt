@@ -5,19 +5,19 @@ use mathlib.Core.List.{List, _∷_}
 use mathlib.Core.Path.{_≡_, refl, sym, ap, _∙_}
 use native.Mathlib.Omega.{arith}
 use lib.ListN.{length, take, replicate}
+use Rattle.terms.specs.Limits.{maxGuests, maxStations}
+use Rattle.terms.specs.declared.Refusal.{Refusal}
 use Rattle.auction.specs.Counting.{_=?_}
-use Rattle.auction.specs.declared.Refusal.{Refusal}
 use Rattle.auction.specs.Refusals.{Row, _gives_, Verdict, accepted, refused, firstFault}
-use Rattle.auction.specs.Limits.{maxGuests, maxStations}
 use Rattle.auction.specs.Market.{Tables}
-use Rattle.auction.specs.Outcome.{Results, outcome}
+use Rattle.auction.specs.Outcome.{Results, outcome, results}
 use Rattle.auction.specs.Faults.{lent, marketFaults, verdict, clearingFaults}
+use Rattle.auction.specs.Readings.{RightLengths}
 use Rattle.auction.proofs.Tests.{neither, is-eq}
+use Rattle.auction.proofs.Loops.{zeros-long}
+use Rattle.clearing.specs.Clears.{answerTo, resultsOf, Clears}
 use Rattle.clearing.specs.declared.Clearing.{Clearing}
 use Rattle.clearing.specs.declared.Clearing.the-variants.{Cleared, Refused}
-use Rattle.clearing.specs.Clears.{results, answerTo, resultsOf, Clears}
-use Rattle.auction.proofs.Loops.{zeros-long}
-use Rattle.auction.specs.Readings.{RightLengths}
 
 without-third : (a b : Row) (x : Bool) (r : Refusal) (rows : List Row) → x ≡ false → firstFault (a ∷ b ∷ (x gives r) ∷ rows) ≡ firstFault (a ∷ b ∷ rows)
 unfolding firstFault

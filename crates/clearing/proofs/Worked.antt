@@ -8,12 +8,12 @@ use lib.IntN.{pos, negsuc}
 use lib.Signed.{_≤ℤ_}
 use Rattle.auction.specs.Counting.{_<?_, _≤?_, _=?_, _and_, _or_, only, sum, greatest, count, some, any, list}
 use Rattle.auction.specs.Refusals.{firstFault}
-use Rattle.auction.specs.Market.{Tables, bidAt, marketBy, median, byNumber, market, cut, opens, screen, queue, before, rank, provisional, critical}
+use Rattle.auction.specs.Market.{Tables, bidAt, marketBy, median, byNumber, market, cut, opens, screen, queue, before, rank, provisional, critical, tables}
 use Rattle.auction.specs.Mechanism.{at, charge, charged, sold, paid, margin, better, best, surplus, truthful}
-use Rattle.auction.specs.Outcome.{Results, settle, seen, decided, outcome}
+use Rattle.auction.specs.Outcome.{Results, settle, seen, decided, outcome, results}
 use Rattle.auction.specs.Faults.{outside, counts, lengths, lent, values, clearingFaults}
 use Rattle.auction.specs.Truth.{AlikeButForGuest, AlikeButForStation}
-use Rattle.clearing.specs.Clears.{tables, results, answerTo, resultsOf, Clears}
+use Rattle.clearing.specs.Clears.{answerTo, resultsOf, Clears}
 use Rattle.clearing.specs.Calls.{ClearedCall, guestGainIn, stationGainIn, CallWithin}
 use Rattle.clearing.specs.declared.Clearing.the-variants.{Cleared}
 use Rattle.clearing.proofs.Calls.{guest-truthful-calls, station-truthful-calls, call-limits}

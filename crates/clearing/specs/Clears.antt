@@ -1,21 +1,11 @@
 -- What `clear` promises.
-use Prim.Native.Nat.{ℕ, _-_}
-use mathlib.Core.List.{List}
 use mathlib.Core.Path.{_≡_}
-use Rattle.auction.specs.Counting.{_and_}
 use Rattle.auction.specs.Refusals.{Verdict, accepted, refused, firstFault}
 use Rattle.auction.specs.Market.{Tables}
 use Rattle.auction.specs.Outcome.{Results, Outcome, outcome}
 use Rattle.auction.specs.Faults.{clearingFaults}
 use Rattle.clearing.specs.declared.Clearing.{Clearing}
 use Rattle.clearing.specs.declared.Clearing.the-variants.{Cleared, Refused}
-
--- a market, and result lists, as they are lent
-abbrev pub tables : (asks bays amounts bids : List ℕ) (width : ℕ) → Tables
-tables asks bays amounts bids width = record { asks = asks; bays = bays; amounts = amounts; bids = bids; width = width }
-
-abbrev pub results : (stations charges sold paid : List ℕ) → Results
-results stations charges sold paid = record { stations = stations; charges = charges; sold = sold; paid = paid }
 
 -- the enum's case for each verdict, with the values that it carries; a refusal's number is `number` of auction's Refusals
 unfoldable pub answerTo : Verdict → Outcome → Clearing

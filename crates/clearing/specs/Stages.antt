@@ -1,17 +1,9 @@
--- What the contracts inside the crate cite.
+-- What the contract of the accepted market's clearing cites.
 use mathlib.Core.Path.{_≡_}
-use Rattle.auction.specs.Refusals as verdicts
 use Rattle.auction.specs.Market.{Tables}
 use Rattle.auction.specs.Outcome.{Results, outcome}
 use Rattle.clearing.specs.declared.Clearing.{Clearing}
 use Rattle.clearing.specs.declared.Clearing.the-variants.{Cleared}
-use Rattle.clearing.specs.declared.Verdict.{Verdict}
-use Rattle.clearing.specs.declared.Verdict.the-variants.{Accepted, Refused}
-
--- the code's verdict for that of the definitions
-unfoldable pub asVerdict : verdicts.Verdict → Verdict
-asVerdict verdicts.accepted = Accepted
-asVerdict (verdicts.refused r) = Refused r
 
 -- an accepted market's answer and result lists
 pub record Settles (t : Tables) (answer : Clearing) (exit : Results) : Type 0 where

@@ -1,9 +1,9 @@
 // The clearing program: a sheet from standard input, its clearing to standard output.
-ghost use lib.ListN.{length};
-ghost use Rattle.console.specs.Input.{Within};
 use libc::STDERR_FILENO;
 use libc::STDIN_FILENO;
 use libc::STDOUT_FILENO;
+ghost use lib.ListN.{length};
+ghost use Rattle.console.specs.Input.{Within};
 
 // How many bytes were read, or that a read failed.
 enum Input {

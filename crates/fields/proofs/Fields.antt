@@ -4,13 +4,13 @@ use mathlib.Core.Bool.{Bool, true, false}
 use mathlib.Core.List.{List}
 use mathlib.Core.Logic.{⊎-elim}
 use mathlib.Core.Path.{_≡_, refl, sym, ap, _∙_}
-use borrow.Author.Tests.{lt-ltb, le-ltb}
 use native.Mathlib.Nat.{div-lt-iff-lt-mul, div-div-eq-div-mul}
 use native.Mathlib.Omega.{arith}
 use lib.Count.{ones, onesIn, ones-step}
 use lib.Dec.{ltb}
 use lib.ListN.{getD}
 use lib.Pow.{pow-mono, pow-add}
+use borrow.Author.Tests.{lt-ltb, le-ltb}
 use Rattle.auction.specs.Counting.{_<?_, _=?_, only, count}
 use Rattle.auction.proofs.Counting.{count-start, count-cong}
 use Rattle.auction.proofs.Tests.{decide, lt-or-le, eq-yes, eq-no, only-yes, only-no}

@@ -7,10 +7,9 @@ use mathlib.Core.Path.{_≡_, refl, ap}
 use native.Mathlib.Nat.{eq-or-lt-of-le, le-of-suc-le-suc}
 use native.Mathlib.Numerals.{add-one}
 use native.Mathlib.Omega.{arith}
+use Rattle.terms.specs.declared.Refusal.{Refusal}
 use Rattle.auction.specs.Counting.{only, sum, count, list}
 use Rattle.auction.specs.Refusals.{Row, _gives_, accepted, refused, firstFault}
-use Rattle.auction.specs.declared.Refusal.{Refusal}
-use Rattle.auction.proofs.Counting.{up, here}
 use Rattle.auction.proofs.Tests.{decide, only-le}
 
 list-suc : (n : ℕ) (f : ℕ → ℕ) → list (suc n) f ≡ list n f ++ (f n ∷ [])

@@ -7,10 +7,10 @@ use native.Mathlib.Nat.{not-suc-le-zero, eq-or-lt-of-le, le-of-suc-le-suc}
 use native.Mathlib.Numerals.{add-one}
 use native.Mathlib.Omega.{arith}
 use lib.ListN.{length}
-use Rattle.auction.specs.Counting.{_<?_, _or_, count, joined}
-use Rattle.auction.specs.Refusals.{Row, _gives_, accepted, refused, firstFault}
-use Rattle.auction.specs.declared.Refusal.the-variants.{SheetEnds, StrayBit}
-use Rattle.auction.specs.declared.Refusal.{Refusal}
+use Rattle.terms.specs.declared.Refusal.the-variants.{SheetEnds, StrayBit}
+use Rattle.terms.specs.declared.Refusal.{Refusal}
+use Rattle.auction.specs.Counting.{_<?_, count, joined}
+use Rattle.auction.specs.Refusals.{_gives_, accepted, refused, firstFault}
 use Rattle.auction.proofs.Tests.{lt-no, is-lt, not-lt}
 use Rattle.fields.specs.Taken.{Taken}
 use Rattle.fields.specs.Fields.{mapWidth, hasBit}

@@ -3,9 +3,9 @@
 use Prim.Native.Nat.{ℕ, zero, suc, _+_, _*_, _/_, _^_}
 use mathlib.Core.List.{List, [], _∷_}
 use lib.ListN.{length}
+use Rattle.terms.specs.declared.Refusal.the-variants.{SheetEnds, StrayBit}
 use Rattle.auction.specs.Counting.{_<?_, only, count, joined}
 use Rattle.auction.specs.Refusals.{Row, _gives_}
-use Rattle.auction.specs.declared.Refusal.the-variants.{SheetEnds, StrayBit}
 use Rattle.fields.specs.Fields.{number, mapWidth, hasBit}
 
 -- of the row that starts at p: its bit map, where its bids start, where the next row starts

@@ -2,8 +2,8 @@
 ghost use Prim.Native.Nat.{_+_, _*_, _^_, _<_, _≤_};
 ghost use mathlib.Core.Path.{_≡_};
 ghost use lib.ListN.{length};
+ghost use Rattle.terms.specs.Limits.{maxStations};
 ghost use Rattle.auction.specs.Counting.{_<?_, only, count};
-ghost use Rattle.auction.specs.Limits.{maxStations};
 ghost use Rattle.fields.specs.Fields.{number, mapWidth, hasBit};
 ghost use Rattle.fields.specs.Taken.{Taken};
 

@@ -1,12 +1,12 @@
 -- Laws of the bids, written row after row.
 use Prim.Native.Nat.{ℕ, zero, suc, _+_, _*_, _≤_, _<_}
 use mathlib.Core.List.{List}
-use mathlib.Core.Path.{_≡_, ap}
+use mathlib.Core.Path.{_≡_}
 use native.Mathlib.Nat.{mul-le-mul-right}
 use native.Mathlib.Numerals.{add-one}
 use native.Mathlib.Omega.{arith}
 use lib.ListN.{length, length-append}
-use Rattle.auction.specs.Counting.{_or_, list, joined}
+use Rattle.auction.specs.Counting.{list, joined}
 use Rattle.auction.proofs.Counting.{length-list}
 use Rattle.fields.specs.Rows.{rowAt, bidBy, bidOf}
 use Rattle.fields.proofs.Rows.{MapTaken}

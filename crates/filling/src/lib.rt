@@ -1,15 +1,15 @@
 // The filling pass of the reader: the sheet has no fault, and its fields are written into the lent tables.
+use fields::Cursor;
+use fields::Long;
 ghost use Prim.Native.Nat.{_+_, _*_, _^_, _<_, _≤_};
 ghost use mathlib.Core.Path.{_≡_};
 ghost use lib.ListN.{length};
+ghost use Rattle.terms.specs.Limits.{maxStations};
 ghost use Rattle.auction.specs.Counting.{only, count};
-ghost use Rattle.auction.specs.Limits.{maxStations};
 ghost use Rattle.auction.specs.Refusals.{accepted, firstFault};
 ghost use Rattle.fields.specs.Fields.{number, hasBit};
 ghost use Rattle.fields.specs.Rows.{rowAt, bidBy, rowsFaults};
 ghost use Rattle.filling.specs.Filling.{BidTaken, StationsFilled, RowFilled, RowsFilled};
-use fields::Cursor;
-use fields::Long;
 
 // The asks and bays of all stations. For `sheet`, whose check has found no fault: that is what it and `fill_rows` require.
 pub fn fill_stations(

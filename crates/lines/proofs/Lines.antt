@@ -1,17 +1,16 @@
 -- Lines: what they are made of, and how long they are at most.
 use Prim.Native.Nat.{ℕ, zero, suc, _+_, _*_, _≤_}
 use mathlib.Core.List.{List, _++_}
-use mathlib.Core.Path.{ap}
 use native.Mathlib.Nat.{le-antisymm}
 use native.Mathlib.Numerals.{add-one}
 use native.Mathlib.Omega.{arith}
 use lib.ListN.{length, length-append}
 use Rattle.auction.specs.Counting.{joined}
 use Rattle.text.specs.Decimal.{field}
-use Rattle.lines.specs.Text.{guestWord, atStationWord, chargeWord, stationWord, soldWord, paidWord, lineEnd, guestLine, stationLine, guestLines, stationLines}
 use Rattle.text.specs.Writing.{Wrote}
 use Rattle.text.proofs.Fields.{length-field}
 use Rattle.text.proofs.Writing.{wrote-then}
+use Rattle.lines.specs.Lines.{guestWord, atStationWord, chargeWord, stationWord, soldWord, paidWord, lineEnd, guestLine, stationLine, guestLines, stationLines}
 
 -- three fields and the line's end
 module _ (a b c : List ℕ) (x y z : ℕ) where

@@ -1,11 +1,10 @@
-// The lines of a clearing and of a refusal, as bytes in a lent buffer.
-ghost use mathlib.Core.Path.{_≡_};
+// The lines of guests and stations, as bytes in a lent buffer.
 ghost use Prim.Native.Nat.{_<_, _≤_, _^_};
+ghost use mathlib.Core.Path.{_≡_};
 ghost use lib.ListN.{length};
-ghost use Rattle.auction.specs.Limits.{maxGuests, maxStations};
+ghost use Rattle.terms.specs.Limits.{maxGuests, maxStations};
 ghost use Rattle.text.specs.Writing.{Wrote};
-ghost use Rattle.lines.specs.Text.{guestLine, stationLine, guestLines, stationLines, text, refusalText, outcomeOf};
-use auction::Refusal;
+ghost use Rattle.lines.specs.Lines.{guestLine, stationLine, guestLines, stationLines};
 
 fn guest_line(out: &mut [u8], at: usize, guest: u64, station: u64, charge: u64) -> usize
     requires { ⌜ at < 2 ^ 32 ⌝ }
@@ -27,7 +26,8 @@ fn station_line(out: &mut [u8], at: usize, station: u64, sold: u64, paid: u64) -
     text::put(out, r, 10)
 }
 
-fn guest_lines(out: &mut [u8], at: usize, stations: &[u16], charges: &[u32]) -> usize
+// Both for `page`, whose lists are those of a cleared market and whose places are far below what is required.
+pub fn guest_lines(out: &mut [u8], at: usize, stations: &[u16], charges: &[u32]) -> usize
     requires { ⌜ (at < 2 ^ 16) × (length (now stations) ≤ maxGuests) × (length (now charges) ≡ length (now stations)) ⌝ }
     ensures { λ r. ⌜ Wrote (now (out .entry)) at (guestLines (now (stations .entry)) (now (charges .entry)) (length (now (stations .entry)))) (now (out .exit)) r ⌝ }
 {
@@ -42,7 +42,7 @@ fn guest_lines(out: &mut [u8], at: usize, stations: &[u16], charges: &[u32]) -> 
     p
 }
 
-fn station_lines(out: &mut [u8], at: usize, sold: &[u32], paid: &[u64]) -> usize
+pub fn station_lines(out: &mut [u8], at: usize, sold: &[u32], paid: &[u64]) -> usize
     requires { ⌜ (at < 2 ^ 16) × (length (now sold) ≤ maxStations) × (length (now paid) ≡ length (now sold)) ⌝ }
     ensures { λ r. ⌜ Wrote (now (out .entry)) at (stationLines (now (sold .entry)) (now (paid .entry)) (length (now (sold .entry)))) (now (out .exit)) r ⌝ }
 {
@@ -55,32 +55,4 @@ fn station_lines(out: &mut [u8], at: usize, sold: &[u32], paid: &[u64]) -> usize
         k += 1;
     }
     p
-}
-
-pub fn refusal_text(refusal: Refusal, out: &mut [u8]) -> usize
-    ensures { λ r. ⌜ Wrote (now (out .entry)) 0 (refusalText refusal) (now (out .exit)) r ⌝ }
-{
-    let p = text::put_field(out, 0, b"refused ", refusal.number() as u64);
-    text::put(out, p, 10)
-}
-
-// For `report`, whose lists are those of a cleared market, which is what it requires.
-pub fn clearing_text(
-    cut: u32,
-    margin: u64,
-    stations: &[u16],
-    charges: &[u32],
-    sold: &[u32],
-    paid: &[u64],
-    out: &mut [u8],
-) -> usize
-    requires { ⌜ (length (now stations) ≤ maxGuests) × (length (now charges) ≡ length (now stations)) × (length (now sold) ≤ maxStations) × (length (now paid) ≡ length (now sold)) ⌝ }
-    ensures { λ r. ⌜ Wrote (now (out .entry)) 0 (text (outcomeOf cut margin (now (stations .entry)) (now (charges .entry)) (now (sold .entry)) (now (paid .entry)))) (now (out .exit)) r ⌝ }
-{
-    let a = text::put_field(out, 0, b"cut ", cut as u64);
-    let b = text::put(out, a, 10);
-    let c = guest_lines(out, b, stations, charges);
-    let d = station_lines(out, c, sold, paid);
-    let e = text::put_field(out, d, b"margin ", margin);
-    text::put(out, e, 10)
 }

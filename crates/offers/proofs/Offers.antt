@@ -1,4 +1,4 @@
--- Laws of offers and charges.
+-- Laws of offers.
 use Prim.Native.Nat.{ℕ, _+_, _-_, _≤_, _<_, max}
 use mathlib.Core.Bool.{Bool, true, false}
 use mathlib.Core.List.{List}
@@ -9,9 +9,9 @@ use native.Mathlib.Omega.{arith}
 use lib.ListN.{getD, length, set}
 use Rattle.auction.specs.Counting.{_<?_, _=?_, _and_, _or_, only}
 use Rattle.auction.proofs.Tests.{both, first, second, and-no, or-cases, or-left, or-right, neither, only-le, only-yes, only-no, lt-yes, eq-yes, is-lt, not-lt, is-eq, not-eq, lt-or-le, eq-or-ne}
-use Rattle.auction.proofs.Loops.{Filled, filled-none, filled-more, filled-list, is-list}
-use Rattle.selection.specs.Totals.{maxTotal}
-use Rattle.offers.specs.Offers.{picked, wonBy, gainFor, chargeAt, gainAt, taken, Offerable, Offered, Chargeable, chargedAt, Charged}
+use Rattle.auction.proofs.Loops.{Filled, filled-none, filled-more, filled-list}
+use Rattle.totals.specs.Totals.{maxTotal}
+use Rattle.offers.specs.Offers.{picked, wonBy, gainFor, chargeAt, gainAt, taken, Offerable, Offered}
 
 -- a gain is at most one more than the total
 pub gain-low : (w : Bool) (total charge : ℕ) {g : ℕ} → total ≤ maxTotal → g ≡ gainFor w total charge → g ≤ maxTotal + 1
@@ -99,13 +99,4 @@ pub offers-end : {totals least : List ℕ} {t e s : ℕ} {chosen₀ gains₀ : L
 offers-end o h b = record {
   chosen-are = filled-list _ (h .chosen-are) (o .chosen-long) b;
   gains-are = filled-list _ (h .gains-are) (o .gains-long) b;
-}
-
--- ---- charges
-
-pub charged-end : {chosen least criticals stations₀ charges₀ stations charges : List ℕ} {i : ℕ} → Chargeable chosen least criticals stations₀ charges₀
-    → Filled (λ k. getD chosen k 0) stations₀ stations i → Filled (chargedAt chosen least criticals) charges₀ charges i → length chosen ≤ i → Charged chosen least criticals stations charges
-charged-end {chosen} o s c b = record {
-  stations-are = filled-list _ s (o .stations-long) b ∙ sym (is-list _ _ chosen refl (λ k l. refl));
-  charges-are = filled-list _ c (o .charges-long) b;
 }

@@ -1,20 +1,16 @@
--- Who wins by the critical total, one station's offers, and the charges of those who chose a station.
-use Prim.Native.Nat.{ℕ, _+_, _*_, _-_, _<_, _≤_, max}
+-- Who wins by the critical total, and one station's offers.
+use Prim.Native.Nat.{ℕ, _+_, _-_, _<_, _≤_, max}
 use mathlib.Core.Bool.{Bool, true, false}
 use mathlib.Core.List.{List}
 use mathlib.Core.Path.{_≡_}
 use lib.ListN.{getD, length}
+use Rattle.terms.specs.Limits.{maxGuests}
 use Rattle.auction.specs.Counting.{_<?_, _=?_, _and_, _or_, only, list}
-use Rattle.auction.specs.Limits.{maxGuests, maxStations}
-use Rattle.selection.specs.Totals.{maxTotal, Totals}
+use Rattle.totals.specs.Totals.{maxTotal, Totals}
 
 unfoldable pub picked : Bool → ℕ → ℕ → ℕ
 picked true a b = a
 picked false a b = b
-
--- cut times guest i's amount, the least charge
-abbrev pub leastAt : (amounts : List ℕ) (cut i : ℕ) → ℕ
-leastAt amounts cut i = cut * getD amounts i 0
 
 -- guest k of total x wins a place: above the critical total t, or at t and below e
 unfoldable pub wonBy : (x t k e : ℕ) → Bool
@@ -53,19 +49,3 @@ pub record Offerable (totals least : List ℕ) (t e : ℕ) (chosen gains : List 
 pub record Offered (totals least : List ℕ) (t e s : ℕ) (chosen₀ gains₀ chosen gains : List ℕ) : Type 0 where
   pub chosen-are : chosen ≡ list (length totals) (taken gains₀ (gainAt totals least t e) (λ _. s) chosen₀)
   pub gains-are : gains ≡ list (length totals) (taken gains₀ (gainAt totals least t e) (gainAt totals least t e) gains₀)
-
--- what charging asks of its lists: numbers of stations, and a critical total for each
-pub record Chargeable (chosen least criticals stations charges : List ℕ) : Type 0 where
-  pub least-long : length least ≡ length chosen
-  pub stations-long : length stations ≡ length chosen
-  pub charges-long : length charges ≡ length chosen
-  pub numbers : (k : ℕ) → k < length chosen → getD chosen k 0 ≤ maxStations
-  pub criticals-long : maxStations < length criticals
-
--- guest i's charge at the station chosen, 0 for none
-unfoldable pub chargedAt : (chosen least criticals : List ℕ) → ℕ → ℕ
-chargedAt chosen least criticals i = only (0 <? getD chosen i 0) (max (getD least i 0) (getD criticals (getD chosen i 0) 0))
-
-pub record Charged (chosen least criticals stations charges : List ℕ) : Type 0 where
-  pub stations-are : stations ≡ chosen
-  pub charges-are : charges ≡ list (length chosen) (chargedAt chosen least criticals)

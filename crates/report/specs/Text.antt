@@ -1,19 +1,9 @@
--- What the clearing program prints, of a market and of a sheet. Document 01, end of 'Cases'. A text is a list of bytes.
+-- What the clearing program prints of a sheet. Document 01, end of 'Cases'. A text is a list of bytes.
 use Prim.Native.Nat.{ℕ}
 use mathlib.Core.List.{List}
-use Rattle.auction.specs.Refusals.{Verdict, accepted, refused}
-use Rattle.auction.specs.Market.{Tables}
-use Rattle.auction.specs.Outcome.{outcome}
-use Rattle.auction.specs.Faults.{verdict}
-use Rattle.sheet.specs.Sheet.{Content, fault, tables, readSheet}
-use Rattle.lines.specs.Text.{text, refusalText}
-
-unfoldable pub marketText : Verdict → Tables → List ℕ
-marketText accepted t = text (outcome t)
-marketText (refused r) t = refusalText r
-
-unfoldable pub marketTextOf : Tables → List ℕ
-marketTextOf t = marketText (verdict t) t
+use Rattle.checking.specs.Content.{Content, fault, tables, readSheet}
+use Rattle.page.specs.Text.{refusalText}
+use Rattle.printing.specs.MarketText.{marketTextOf}
 
 unfoldable pub sheetText : Content → List ℕ
 sheetText (fault r) = refusalText r

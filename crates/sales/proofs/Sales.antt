@@ -6,8 +6,8 @@ use mathlib.Core.Path.{_≡_, sym, ap, _∙_}
 use native.Mathlib.Omega.{arith}
 use lib.ListN.{getD, length, set, length-set}
 use lib.Seq.{getD-set-same, getD-set-other}
+use Rattle.terms.specs.Limits.{maxStations, maxAmount}
 use Rattle.auction.specs.Counting.{_=?_, only, sum, list}
-use Rattle.auction.specs.Limits.{maxStations, maxAmount}
 use Rattle.auction.proofs.Tests.{only-yes, only-no, is-eq, not-eq, lt-or-le, eq-or-ne}
 use Rattle.auction.proofs.Counting.{length-list, getD-list, list-cong}
 use Rattle.auction.proofs.Loops.{sum-more, sum-end}

@@ -3,8 +3,8 @@ use Prim.Native.Nat.{ℕ, _+_, _*_, _<_, _≤_}
 use mathlib.Core.List.{List}
 use mathlib.Core.Path.{_≡_}
 use lib.ListN.{getD, length}
+use Rattle.terms.specs.Limits.{maxStations}
 use Rattle.auction.specs.Counting.{_=?_, only, sum, list}
-use Rattle.auction.specs.Limits.{maxStations}
 
 -- the amounts of the guests whose station number is s
 unfoldable pub kwhAt : (stations amounts : List ℕ) → ℕ → ℕ

@@ -1,12 +1,11 @@
-// What each station sold and is paid, and the margin.
-use auction::MAX_STATIONS;
-use auction::Mills;
-use auction::UnitPrice;
-ghost use mathlib.Core.Path.{_≡_};
+// What each station sold and is paid.
+use money::UnitPrice;
+use terms::MAX_STATIONS;
 ghost use Prim.Native.Nat.{ℕ, _-_, _<_, _≤_};
+ghost use mathlib.Core.Path.{_≡_};
 ghost use lib.ListN.{length, getD};
-ghost use Rattle.auction.specs.Counting.{sum, list};
-ghost use Rattle.auction.specs.Limits.{maxGuests, maxStations, maxAmount};
+ghost use Rattle.terms.specs.Limits.{maxGuests, maxStations, maxAmount};
+ghost use Rattle.auction.specs.Counting.{list};
 ghost use Rattle.sales.specs.Sales.{kwhAt, slots, Tallied, PaidOut};
 
 // Where the kWh of guest i with station number s are added. Those with none spread over the places past the last number:
@@ -62,25 +61,4 @@ pub fn sell(stations: &[u16], amounts: &[u16], cut: UnitPrice, sold: &mut [u32],
     let mut kwh = [0u32; 45];
     tally_sales(stations, amounts, &mut kwh);
     pay_out(&kwh, cut, sold, paid);
-}
-
-fn excess(charge: u32, least: u32) -> Mills
-    ensures { λ r. ⌜ r .0 ≡ charge - least ⌝ }
-{
-    let other = Mills::wide(least);
-    Mills::wide(charge).larger(other).less(other)
-}
-
-// What the charges exceed the least charges by, in all: whoever is charged nothing adds nothing. Required as in `sell`.
-pub fn margin(charges: &[u32], least: &[u32]) -> Mills
-    requires { ⌜ (length (now least) ≡ length (now charges)) × (length (now charges) ≤ maxGuests) ⌝ }
-    ensures { λ r. ⌜ r .0 ≡ sum (length (now (charges .entry))) (λ i. getD (now (charges .entry)) i 0 - getD (now (least .entry)) i 0) ⌝ }
-{
-    let mut r = Mills(0);
-    let mut i = 0;
-    while i < charges.len() {
-        r = r.plus(excess(charges[i], least[i]));
-        i += 1;
-    }
-    r
 }

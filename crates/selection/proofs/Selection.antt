@@ -1,17 +1,16 @@
--- Laws of counts above a bar: the least number with few above it, and the bound on those at it.
-use Prim.Native.Nat.{ℕ, zero, suc, _+_, _≤_, _<_}
+-- Laws of counts above a bar: the least number with few above it.
+use Prim.Native.Nat.{ℕ, _+_, _≤_, _<_}
 use mathlib.Core.List.{List}
-use mathlib.Core.Logic.{_⊎_, ⊎-elim}
-use mathlib.Core.Path.{_≡_, refl, sym, ap, _∙_}
-use native.Mathlib.Nat.{le-refl, le-trans, le-antisymm, eq-or-lt-of-le, le-of-suc-le-suc}
+use mathlib.Core.Logic.{⊎-elim}
+use mathlib.Core.Path.{_≡_, sym, ap, _∙_}
+use native.Mathlib.Nat.{le-trans, le-antisymm}
 use native.Mathlib.Omega.{arith}
 use lib.ListN.{getD, length}
-use borrow.Author.Count.{below-more}
-use Rattle.auction.specs.Counting.{_<?_, _≤?_, _=?_, _and_, only, sum, greatest, count, list}
+use Rattle.auction.specs.Counting.{_<?_, _≤?_, _and_, only, greatest, list}
 use Rattle.auction.proofs.Tests.{first, second, both, clash, only-le, le-only, is-lt, not-lt, is-le, lt-yes, le-yes, lt-or-le}
-use Rattle.auction.proofs.Counting.{count-mono, count-strict, count-none, count-step, count-start, length-list, getD-list, le-greatest, greatest-le, search-below, count-most}
-use Rattle.selection.specs.Totals.{maxTotal, Totals}
-use Rattle.selection.specs.Selection.{above, ties, greatestUpTo, Selected, TieBound}
+use Rattle.auction.proofs.Counting.{count-mono, count-strict, count-none, length-list, getD-list, le-greatest, greatest-le, search-below, count-most}
+use Rattle.totals.specs.Totals.{maxTotal, Totals}
+use Rattle.selection.specs.Selection.{above, greatestUpTo, Selected}
 
 pub above-falls : (l : List ℕ) (s t : ℕ) → s ≤ t → above l t ≤ above l s
 unfolding above
@@ -24,8 +23,6 @@ many-below l b mid n e h u a = omega (arith, above-falls l u mid (omega arith))
 pub above-most : (l : List ℕ) (t : ℕ) → above l t ≤ length l
 unfolding above
 above-most l t = count-most (length l) _
-
--- ---- the greatest element up to t
 
 le-up-to : (l : List ℕ) (t k : ℕ) → k < length l → getD l k 0 ≤ t → getD l k 0 ≤ greatestUpTo l t
 unfolding greatestUpTo
@@ -75,44 +72,6 @@ up-to-selected l b t a e q = record { least-few = record { few = omega (arith, a
               (lt-or-le u (getD l k 0)))),
         )))
         (search-below (length l) (λ k. u <? getD l k 0 and getD l k 0 ≤? t))
-
--- ---- the bound on those at t
-
-ties-rise : (l : List ℕ) (t i k : ℕ) → i ≤ k → ties l t i ≤ ties l t k
-unfolding ties count sum
-ties-rise l t i zero h = let e : i ≡ 0 = omega arith in rw e (le-refl _)
-ties-rise l t i (suc k) h = ⊎-elim
-    (λ (e : i ≡ suc k). rw e (le-refl _))
-    (λ (q : i < suc k). omega (arith, ties-rise l t i k (le-of-suc-le-suc q)))
-    (eq-or-lt-of-le h)
-
-pub no-tie : {l : List ℕ} {t a b : ℕ} → t ≡ 0 → TieBound l t a b 0
-no-tie z = record { within = omega arith; none = λ _. refl; bound = λ p. absurd (omega arith) }
-
-pub ties-none : (l : List ℕ) (t a : ℕ) → a ≡ a + ties l t 0
-unfolding ties
-ties-none l t a = omega (arith, count-start (λ k. getD l k 0 =? t))
-
-pub ties-more : (l : List ℕ) (t a i s r : ℕ) → s ≡ a + ties l t i → r ≡ s + only (getD l i 0 =? t) 1 → r ≡ a + ties l t (i + 1)
-unfolding ties
-ties-more l t a i s r e h = omega (arith, count-step i (λ k. getD l k 0 =? t))
-
-pub room-more : (l : List ℕ) (t a b s i : ℕ) → s ≡ a + ties l t i → s < b → ((k : ℕ) → k < i → a + ties l t k < b) → (k : ℕ) → k < i + 1 → a + ties l t k < b
-room-more l t a b s i e r h = below-more (λ k. a + ties l t k < b) i h (omega arith)
-
--- the loop stops at i: every guest passed had room, and the next has none or there is none
-pub bound-here : {l : List ℕ} {t a b s i : ℕ} → i ≤ length l → (t ≡ 0 → ⊥) → s ≡ a + ties l t i → ((k : ℕ) → k < i → a + ties l t k < b) → (b ≤ s) ⊎ (length l ≤ i) → TieBound l t a b i
-bound-here {l} {t} {a} {b} {s} {i} w n e h c = record {
-  within = w;
-  none = λ z. absurd (n z);
-  bound = λ _ k lk. ⊎-elim
-      (λ (q : k < i). is-lt _ _ q ∙ sym (is-lt _ _ (h k q)))
-      (λ (q : i ≤ k). ⊎-elim
-      (λ (z : b ≤ s). not-lt _ _ q ∙ sym (not-lt _ _ (omega (arith, ties-rise l t i k q))))
-      (λ (z : length l ≤ i). absurd (omega arith))
-      c)
-      (lt-or-le k i);
-}
 
 -- the least number with few above it is no more than one with none above it
 pub selected-low : {l : List ℕ} {b t a top : ℕ} → Selected l b t a → above l top ≡ 0 → t ≤ top

@@ -1,16 +1,13 @@
--- The critical total of a list of totals, and who wins a tie at it.
-use Prim.Native.Nat.{ℕ, _+_, _<_, _≤_}
+-- The critical total of a list of totals.
+use Prim.Native.Nat.{ℕ, _<_, _≤_}
 use mathlib.Core.List.{List}
 use mathlib.Core.Path.{_≡_}
 use lib.ListN.{getD, length}
-use Rattle.auction.specs.Counting.{_<?_, _≤?_, _=?_, only, greatest, count}
+use Rattle.auction.specs.Counting.{_<?_, _≤?_, only, greatest, count}
 
--- how many elements are above t; how many of the first i are t
+-- how many elements are above t
 unfoldable pub above : List ℕ → ℕ → ℕ
 above l t = count (length l) (λ k. t <? getD l k 0)
-
-unfoldable pub ties : List ℕ → ℕ → ℕ → ℕ
-ties l t i = count i (λ k. getD l k 0 =? t)
 
 -- the greatest element that is at most t, 0 for none
 unfoldable pub greatestUpTo : List ℕ → ℕ → ℕ
@@ -25,9 +22,3 @@ pub record LeastFew (l : List ℕ) (b r : ℕ) : Type 0 where
 pub record Selected (l : List ℕ) (b t a : ℕ) : Type 0 where
   pub least-few : LeastFew l b t
   pub counted : a ≡ above l t
-
--- of those at t, the ones below e are those with fewer than b before them: a above t, and the ones at t of a lower index; at 0 there is none
-pub record TieBound (l : List ℕ) (t a b e : ℕ) : Type 0 where
-  pub within : e ≤ length l
-  pub none : t ≡ 0 → e ≡ 0
-  pub bound : 0 < t → (i : ℕ) → i < length l → (i <? e) ≡ (a + ties l t i <? b)

@@ -1,67 +1,11 @@
-// One station's candidates: their totals, the critical total, and who wins a tie at it. Slices hold plain numbers. What a function
-// here requires, its caller has from the checks of the market's tables; so too in `offers` and `sales`.
-use auction::UnitPrice;
+// The critical total of a station: bisection over its guests' totals.
+ghost use Prim.Native.Nat.{_+_, _<_, _≤_};
 ghost use mathlib.Core.Path.{_≡_};
-ghost use Prim.Native.Nat.{ℕ, _+_, _*_, _^_, _<_, _≤_, max};
-ghost use lib.ListN.{length, getD};
-ghost use Rattle.auction.specs.Counting.{_<?_, _≤?_, _=?_, only};
-ghost use Rattle.auction.specs.Limits.{maxGuests, maxPrice, maxAmount};
-ghost use Rattle.selection.specs.Totals.{maxTotal, Totals, totalFor, totalAt, Gathered};
-ghost use Rattle.selection.specs.Selection.{above, greatestUpTo, Selected, TieBound};
-
-// Whether x is below y, of numbers that are the same when read as signed: the processor compares four signed numbers at once.
-pub fn below(x: u32, y: u32) -> bool
-    requires { ⌜ (x < 2 ^ 31) × (y < 2 ^ 31) ⌝ }
-    ensures { λ r. ⌜ r ≡ x <? y ⌝ }
-{
-    (x as i32) < (y as i32)
-}
-
-pub fn larger(x: u32, y: u32) -> u32
-    requires { ⌜ (x ≤ maxTotal) × (y ≤ maxTotal) ⌝ }
-    ensures { λ r. ⌜ r ≡ max x y ⌝ }
-{
-    if below(x, y) { y } else { x }
-}
-
-// A guest's total at a station, 0 where the bid is below the cut.
-fn total_for(bid: UnitPrice, amount: u16, cut: UnitPrice) -> u32
-    requires { ⌜ (bid .0 ≤ maxPrice) × (amount ≤ maxAmount) ⌝ }
-    ensures { λ r. ⌜ r ≡ totalFor (bid .0) amount (cut .0) ⌝ }
-{
-    if bid.below(cut) {
-        0
-    } else {
-        bid.times(amount as u32).narrow()
-    }
-}
-
-// Every guest's total at station j of m, and the greatest.
-pub fn gather(
-    bids: &[u32],
-    amounts: &[u16],
-    m: usize,
-    j: usize,
-    cut: UnitPrice,
-    totals: &mut [u32],
-) -> u32
-    requires { ⌜ length (now bids) ≡ length (now amounts) * m ⌝ }
-    requires { ⌜ (j < m) × (length (now totals) ≡ length (now amounts)) ⌝ }
-    requires { ⌜ ((k : ℕ) → k < length (now bids) → getD (now bids) k 0 ≤ maxPrice) ⌝ }
-    requires { ⌜ ((k : ℕ) → k < length (now amounts) → getD (now amounts) k 0 ≤ maxAmount) ⌝ }
-    ensures { λ r. ⌜ Gathered (length (now (amounts .entry))) (totalAt (now (bids .entry)) (now (amounts .entry)) m j (cut .0)) (now (totals .exit)) r ⌝ }
-{
-    let mut top: u32 = 0;
-    let mut i = 0;
-    while i < amounts.len() {
-        let bid = bids[i * m + j];
-        let total = total_for(UnitPrice(bid), amounts[i], cut);
-        totals[i] = total;
-        top = larger(top, total);
-        i += 1;
-    }
-    top
-}
+ghost use lib.ListN.{length};
+ghost use Rattle.terms.specs.Limits.{maxGuests};
+ghost use Rattle.auction.specs.Counting.{_≤?_, only};
+ghost use Rattle.totals.specs.Totals.{maxTotal, Totals};
+ghost use Rattle.selection.specs.Selection.{above, greatestUpTo, Selected};
 
 fn count_above(xs: &[u32], t: u32) -> u32
     requires { ⌜ (length (now xs) ≤ maxGuests) × Totals (now xs) × (t ≤ maxTotal) ⌝ }
@@ -70,7 +14,7 @@ fn count_above(xs: &[u32], t: u32) -> u32
     let mut n: u32 = 0;
     let mut i = 0;
     while i < xs.len() {
-        if below(t, xs[i]) {
+        if signed::below(t, xs[i]) {
             n += 1;
         }
         i += 1;
@@ -82,7 +26,7 @@ fn capped(x: u32, t: u32) -> u32
     requires { ⌜ (x ≤ maxTotal) × (t ≤ maxTotal) ⌝ }
     ensures { λ r. ⌜ r ≡ only (x ≤? t) x ⌝ }
 {
-    if below(t, x) { 0 } else { x }
+    if signed::below(t, x) { 0 } else { x }
 }
 
 // The greatest element that is at most t, 0 for none.
@@ -93,7 +37,7 @@ fn largest_at_most(xs: &[u32], t: u32) -> u32
     let mut r: u32 = 0;
     let mut i = 0;
     while i < xs.len() {
-        r = larger(r, capped(xs[i], t));
+        r = signed::larger(r, capped(xs[i], t));
         i += 1;
     }
     r
@@ -155,32 +99,4 @@ pub fn critical_total(totals: &[u32], top: u32, b: u32) -> Critical
         total: high,
         above: count_above(totals, high),
     }
-}
-
-// s and one more where x is t.
-fn tally(s: u32, x: u32, t: u32) -> u32
-    requires { ⌜ s < 2147483648 ⌝ }
-    ensures { λ r. ⌜ (r ≡ s + only (x =? t) 1) × (r ≤ s + 1) ⌝ }
-{
-    if x == t { s + 1 } else { s }
-}
-
-// Of those at the critical total t, the guest below whom they still win a place: a stand above t, b bays.
-pub fn tie_bound(totals: &[u32], t: u32, a: u32, b: u32) -> u32
-    requires { ⌜ (length (now totals) ≤ maxGuests) × (a ≤ maxGuests) ⌝ }
-    ensures { λ r. ⌜ TieBound (now (totals .entry)) t a b r ⌝ }
-{
-    if t == 0 {
-        return 0;
-    }
-    let mut s = a;
-    let mut i = 0;
-    while i < totals.len() {
-        if b <= s {
-            return i as u32;
-        }
-        s = tally(s, totals[i], t);
-        i += 1;
-    }
-    i as u32
 }

@@ -5,20 +5,21 @@ use mathlib.Core.List.{List, [], _∷_}
 use mathlib.Core.Path.{_≡_, refl, sym, _∙_}
 use native.Mathlib.Omega.{arith}
 use lib.ListN.{getD, length}
-use Rattle.auction.specs.Counting.{_<?_, _or_, some}
-use Rattle.auction.specs.Limits.{maxAccount}
+use Rattle.terms.specs.Limits.{maxAccount}
+use Rattle.terms.specs.declared.Refusal.{Refusal}
+use Rattle.terms.specs.declared.Refusal.the-variants.{AccountOverLimit, RoundOutOfTurn}
+use Rattle.auction.specs.Counting.{_<?_, _or_}
 use Rattle.auction.specs.Refusals.{_gives_, firstFault}
-use Rattle.auction.specs.declared.Refusal.{Refusal}
-use Rattle.auction.specs.declared.Refusal.the-variants.{AccountOverLimit, RoundOutOfTurn}
 use Rattle.auction.specs.Faults.{outOfTurn}
 use Rattle.auction.proofs.Tests.{lt-no, or-no}
 use Rattle.auction.proofs.Counting.{some-no}
-use Rattle.accounts.specs.declared.Reply.the-variants as reply
-use Rattle.accounts.specs.declared.Round.{Round}
-use Rattle.accounts.specs.Round.{verdictOf, refusing}
-use Rattle.settling.specs.Settling.{followed, ruled, keptRound, chosen, Settled}
-use Rattle.accounts.specs.Accounts.{exceeding, plus, Addable}
 use Rattle.auction.proofs.Loops.{or-is}
+use Rattle.accounts.specs.Accounts.{plus, Addable}
+use Rattle.round.specs.Round.{verdictOf, refusing}
+use Rattle.round.specs.declared.Reply.the-variants as reply
+use Rattle.round.specs.declared.Round.{Round}
+use Rattle.room.specs.Room.{exceeding}
+use Rattle.settling.specs.Settling.{followed, ruled, keptRound, chosen, Settled}
 
 -- where no account exceeds, each sum is within the limit, so within 64 bits
 pub within : (xs adds : List ℕ) → exceeding xs adds ≡ false → (k : ℕ) → k < length xs → getD xs k 0 + getD adds k 0 ≤ maxAccount

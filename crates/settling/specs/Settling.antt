@@ -3,14 +3,15 @@ use Prim.Native.Nat.{ℕ, _+_}
 use mathlib.Core.Bool.{Bool}
 use mathlib.Core.List.{List, [], _∷_}
 use mathlib.Core.Path.{_≡_}
+use Rattle.terms.specs.Limits.{maxAccount}
+use Rattle.terms.specs.declared.Refusal.the-variants.{AccountOverLimit}
 use Rattle.auction.specs.Counting.{_<?_, _or_}
-use Rattle.auction.specs.Limits.{maxAccount}
 use Rattle.auction.specs.Refusals.{Row, _gives_, Verdict, accepted, refused, firstFault}
-use Rattle.auction.specs.declared.Refusal.the-variants.{AccountOverLimit}
 use Rattle.auction.specs.Faults.{outOfTurn}
-use Rattle.accounts.specs.declared.Round.{Round}
-use Rattle.accounts.specs.Accounts.{exceeding, plus}
-use Rattle.accounts.specs.Round.{verdictOf, refusing}
+use Rattle.accounts.specs.Accounts.{plus}
+use Rattle.round.specs.Round.{verdictOf, refusing}
+use Rattle.round.specs.declared.Round.{Round}
+use Rattle.room.specs.Room.{exceeding}
 
 -- a verdict, and that of the rows that follow where it accepts
 unfoldable pub followed : Verdict → List Row → Verdict

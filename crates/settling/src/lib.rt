@@ -1,16 +1,16 @@
 // A round settled on the guests' accounts, the house's and the last round's number, or refused.
+use round::Reply;
+use round::Round;
+use terms::Refusal;
 ghost use mathlib.Core.Path.{_≡_};
 ghost use Rattle.auction.specs.Refusals.{_gives_};
 ghost use Rattle.auction.specs.Faults.{outOfTurn};
 ghost use Rattle.settling.specs.Settling.{ruled, Settled};
-use accounts::Reply;
-use accounts::Round;
-use auction::Refusal;
 
 fn out_of_turn(round: u32, last: u32) -> bool
     ensures { λ r. ⌜ (r gives Refusal.RoundOutOfTurn) ≡ outOfTurn round last ⌝ }
 {
-    if auction::MAX_ROUND <= last {
+    if terms::MAX_ROUND <= last {
         return true;
     }
     round != last + 1
@@ -32,15 +32,15 @@ pub fn settle(
     let charges = r.charges;
     let margin = r.margin;
     match reply {
-        Reply::Refused(refusal) => accounts::refusing(refusal),
+        Reply::Refused(refusal) => round::refusing(refusal),
         Reply::Posted => {
             if out_of_turn(round, *last) {
-                return accounts::refusing(Refusal::RoundOutOfTurn);
+                return round::refusing(Refusal::RoundOutOfTurn);
             }
-            let crowded = accounts::any_exceeds(guests, &charges);
-            let rich = accounts::exceeds(*house, margin);
+            let crowded = room::any_exceeds(guests, &charges);
+            let rich = room::exceeds(*house, margin);
             if full | crowded | rich {
-                return accounts::refusing(Refusal::AccountOverLimit);
+                return round::refusing(Refusal::AccountOverLimit);
             }
             accounts::add(guests, &charges);
             *house = *house + margin;

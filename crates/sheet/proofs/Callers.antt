@@ -6,23 +6,25 @@ use mathlib.Core.Path.{_≡_, refl, sym, ap, ap₂, _∙_}
 use native.Mathlib.Omega.{arith}
 use lib.ListN.{length, take, drop}
 use lib.Seq.{take-at}
-use Rattle.auction.specs.Counting.{_=?_, _or_, joined}
-use Rattle.auction.specs.Limits.{maxGuests, maxStations}
+use Rattle.terms.specs.Limits.{maxGuests, maxStations}
+use Rattle.terms.specs.declared.Refusal.the-variants.{LentLengths}
+use Rattle.terms.specs.declared.Refusal.{Refusal}
+use Rattle.auction.specs.Counting.{_=?_, _or_}
 use Rattle.auction.specs.Market.{Tables}
 use Rattle.auction.specs.Refusals.{Verdict, accepted, refused, firstFault}
-use Rattle.auction.specs.declared.Refusal.the-variants.{LentLengths}
-use Rattle.auction.specs.declared.Refusal.{Refusal}
 use Rattle.auction.proofs.Counting.{length-list}
 use Rattle.auction.proofs.Tests.{is-eq, neither}
 use Rattle.fields.specs.Rows.{bidOf}
 use Rattle.fields.proofs.Lists.{fault-later, no-fault}
 use Rattle.filling.specs.Over.{over}
 use Rattle.filling.proofs.Rows.{joined-length}
-use Rattle.sheet.specs.Sheet.{stations, tablesOf, sheetFaults, lentTables, tables, fault, contentBy, readSheet, readInto, written, Reads}
-use Rattle.sheet.specs.declared.Reading.the-variants.{Read, Refused}
-use Rattle.sheet.specs.declared.Reading.{Reading}
-use Rattle.sheet.proofs.Faults.{sheet-sound}
-use Rattle.sheet.proofs.Tables.{room-for, told-read, told-refused}
+use Rattle.checking.specs.Content.{stations, tablesOf, sheetFaults, tables, fault, contentBy, readSheet}
+use Rattle.checking.specs.declared.Reading.the-variants.{Read, Refused}
+use Rattle.checking.specs.declared.Reading.{Reading}
+use Rattle.checking.proofs.Faults.{sheet-sound}
+use Rattle.checking.proofs.Answers.{told-read, told-refused}
+use Rattle.sheet.specs.Sheet.{lentTables, readInto, written, Reads}
+use Rattle.sheet.proofs.Tables.{room-for}
 
 -- an accepted sheet: the first places of the tables (′) are the market that it states
 pub record ReadTables (s : List ℕ) (n m : ℕ) (amounts′ asks′ bays′ bids′ : List ℕ) : Type 0 where

@@ -12,8 +12,8 @@ use Rattle.auction.proofs.Tests.{clash}
 use Rattle.fields.specs.Fields.{number, mapWidth, hasBit}
 use Rattle.fields.specs.Rows.{mapAt, bidsAt, nextAt, rowAt}
 use Rattle.fields.proofs.Rows.{first-row, bids-at}
+use Rattle.checking.specs.Content.{guests, stations}
 use Rattle.sheet.specs.Layout.{bytesOf, pack, station, stated, row, layout, Fitting, Bytes}
-use Rattle.sheet.specs.Sheet.{guests, stations}
 use Rattle.sheet.proofs.Holds.{Holds, holds-left, holds-then, holds-next, holds-all, holds-self, bytes-length, holds-number, number-holds, joined-place, joined-holds, joined-each, pack-bit, pack-fits}
 
 -- the market's counts

@@ -1,55 +1,30 @@
--- The answer and the tables, as `read` makes them.
+-- The tables, as `read` makes them.
 use Prim.Native.Nat.{ℕ, _*_, _≤_}
 use mathlib.Core.Bool.{Bool, true, false, not}
 use mathlib.Core.List.{List, _∷_}
-use mathlib.Core.Path.{_≡_, refl, sym, ap, _∙_}
+use mathlib.Core.Path.{_≡_, refl, sym, _∙_}
 use native.Mathlib.Nat.{mul-le-mul-right}
 use native.Mathlib.Omega.{arith}
 use lib.ListN.{length}
+use Rattle.terms.specs.declared.Refusal.the-variants.{LentLengths}
+use Rattle.terms.specs.declared.Refusal.{Refusal}
 use Rattle.auction.specs.Counting.{_=?_, _or_, list, joined}
-use Rattle.auction.specs.Market.{Tables}
-use Rattle.auction.specs.Refusals.{_gives_, Verdict, accepted, refused, firstFault}
-use Rattle.auction.specs.declared.Refusal.the-variants.{LentLengths}
-use Rattle.auction.specs.declared.Refusal.{Refusal}
+use Rattle.auction.specs.Refusals.{_gives_, accepted, refused, firstFault}
 use Rattle.auction.proofs.Counting.{length-list}
 use Rattle.auction.proofs.Tests.{eq-yes, or-no}
 use Rattle.fields.specs.Rows.{askOf, baysOf, amountOf, bidOf, rowsFaults}
 use Rattle.fields.proofs.Lists.{fault-here, fault-later}
 use Rattle.filling.specs.Over.{over}
-use Rattle.sheet.specs.Sheet.{guests, stations, tablesOf, sheetFaults, lentTables, contentBy, readSheet, readInto, answerOf, written, Reads}
-use Rattle.sheet.specs.declared.Reading.the-variants.{Read, Refused}
-use Rattle.sheet.specs.declared.Reading.{Reading}
-use Rattle.sheet.proofs.Faults.{Sound}
+use Rattle.checking.specs.Content.{guests, stations, tablesOf, sheetFaults, contentBy, readSheet, answerOf}
+use Rattle.checking.specs.declared.Reading.the-variants.{Read, Refused}
+use Rattle.checking.specs.declared.Reading.{Reading}
+use Rattle.checking.proofs.Faults.{Sound}
+use Rattle.checking.proofs.Answers.{told-refused}
+use Rattle.sheet.specs.Sheet.{lentTables, readInto, written, Reads}
 
 -- room for the table
 pub room-for : (n m k : ℕ) → n ≤ 200 → m ≤ 40 → k ≡ 8000 → n * m ≤ k
 room-for n m k h g e = omega (arith, mul-le-mul-right m h)
-
--- ---- the answer of the checking pass
-
-pub answer-fault : (s : List ℕ) (r : Refusal) → firstFault (sheetFaults s) ≡ refused r → Refused r ≡ answerOf (readSheet s)
-unfolding readSheet contentBy answerOf
-answer-fault s r e = rw e refl
-
-pub answer-read : (s : List ℕ) (n m : ℕ) → firstFault (sheetFaults s) ≡ accepted → n ≡ guests s → m ≡ stations s → Read n m ≡ answerOf (readSheet s)
-unfolding readSheet contentBy answerOf tablesOf
-answer-read s n m e f g = rw (e, length-list, length-list, f, g) refl
-
-pub told-read : (v : Verdict) (s : List ℕ) (n m : ℕ) (r : Reading) → r ≡ answerOf (contentBy v (tablesOf s)) → r ≡ Read n m
-    → (v ≡ accepted) × (n ≡ guests s) × (m ≡ stations s)
-unfolding contentBy answerOf tablesOf
-told-read accepted s n m r e f =
-    let g : n ≡ length (list (guests s) (amountOf s (stations s))) = cc in
-    let h : m ≡ length (list (stations s) (askOf s)) = cc in
-    (refl, g ∙ length-list _ _, h ∙ length-list _ _)
-told-read (refused x) s n m r e f = let z : _≡_ {A = ℕ} 0 1 = cc in absurd (omega arith)
-
-pub told-refused : (v : Verdict) (t : Tables) (x : Refusal) (r : Reading) → r ≡ answerOf (contentBy v t) → r ≡ Refused x → v ≡ refused x
-unfolding contentBy answerOf
-told-refused accepted t x r e f = let z : _≡_ {A = ℕ} 0 1 = cc in absurd (omega arith)
-told-refused (refused y) t x r e f = let g : y ≡ x = cc in ap refused g
-
--- ---- `read`
 
 pub lent-lengths : (a b c d : ℕ) → lentTables a b c d ≡ (false gives LentLengths) → (a ≡ 200) × (b ≡ 40) × (c ≡ 40) × (d ≡ 8000)
 unfolding lentTables

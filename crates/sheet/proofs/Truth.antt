@@ -9,7 +9,6 @@ use native.Mathlib.Omega.{arith}
 use lib.ListN.{length, getD, List·getD-append}
 use lib.Seq.{ext-getD, getD-append-add}
 use Rattle.auction.specs.Counting.{only, list, joined}
-use Rattle.auction.specs.Faults.{counts}
 use Rattle.auction.specs.Market.{Tables, bidAt}
 use Rattle.auction.specs.Refusals.{Verdict, accepted, refused, firstFault}
 use Rattle.auction.proofs.Counting.{up, here, length-list, getD-list}
@@ -19,9 +18,9 @@ use Rattle.fields.specs.Rows.{mapAt, bidsAt, nextAt, rowAt, askOf, baysOf, amou
 use Rattle.fields.proofs.Rows.{bids-at, RowSound, sound-row, sound-at, rows-none, rows-suc, first-row}
 use Rattle.fields.proofs.Fields.{number-low}
 use Rattle.filling.proofs.Rows.{joined-length}
+use Rattle.checking.specs.Content.{guests, stations, tablesOf, sheetFaults, tables, contentBy, readSheet}
+use Rattle.checking.proofs.Faults.{counts-good, whole, Sound, sheet-sound}
 use Rattle.sheet.specs.Layout.{Fitting, States, Bytes, ReadsExactlyWhatIsStated, StatesOneMarket}
-use Rattle.sheet.specs.Sheet.{guests, stations, tablesOf, sheetFaults, tables, fault, contentBy, readSheet}
-use Rattle.sheet.proofs.Faults.{counts-good, whole, Sound, sheet-sound}
 use Rattle.sheet.proofs.Holds.{pack-bit, pack-low, pack-bits}
 use Rattle.sheet.proofs.Stated.{n, m, Fields, row-suc, fields-layout, layout-fields}
 

@@ -3,11 +3,12 @@ use Prim.Native.Nat.{ℕ}
 use mathlib.Core.List.{List, [], _∷_, _++_, map}
 use mathlib.Core.Path.{_≡_}
 use lib.ListN.{length, take}
+use Rattle.terms.specs.declared.Refusal.the-variants.{SheetEnds, CountsOutOfRange, StrayBit, TrailingBytes, LentLengths}
 use Rattle.auction.specs.Counting.{joined}
 use Rattle.auction.specs.Market.{Tables}
 use Rattle.auction.specs.Cases.{tableI, pair, caseE}
-use Rattle.auction.specs.declared.Refusal.the-variants.{SheetEnds, CountsOutOfRange, StrayBit, TrailingBytes, LentLengths}
-use Rattle.sheet.specs.Sheet.{tables, fault, readSheet, readInto}
+use Rattle.checking.specs.Content.{tables, fault, readSheet}
+use Rattle.sheet.specs.Sheet.{readInto}
 
 -- Table I
 unfoldable pub sheetA : List ℕ

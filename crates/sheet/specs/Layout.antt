@@ -4,11 +4,11 @@ use mathlib.Core.Bool.{Bool, true, false}
 use mathlib.Core.List.{List, [], _∷_, _++_}
 use mathlib.Core.Path.{_≡_}
 use lib.ListN.{length, getD}
+use Rattle.terms.specs.Limits.{maxGuests, maxStations}
 use Rattle.auction.specs.Counting.{only, joined}
-use Rattle.auction.specs.Limits.{maxGuests, maxStations}
 use Rattle.auction.specs.Market.{Tables, bidAt}
 use Rattle.fields.specs.Fields.{mapWidth}
-use Rattle.sheet.specs.Sheet.{tables, readSheet}
+use Rattle.checking.specs.Content.{tables, readSheet}
 
 -- x in k bytes, lowest byte first
 unfoldable pub bytesOf : (k x : ℕ) → List ℕ

@@ -1,4 +1,3 @@
 pub mod Sheet
 pub mod Layout
-pub mod Passes
 pub mod Cases

@@ -9,16 +9,17 @@ use native.Mathlib.Numerals.{add-one}
 use native.Mathlib.Omega.{arith}
 use lib.ListN.{getD, length, set, length-set, length-map, List·getD-map}
 use lib.Seq.{getD-set-same, getD-set-other, ext-getD}
+use Rattle.terms.specs.Limits.{maxAccount}
 use Rattle.auction.specs.Counting.{_<?_, _or_, some}
-use Rattle.auction.specs.Limits.{maxAccount}
 use Rattle.auction.proofs.Tests.{or-no, lt-no, lt-or-le}
-use Rattle.auction.proofs.Counting.{some-no, some-cong, here}
-use Rattle.stations.specs.declared.StationAccount.{StationAccount}
-use Rattle.accounts.specs.declared.Round.{Round}
+use Rattle.auction.proofs.Counting.{some-no, some-cong}
+use Rattle.auction.proofs.Loops.{or-is, is-list}
+use Rattle.accounts.specs.Accounts.{plus}
+use Rattle.round.specs.declared.Round.{Round}
+use Rattle.room.specs.Room.{exceeding}
 use Rattle.stations.specs.Records.{account, accountAt, soldOf, paidOf}
 use Rattle.stations.specs.Stations.{exceedsWith, exceedingTo, creditedBy, credited, creditedTo}
-use Rattle.accounts.specs.Accounts.{exceeding, plus}
-use Rattle.auction.proofs.Loops.{or-is, is-list}
+use Rattle.stations.specs.declared.StationAccount.{StationAccount}
 
 -- ---- the plain book's lists
 

@@ -3,11 +3,11 @@ use Prim.Native.Nat.{ℕ, zero, suc, _+_}
 use mathlib.Core.Bool.{Bool, true, false}
 use mathlib.Core.List.{List}
 use lib.ListN.{getD, set}
+use Rattle.terms.specs.Limits.{maxAccount}
 use Rattle.auction.specs.Counting.{_<?_, _or_, some}
-use Rattle.auction.specs.Limits.{maxAccount}
-use Rattle.stations.specs.declared.StationAccount.{StationAccount}
-use Rattle.accounts.specs.declared.Round.{Round}
+use Rattle.round.specs.declared.Round.{Round}
 use Rattle.stations.specs.Records.{account, accountAt}
+use Rattle.stations.specs.declared.StationAccount.{StationAccount}
 
 -- station j's account a would be above the limit with what the round adds
 unfoldable pub exceedsWith : Round → ℕ → StationAccount → Bool

@@ -1,9 +1,9 @@
 // The stations' accounts, a row of records: whether each has room for what a round adds, and the sums.
+use round::Round;
 ghost use mathlib.Core.Path.{_≡_};
 ghost use lib.ListN.{length};
 ghost use Rattle.auction.specs.Counting.{_or_};
 ghost use Rattle.stations.specs.Stations.{exceedsWith, exceedingTo, credited as creditedOf, creditedTo};
-use accounts::Round;
 
 // A station's account: kWh sold and money paid.
 #[repr(C)]
@@ -18,8 +18,8 @@ fn station_exceeds(account: StationAccount, r: Round, j: usize, before: bool) ->
 {
     let sales = r.sold;
     let payments = r.paid;
-    let sold = accounts::exceeds(account.sold, accounts::at(&sales, j));
-    let paid = accounts::exceeds(account.paid, accounts::at(&payments, j));
+    let sold = room::exceeds(account.sold, accounts::at(&sales, j));
+    let paid = room::exceeds(account.paid, accounts::at(&payments, j));
     before | (sold | paid)
 }
 

@@ -1,11 +1,11 @@
 // Bytes, words and numbers, written into a lent buffer as far as it reaches.
-ghost use mathlib.Core.List.{_∷_, []};
 ghost use Prim.Native.Nat.{ℕ, _+_, _<_, _^_};
+ghost use mathlib.Core.List.{_∷_, []};
 ghost use lib.ListN.{length};
 ghost use Rattle.text.specs.Decimal.{digits, field};
 ghost use Rattle.text.specs.Writing.{Wrote};
 
-// A byte at a place, if the buffer reaches that far. For `lines`, whose places are far below what is required.
+// A byte at a place, if the buffer reaches that far. For `lines` and `page`, whose places are far below what is required.
 pub fn put(out: &mut [u8], at: usize, b: u8) -> usize
     requires { ⌜ at + 1 < 2 ^ 64 ⌝ }
     ensures { λ r. ⌜ Wrote (now (out .entry)) at (b ∷ []) (now (out .exit)) r ⌝ }

@@ -1,7 +1,5 @@
-// Document 01's view of the bid table: rows of a lent table, and the clearing of a market whose bids stand in a view.
-use clearing::Clearing;
+// Document 01's view of the bid table: the lent bids with their row width, and its rows.
 ghost use mathlib.Core.Path.{_≡_};
-ghost use Rattle.clearing.specs.Clears.{tables, results, Clears};
 ghost use Rattle.views.specs.Rows.{rowOf};
 
 // The bids of a guest, counted from 1, as a part of the lent table: empty for guest 0 and for a row that ends past the table.
@@ -45,30 +43,4 @@ pub fn table_row(table: BidTable<'_>, guest: usize) -> &[u32]
     ensures { λ r. ⌜ now r ≡ rowOf (now (table .entry .bids)) (table .entry .width) guest ⌝ }
 {
     row(table.bids, table.width, guest)
-}
-
-// Clears a market whose bids stand in a view, or refuses it and writes nothing: `clear` of what the view holds.
-pub fn clear_table(
-    asks: &[u32],
-    bays: &[u16],
-    amounts: &[u16],
-    table: BidTable<'_>,
-    stations: &mut [u16],
-    charges: &mut [u32],
-    sold: &mut [u32],
-    paid: &mut [u64],
-) -> Clearing
-    ensures { λ r. ⌜ Clears (tables (now (asks .entry)) (now (bays .entry)) (now (amounts .entry)) (now (table .entry .bids)) (table .entry .width)) (results (now (stations .entry)) (now (charges .entry)) (now (sold .entry)) (now (paid .entry))) r (results (now (stations .exit)) (now (charges .exit)) (now (sold .exit)) (now (paid .exit))) ⌝ }
-{
-    clearing::clear(
-        asks,
-        bays,
-        amounts,
-        table.bids,
-        table.width,
-        stations,
-        charges,
-        sold,
-        paid,
-    )
 }

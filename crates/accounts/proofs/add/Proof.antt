@@ -3,9 +3,9 @@ use mathlib.Core.Path.{refl, ap₂}
 use native.Mathlib.Nat.{le-refl}
 use native.Mathlib.Omega.{arith}
 use lib.ListN.{length, getD}
-use Rattle.accounts.specs.Accounts.{plus}
-use Rattle.auction.proofs.Loops.{Filled, filled-none, filled-more, filled-list}
 use borrow.Author.Needs.{needs}
+use Rattle.auction.proofs.Loops.{Filled, filled-none, filled-more, filled-list}
+use Rattle.accounts.specs.Accounts.{plus}
 use Rattle.accounts.proofs.add.Statement.{statement}
 use Rattle.accounts.proofs.add.Tie as tie
 

@@ -1,14 +1,15 @@
-use borrow.Author.Needs.{needs}
-use Rattle.assignment.proofs.all_stations.Statement.{statement}
-use Rattle.assignment.proofs.all_stations.Tie as tie
 use Prim.Native.Nat.{_-_, _≤_}
 use mathlib.Core.Path.{_≡_, sym, _∙_}
 use native.Mathlib.Omega.{arith}
 use lib.ListN.{length}
+use borrow.Author.Needs.{needs}
 use Rattle.auction.specs.Outcome.{seen}
-use Rattle.assignment.specs.Stages.{regular, After}
+use Rattle.auction.specs.Market.{regular}
 use Rattle.auction.proofs.Loops.{long}
-use Rattle.assignment.proofs.Turns.{after-end}
+use Rattle.turns.specs.Stages.{After}
+use Rattle.assignment.proofs.all_stations.Statement.{statement}
+use Rattle.assignment.proofs.all_stations.Tie as tie
+use Rattle.assignment.proofs.Assignment.{after-end}
 
 abbrev Inv-loop : tie.InvT-loop
 Inv-loop asks bays amounts bids cut least totals₀ chosen₀ gains₀ criticals₀ j₀ totals chosen gains criticals j = (j ≤ length asks) × (length totals ≡ length amounts) × After (seen (regular asks bays amounts bids)) (length amounts) j chosen gains criticals

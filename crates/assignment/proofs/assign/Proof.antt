@@ -1,8 +1,8 @@
 use borrow.Author.Needs.{needs}
+use Rattle.auction.specs.Market.{regular}
 use Rattle.assignment.proofs.assign.Statement.{statement}
 use Rattle.assignment.proofs.assign.Tie as tie
-use Rattle.assignment.specs.Stages.{regular}
-use Rattle.assignment.proofs.Turns.{chargeable, assigned}
+use Rattle.assignment.proofs.Assignment.{chargeable, assigned}
 
 all-stations-requires : tie.Need-all-stations-requires
 all-stations-requires c κs = (c .before .before .before .before .before .before .before .before .before .before .before .before .before .before .before .pre .0, (c .before .before .before .before .before .before .before .before .before .before .before .before .before .before .before .pre .1 .0, c .before .before .before .before .before .before .before .before .before .before .before .before .before .before .before .pre .1 .1 .0))

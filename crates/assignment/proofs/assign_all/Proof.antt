@@ -1,10 +1,10 @@
+use mathlib.Core.Path.{sym}
 use borrow.Author.Needs.{needs}
+use Rattle.terms.specs.Limits.{maxGuests}
+use Rattle.auction.proofs.Loops.{zeros-long}
 use Rattle.assignment.proofs.assign_all.Statement.{statement}
 use Rattle.assignment.proofs.assign_all.Tie as tie
-use mathlib.Core.Path.{sym}
-use Rattle.assignment.proofs.Turns.{after-none}
-use Rattle.auction.proofs.Loops.{zeros-long}
-use Rattle.auction.specs.Limits.{maxGuests}
+use Rattle.assignment.proofs.Assignment.{after-none}
 
 array-borrow-prefix-totals : tie.Need-array-borrow-prefix-totals
 array-borrow-prefix-totals c = search needs

@@ -1,7 +1,7 @@
 use mathlib.Core.Path.{sym, _∙_}
 use native.Mathlib.Omega.{arith}
 use borrow.Author.Needs.{needs}
-use Rattle.assignment.specs.Stages.{regular}
+use Rattle.auction.specs.Market.{regular}
 use Rattle.auction.proofs.Loops.{long}
 use Rattle.clearing.proofs.Answers.{cut-low, at-cut, stations-count, charges-count, stations-low, settles}
 use Rattle.clearing.proofs.settle.Statement.{statement}

@@ -1,10 +1,10 @@
+use mathlib.Core.Path.{sym}
 use native.Mathlib.Omega.{arith}
 use borrow.Author.Needs.{needs}
+use Rattle.terms.specs.Limits.{maxGuests}
+use Rattle.auction.proofs.Loops.{zeros-long}
 use Rattle.clearing.proofs.settle_accepted.Statement.{statement}
 use Rattle.clearing.proofs.settle_accepted.Tie as tie
-use Rattle.auction.proofs.Loops.{zeros-long}
-use Rattle.auction.specs.Limits.{maxGuests}
-use mathlib.Core.Path.{sym}
 
 array-borrow-prefix-least : tie.Need-array-borrow-prefix-least
 array-borrow-prefix-least c = omega (arith, c .before .before .before .before .before .before .before .before .pre .0 .guests-most)

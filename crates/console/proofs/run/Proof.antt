@@ -1,6 +1,6 @@
 use native.Mathlib.Omega.{arith}
-use Rattle.console.proofs.Parts.{bytes-within, part-long}
 use borrow.Author.Needs.{needs}
+use Rattle.console.proofs.Parts.{bytes-within, part-long}
 use Rattle.console.proofs.run.Statement.{statement}
 use Rattle.console.proofs.run.Tie as tie
 

@@ -1,8 +1,8 @@
 -- The loop goes down from the highest byte: x is the number that the bytes passed hold.
 use Prim.Native.Nat.{_≤_, _<_, _-_, _+_}
 use mathlib.Core.Path.{_≡_}
-use borrow.Author.Needs.{needs}
 use native.Mathlib.Omega.{arith}
+use borrow.Author.Needs.{needs}
 use Rattle.fields.specs.Fields.{number}
 use Rattle.fields.proofs.Fields.{number-none, number-turn, number-four, number-end}
 use Rattle.fields.proofs.number.Statement.{statement}

@@ -1,7 +1,7 @@
 -- Where as many bits are set as there are stations, all are.
 use mathlib.Core.Path.{_≡_, _∙_, sym}
-use borrow.Author.Needs.{needs}
 use native.Mathlib.Omega.{arith}
+use borrow.Author.Needs.{needs}
 use Rattle.auction.specs.Counting.{count}
 use Rattle.fields.specs.Fields.{hasBit}
 use Rattle.fields.proofs.Fields.{count-narrow, bid-full}

@@ -1,9 +1,9 @@
 -- The loop: the tables hold the first i rows, and d is where the next one starts. No field ends early, for each row is sound.
 use Prim.Native.Nat.{_≤_, _-_}
 use mathlib.Core.Path.{_≡_, _∙_}
-use borrow.Author.Needs.{needs}
 use native.Mathlib.Nat.{le-antisymm}
 use native.Mathlib.Omega.{arith}
+use borrow.Author.Needs.{needs}
 use Rattle.auction.specs.Counting.{list, joined}
 use Rattle.fields.specs.Rows.{rowAt, amountOf, bidOf}
 use Rattle.fields.proofs.Rows.{MapTaken, map-taken, RowSound, sound-at, bids-at, to-next, rows-to}

@@ -1,9 +1,9 @@
 -- The loop: the first j places hold the fields of the first j stations.
 use Prim.Native.Nat.{_≤_, _+_, _*_, _-_}
 use mathlib.Core.Path.{_≡_}
-use borrow.Author.Needs.{needs}
 use native.Mathlib.Nat.{le-antisymm}
 use native.Mathlib.Omega.{arith}
+use borrow.Author.Needs.{needs}
 use Rattle.auction.specs.Counting.{list}
 use Rattle.fields.specs.Rows.{askOf, baysOf}
 use Rattle.fields.proofs.Rows.{first-row}

@@ -1,7 +1,7 @@
 -- A field where the bit is set, 0 where it is clear.
 use mathlib.Core.Path.{ap, _∙_}
-use borrow.Author.Needs.{needs}
 use native.Mathlib.Omega.{arith}
+use borrow.Author.Needs.{needs}
 use Rattle.auction.specs.Counting.{only}
 use Rattle.fields.specs.Fields.{number, hasBit}
 use Rattle.fields.proofs.Fields.{only-less, scaled, field-in, field-value}

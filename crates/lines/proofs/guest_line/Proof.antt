@@ -1,8 +1,8 @@
 use native.Mathlib.Omega.{arith}
-use Rattle.lines.specs.Text.{guestLine}
-use Rattle.text.proofs.Fields.{field-end}
-use Rattle.lines.proofs.Lines.{wrote-line}
 use borrow.Author.Needs.{needs}
+use Rattle.text.proofs.Fields.{field-end}
+use Rattle.lines.specs.Lines.{guestLine}
+use Rattle.lines.proofs.Lines.{wrote-line}
 use Rattle.lines.proofs.guest_line.Statement.{statement}
 use Rattle.lines.proofs.guest_line.Tie as tie
 

@@ -1,8 +1,8 @@
 use native.Mathlib.Omega.{arith}
-use Rattle.lines.specs.Text.{stationLine}
-use Rattle.text.proofs.Fields.{field-end}
-use Rattle.lines.proofs.Lines.{wrote-line}
 use borrow.Author.Needs.{needs}
+use Rattle.text.proofs.Fields.{field-end}
+use Rattle.lines.specs.Lines.{stationLine}
+use Rattle.lines.proofs.Lines.{wrote-line}
 use Rattle.lines.proofs.station_line.Statement.{statement}
 use Rattle.lines.proofs.station_line.Tie as tie
 

@@ -1,12 +1,12 @@
 use Prim.Native.Nat.{_≤_, _-_}
 use native.Mathlib.Omega.{arith}
 use lib.ListN.{length}
-use Rattle.lines.specs.Text.{stationLines}
-use Rattle.text.specs.Writing.{Wrote}
-use Rattle.auction.specs.Counting.{joined}
-use Rattle.lines.proofs.Lines.{wrote-joined, wrote-lines, station-lines-end}
-use Rattle.text.proofs.Writing.{wrote-none}
 use borrow.Author.Needs.{needs}
+use Rattle.auction.specs.Counting.{joined}
+use Rattle.text.specs.Writing.{Wrote}
+use Rattle.text.proofs.Writing.{wrote-none}
+use Rattle.lines.specs.Lines.{stationLines}
+use Rattle.lines.proofs.Lines.{wrote-joined, wrote-lines, station-lines-end}
 use Rattle.lines.proofs.station_lines.Statement.{statement}
 use Rattle.lines.proofs.station_lines.Tie as tie
 

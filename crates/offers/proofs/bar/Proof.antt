@@ -1,11 +1,11 @@
-use borrow.Author.Needs.{needs}
-use Rattle.offers.proofs.bar.Statement.{statement}
-use Rattle.offers.proofs.bar.Tie as tie
 use Prim.Native.Nat.{_-_}
 use mathlib.Core.Path.{sym, ap, _∙_}
 use mathlib.Core.Logic.{⊎-elim}
 use native.Mathlib.Omega.{arith}
+use borrow.Author.Needs.{needs}
 use Rattle.auction.proofs.Tests.{only-yes, only-no, lt-yes, lt-or-le}
+use Rattle.offers.proofs.bar.Statement.{statement}
+use Rattle.offers.proofs.bar.Tie as tie
 
 below-requires : tie.Need-below-requires
 below-requires c κs = search needs

@@ -1,10 +1,10 @@
-use borrow.Author.Needs.{needs}
-use Rattle.offers.proofs.offer.Statement.{statement}
-use Rattle.offers.proofs.offer.Tie as tie
 use Prim.Native.Nat.{_-_, _≤_}
 use mathlib.Core.Path.{sym, _∙_}
 use native.Mathlib.Omega.{arith}
 use lib.ListN.{length}
+use borrow.Author.Needs.{needs}
+use Rattle.offers.proofs.offer.Statement.{statement}
+use Rattle.offers.proofs.offer.Tie as tie
 use Rattle.offers.proofs.Offers.{won-pays, gain-low, gain-left, Offering, offers-none, offers-more, offers-end}
 
 abbrev Inv-loop : tie.InvT-loop
@@ -31,7 +31,7 @@ shared-slice-read-larger c = search needs
 larger-requires : tie.Need-larger-requires Inv-loop μ-loop
 larger-requires c κs =
     let o = c .before .before .before .before .before .before .before .before .pre in
-    (omega (arith, o .least-low (c .before .before .before .loop .i) (omega (arith, o .least-long)), o .totals-low (c .before .before .before .loop .i) (c .before .before .loop-test .taken)), o .critical-low)
+    (omega (arith, o .least-low (c .before .before .before .loop .i) (omega (arith, o .least-long)), o .totals-low (c .before .before .before .loop .i) (c .before .before .loop-test .taken)), omega (arith, o .critical-low))
 
 cast-wins : tie.Need-cast-wins Inv-loop μ-loop
 cast-wins c = search needs

@@ -1,8 +1,8 @@
-use Rattle.offers.proofs.pick.Statement.{statement}
-use Rattle.offers.proofs.pick.Tie as tie
 use mathlib.Core.Path.{refl, sym, _∙_}
 use native.Mathlib.Omega.{arith}
 use Rattle.offers.specs.Offers.{picked}
+use Rattle.offers.proofs.pick.Statement.{statement}
+use Rattle.offers.proofs.pick.Tie as tie
 
 below-requires : tie.Need-below-requires
 below-requires c κs = (omega arith, omega arith)

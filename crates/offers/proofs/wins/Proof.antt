@@ -1,6 +1,6 @@
+use native.Mathlib.Omega.{arith}
 use Rattle.offers.proofs.wins.Statement.{statement}
 use Rattle.offers.proofs.wins.Tie as tie
-use native.Mathlib.Omega.{arith}
 use Rattle.offers.proofs.Offers.{won-is}
 
 bar-requires : tie.Need-bar-requires

@@ -1,8 +1,8 @@
 use mathlib.Core.Path.{refl}
 use native.Mathlib.Omega.{arith}
-use Rattle.sheet.proofs.Callers.{read-tables, read-fault}
-use Rattle.report.proofs.Printing.{part-long, part-fits, same-tables, prints-fault, prints-sheet}
 use borrow.Author.Needs.{needs}
+use Rattle.sheet.proofs.Callers.{read-tables, read-fault}
+use Rattle.report.proofs.Sheets.{part-long, part-fits, same-tables, prints-fault, prints-sheet}
 use Rattle.report.proofs.print_clearing.Statement.{statement}
 use Rattle.report.proofs.print_clearing.Tie as tie
 

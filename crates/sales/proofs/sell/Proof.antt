@@ -1,8 +1,8 @@
+use native.Mathlib.Omega.{arith}
 use borrow.Author.Needs.{needs}
+use Rattle.auction.proofs.Loops.{zeros}
 use Rattle.sales.proofs.sell.Statement.{statement}
 use Rattle.sales.proofs.sell.Tie as tie
-use native.Mathlib.Omega.{arith}
-use Rattle.auction.proofs.Loops.{zeros}
 use Rattle.sales.proofs.Sales.{sells}
 
 slice-aggregate-tally-sales : tie.Need-slice-aggregate-tally-sales

@@ -1,13 +1,13 @@
-use borrow.Author.Needs.{needs}
-use Rattle.sales.proofs.tally_sales.Statement.{statement}
-use Rattle.sales.proofs.tally_sales.Tie as tie
 use Prim.Native.Nat.{_-_, _≤_}
 use mathlib.Core.Path.{refl, ap}
 use native.Mathlib.Omega.{arith}
 use lib.ListN.{length}
-use Rattle.sales.proofs.Sales.{Tallying, tallied-none, tallied-more, tallied-end}
+use borrow.Author.Needs.{needs}
 use Rattle.auction.proofs.Counting.{length-list}
 use Rattle.sales.specs.Sales.{slots}
+use Rattle.sales.proofs.tally_sales.Statement.{statement}
+use Rattle.sales.proofs.tally_sales.Tie as tie
+use Rattle.sales.proofs.Sales.{Tallying, tallied-none, tallied-more, tallied-end}
 
 abbrev Inv-loop : tie.InvT-loop
 Inv-loop stations amounts kwh₀ i₀ kwh i = (i ≤ length amounts) × Tallying stations amounts i kwh

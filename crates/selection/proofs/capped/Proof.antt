@@ -1,8 +1,8 @@
-use Rattle.selection.proofs.capped.Statement.{statement}
-use Rattle.selection.proofs.capped.Tie as tie
 use mathlib.Core.Path.{sym, _∙_}
 use native.Mathlib.Omega.{arith}
 use Rattle.auction.proofs.Tests.{only-yes, only-no, is-le, not-le, lt-yes, lt-no}
+use Rattle.selection.proofs.capped.Statement.{statement}
+use Rattle.selection.proofs.capped.Tie as tie
 
 below-requires : tie.Need-below-requires
 below-requires c κs = (omega arith, omega arith)

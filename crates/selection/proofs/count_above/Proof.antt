@@ -1,15 +1,15 @@
-use borrow.Author.Needs.{needs}
-use Rattle.selection.proofs.count_above.Statement.{statement}
-use Rattle.selection.proofs.count_above.Tie as tie
 use Prim.Native.Nat.{_≤_, _-_}
 use mathlib.Core.Logic.{⊎-elim}
 use mathlib.Core.Path.{_≡_, sym, _∙_}
 use native.Mathlib.Omega.{arith}
 use lib.ListN.{length, getD}
+use borrow.Author.Needs.{needs}
 use Rattle.auction.specs.Counting.{_<?_, count}
 use Rattle.auction.proofs.Counting.{count-start}
-use Rattle.selection.specs.Selection.{above}
 use Rattle.auction.proofs.Loops.{count-hit, count-miss, count-end}
+use Rattle.selection.specs.Selection.{above}
+use Rattle.selection.proofs.count_above.Statement.{statement}
+use Rattle.selection.proofs.count_above.Tie as tie
 
 abbrev Inv-loop : tie.InvT-loop
 Inv-loop xs t n₀ i₀ n i = (i ≤ length xs) × (n ≤ i) × (n ≡ count i (λ k. t <? getD xs k 0))

@@ -3,7 +3,7 @@ use mathlib.Core.Path.{sym}
 use native.Mathlib.Omega.{arith}
 use borrow.Author.Needs.{needs}
 use borrow.Author.Count.{below-none}
-use Rattle.selection.specs.Totals.{maxTotal}
+use Rattle.totals.specs.Totals.{maxTotal}
 use Rattle.selection.specs.Selection.{above}
 use Rattle.selection.proofs.Selection.{greatest-positive, up-to-selected, many-below}
 use Rattle.selection.proofs.critical_total.Statement.{statement}

@@ -1,15 +1,15 @@
-use borrow.Author.Needs.{needs}
-use Rattle.selection.proofs.largest_at_most.Statement.{statement}
-use Rattle.selection.proofs.largest_at_most.Tie as tie
 use Prim.Native.Nat.{_≤_, _-_}
 use mathlib.Core.Path.{_≡_}
 use native.Mathlib.Omega.{arith}
 use lib.ListN.{length, getD}
+use borrow.Author.Needs.{needs}
 use Rattle.auction.specs.Counting.{_≤?_, only, greatest}
 use Rattle.auction.proofs.Tests.{only-le}
-use Rattle.selection.specs.Totals.{maxTotal}
-use Rattle.selection.specs.Selection.{greatestUpTo}
 use Rattle.auction.proofs.Loops.{greatest-none, greatest-more, greatest-end}
+use Rattle.totals.specs.Totals.{maxTotal}
+use Rattle.selection.specs.Selection.{greatestUpTo}
+use Rattle.selection.proofs.largest_at_most.Statement.{statement}
+use Rattle.selection.proofs.largest_at_most.Tie as tie
 use Rattle.selection.proofs.Selection.{greatest-low}
 
 abbrev Inv-loop : tie.InvT-loop
@@ -31,7 +31,10 @@ capped-requires : tie.Need-capped-requires Inv-loop μ-loop
 capped-requires c κs = (c .before .before .before .before .pre .0 _ (c .before .loop-test .taken), c .before .before .before .before .pre .1)
 
 larger-requires : tie.Need-larger-requires Inv-loop μ-loop
-larger-requires c κs = (rw (c .before .before .before .loop .inv .1) (greatest-low (c .before .before .before .before .before .args .xs .now) (c .before .before .before .before .before .args .t) (c .before .before .before .loop .i) (c .before .before .before .before .before .pre .0) (c .before .before .before .loop .inv .0)), rw (c .capped .ensures) (only-le _ _ maxTotal (λ _. c .before .before .before .before .before .pre .0 _ (c .before .before .loop-test .taken))))
+larger-requires c κs =
+    let p = c .before .before .before .before .before .pre .0 in
+    let l = greatest-low (c .before .before .before .before .before .args .xs .now) (c .before .before .before .before .before .args .t) (c .before .before .before .loop .i) p (c .before .before .before .loop .inv .0) in
+    (omega (arith, c .before .before .before .loop .inv .1, l), omega (arith, c .capped .ensures, only-le (getD (c .before .before .before .before .before .args .xs .now) (c .before .before .before .loop .i) 0 ≤? c .before .before .before .before .before .args .t) _ maxTotal (λ _. p _ (c .before .before .loop-test .taken))))
 
 add-i : tie.Need-add-i Inv-loop μ-loop
 add-i c = search needs

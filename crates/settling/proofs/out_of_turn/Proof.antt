@@ -1,11 +1,10 @@
-use mathlib.Core.Bool.{not}
 use mathlib.Core.Path.{sym, ap}
+use borrow.Author.Needs.{needs}
+use Rattle.terms.specs.declared.Refusal.the-variants.{RoundOutOfTurn}
 use Rattle.auction.specs.Counting.{_=?_}
 use Rattle.auction.specs.Refusals.{_gives_}
 use Rattle.auction.specs.Faults.{outOfTurn}
-use Rattle.auction.specs.declared.Refusal.the-variants.{RoundOutOfTurn}
 use Rattle.auction.proofs.Tests.{or-left, or-skip, is-le, not-le}
-use borrow.Author.Needs.{needs}
 use Rattle.settling.proofs.out_of_turn.Statement.{statement}
 use Rattle.settling.proofs.out_of_turn.Tie as tie
 

@@ -1,8 +1,8 @@
 use mathlib.Core.Path.{sym, _∙_}
 use native.Mathlib.Omega.{arith}
+use borrow.Author.Needs.{needs}
 use Rattle.auction.proofs.Tests.{lt-no}
 use Rattle.settling.proofs.Settling.{addable, all-fail, test-is, settled-refused, settled-late, settled-over, settled-posted}
-use borrow.Author.Needs.{needs}
 use Rattle.settling.proofs.settle.Statement.{statement}
 use Rattle.settling.proofs.settle.Tie as tie
 

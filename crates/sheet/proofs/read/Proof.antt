@@ -1,14 +1,16 @@
 -- Nothing is written before the checking pass answers; then the four tables are those of the sheet.
 use mathlib.Core.Bool.{false}
 use mathlib.Core.Path.{_≡_, _∙_, ap}
-use borrow.Author.Needs.{needs}
 use native.Mathlib.Omega.{arith}
 use lib.ListN.{length}
+use borrow.Author.Needs.{needs}
+use Rattle.terms.specs.declared.Refusal.the-variants.{LentLengths}
 use Rattle.auction.specs.Refusals.{_gives_, accepted, firstFault}
-use Rattle.auction.specs.declared.Refusal.the-variants.{LentLengths}
-use Rattle.sheet.specs.Sheet.{guests, stations, sheetFaults, lentTables, readSheet}
-use Rattle.sheet.proofs.Faults.{sheet-sound}
-use Rattle.sheet.proofs.Tables.{told-read, lent-lengths, rows-good, room-for, refused-lent, refused-sheet, read-all}
+use Rattle.checking.specs.Content.{guests, stations, sheetFaults, readSheet}
+use Rattle.checking.proofs.Faults.{sheet-sound}
+use Rattle.checking.proofs.Answers.{told-read}
+use Rattle.sheet.specs.Sheet.{lentTables}
+use Rattle.sheet.proofs.Tables.{lent-lengths, rows-good, room-for, refused-lent, refused-sheet, read-all}
 use Rattle.sheet.proofs.read.Statement.{statement}
 use Rattle.sheet.proofs.read.Tie as tie
 

@@ -1,6 +1,6 @@
 use native.Mathlib.Omega.{arith}
-use Rattle.stations.proofs.Stations.{room, credited-not, credited-yes}
 use borrow.Author.Needs.{needs}
+use Rattle.stations.proofs.Stations.{room, credited-not, credited-yes}
 use Rattle.stations.proofs.credited.Statement.{statement}
 use Rattle.stations.proofs.credited.Tie as tie
 

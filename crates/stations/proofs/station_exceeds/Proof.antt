@@ -1,5 +1,5 @@
-use Rattle.stations.proofs.Stations.{exceeds-is}
 use borrow.Author.Needs.{needs}
+use Rattle.stations.proofs.Stations.{exceeds-is}
 use Rattle.stations.proofs.station_exceeds.Statement.{statement}
 use Rattle.stations.proofs.station_exceeds.Tie as tie
 

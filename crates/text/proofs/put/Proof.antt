@@ -1,5 +1,5 @@
-use Rattle.text.proofs.Writing.{wrote-byte, wrote-past}
 use borrow.Author.Needs.{needs}
+use Rattle.text.proofs.Writing.{wrote-byte, wrote-past}
 use Rattle.text.proofs.put.Statement.{statement}
 use Rattle.text.proofs.put.Tie as tie
 

@@ -1,6 +1,6 @@
 use native.Mathlib.Omega.{arith}
-use Rattle.text.proofs.Fields.{wrote-field}
 use borrow.Author.Needs.{needs}
+use Rattle.text.proofs.Fields.{wrote-field}
 use Rattle.text.proofs.put_field.Statement.{statement}
 use Rattle.text.proofs.put_field.Tie as tie
 

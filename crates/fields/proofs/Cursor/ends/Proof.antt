@@ -1,6 +1,6 @@
 -- What is left of the sheet is short of k exactly where k more bytes end past it.
-use borrow.Author.Needs.{needs}
 use native.Mathlib.Omega.{arith}
+use borrow.Author.Needs.{needs}
 use Rattle.fields.proofs.Fields.{ends-test}
 use Rattle.fields.proofs.Cursor.ends.Statement.{statement}
 use Rattle.fields.proofs.Cursor.ends.Tie as tie

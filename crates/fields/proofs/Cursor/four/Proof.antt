@@ -1,6 +1,6 @@
 -- A field of 4 bytes is two of 2.
-use borrow.Author.Needs.{needs}
 use native.Mathlib.Omega.{arith}
+use borrow.Author.Needs.{needs}
 use Rattle.fields.proofs.Fields.{number-halves, moved}
 use Rattle.fields.proofs.Cursor.four.Statement.{statement}
 use Rattle.fields.proofs.Cursor.four.Tie as tie

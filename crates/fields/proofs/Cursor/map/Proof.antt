@@ -1,7 +1,7 @@
 -- A map is the number that its bytes hold.
 use mathlib.Core.Path.{_∙_, ap}
-use borrow.Author.Needs.{needs}
 use native.Mathlib.Omega.{arith}
+use borrow.Author.Needs.{needs}
 use Rattle.fields.specs.Fields.{number, mapWidth}
 use Rattle.fields.proofs.Cursor.map.Statement.{statement}
 use Rattle.fields.proofs.Cursor.map.Tie as tie

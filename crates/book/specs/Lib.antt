@@ -1,0 +1,4 @@
+pub mod Posting
+pub mod PlainBook
+pub mod LentBook
+pub mod Ledger

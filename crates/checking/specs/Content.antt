@@ -1,0 +1,65 @@
+-- What a sheet comes to: its market, or its first fault. Document 01, 'The sheet' and the reader's rows of 'Refusals by place'.
+-- A sheet is a list of bytes. What its fields and its rows hold is in `fields` (specs/Fields.antt, Rows.antt); a byte past the end counts as 0, which no accepted sheet shows.
+-- Guests and stations count from 0 here.
+use Prim.Native.Nat.{ℕ}
+use mathlib.Core.List.{List, [], _∷_, _++_}
+use lib.ListN.{length}
+use Rattle.terms.specs.declared.Refusal.the-variants.{SheetEnds, TrailingBytes}
+use Rattle.terms.specs.declared.Refusal.{Refusal}
+use Rattle.auction.specs.Counting.{_<?_, list, joined}
+use Rattle.auction.specs.Faults.{counts}
+use Rattle.auction.specs.Market.{Tables}
+use Rattle.auction.specs.Refusals.{Row, _gives_, Verdict, accepted, refused, firstFault}
+use Rattle.fields.specs.Fields.{number}
+use Rattle.fields.specs.Rows.{rowAt, askOf, baysOf, amountOf, bidOf, rowsFaults}
+use Rattle.checking.specs.declared.Reading.the-variants.{Read, Refused}
+use Rattle.checking.specs.declared.Reading.{Reading}
+
+-- ---- fields
+
+-- the header
+unfoldable pub guests : List ℕ → ℕ
+guests s = number s 0 2
+
+unfoldable pub stations : List ℕ → ℕ
+stations s = number s 2 2
+
+-- the market that the fields state
+unfoldable pub tablesOf : List ℕ → Tables
+tablesOf s = record {
+  asks = list (stations s) (askOf s);
+  bays = list (stations s) (baysOf s);
+  amounts = list (guests s) (amountOf s (stations s));
+  bids = joined (guests s) (λ i. list (stations s) (bidOf s (stations s) i));
+  width = stations s;
+}
+
+-- ---- faults, in the order of the table. Fields with no other fault between them share a row: those of the stations, the bids of a guest (`rowFaults`)
+
+unfoldable pub sheetFaults : List ℕ → List Row
+sheetFaults s =
+    (length s <? 4 gives SheetEnds)
+    ∷ counts (guests s) (stations s)
+    ∷ (length s <? rowAt s (stations s) 0 gives SheetEnds)
+    ∷ (rowsFaults s (stations s) (guests s)
+    ++ ((rowAt s (stations s) (guests s) <? length s gives TrailingBytes) ∷ []))
+
+-- ---- the reading
+
+-- what bytes come to
+pub data Content : Type 0 where
+  fault : Refusal → Content
+  tables : Tables → Content
+
+unfoldable pub contentBy : Verdict → Tables → Content
+contentBy accepted t = tables t
+contentBy (refused r) t = fault r
+
+-- what a sheet comes to
+unfoldable pub readSheet : List ℕ → Content
+readSheet s = contentBy (firstFault (sheetFaults s)) (tablesOf s)
+
+-- the answer: n and m, or a refusal, whose number is that of `number` in auction
+unfoldable pub answerOf : Content → Reading
+answerOf (fault r) = Refused r
+answerOf (tables t) = Read (length (t .amounts)) (length (t .asks))

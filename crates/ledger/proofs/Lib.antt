@@ -1,6 +1,0 @@
-pub mod Accounts
-pub mod LentBook
-pub mod Ledger
-pub mod Posting
-pub mod Example
-pub mod Existence

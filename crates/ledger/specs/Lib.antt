@@ -1,3 +1,0 @@
-pub mod PlainBook
-pub mod LentBook
-pub mod Ledger

@@ -1,0 +1,10 @@
+-- What the private functions of the checking pass promise. Nothing that `read` promises depends on this file.
+use Prim.Native.Nat.{ℕ}
+use Rattle.auction.specs.Refusals.{Verdict, accepted, refused}
+use Rattle.passes.specs.declared.Step.the-variants.{Next, Fault}
+use Rattle.passes.specs.declared.Step.{Step}
+
+-- past a sound row, or its fault
+unfoldable pub stepBy : Verdict → ℕ → Step
+stepBy accepted p = Next (record { at = p })
+stepBy (refused r) p = Fault r

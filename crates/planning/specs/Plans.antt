@@ -1,0 +1,27 @@
+-- What the functions of src/ promise each other: the round of a market, by its verdict and by the book's size.
+use Prim.Native.Nat.{ℕ}
+use mathlib.Core.List.{List, [], _∷_, _++_}
+use lib.ListN.{length}
+use Rattle.terms.specs.Limits.{maxGuests, maxStations}
+use Rattle.auction.specs.Counting.{list}
+use Rattle.auction.specs.Refusals.{Row, Verdict, accepted, refused, firstFault}
+use Rattle.auction.specs.Market.{Tables}
+use Rattle.auction.specs.Faults.{marketFaults, bookSize}
+use Rattle.round.specs.Round.{refusing, posted}
+use Rattle.round.specs.declared.Round.{Round}
+use Rattle.book.specs.Posting.{Posting, posting, toGuest, toSold, toPaid, toHouse}
+
+-- the round that adds what p's market clears to
+unfoldable pub adding : Posting → Round
+adding p = posted (list maxGuests (λ i. toGuest i p)) (list maxStations (λ j. toSold j p)) (list maxStations (λ j. toPaid j p)) (toHouse p)
+
+unfoldable pub roundBy : Verdict → Posting → Round
+roundBy accepted p = adding p
+roundBy (refused r) p = refusing r
+
+-- posting's rows up to the one on the book's size, and the round that they leave of a market; its number comes later
+unfoldable pub earlyFaults : Tables → (guests stations : ℕ) → List Row
+earlyFaults t guests stations = marketFaults t ++ (bookSize (length (t .amounts)) (length (t .asks)) guests stations ∷ [])
+
+unfoldable pub planned : Tables → (guests stations : ℕ) → Round
+planned t guests stations = roundBy (firstFault (earlyFaults t guests stations)) (posting t 0)

@@ -1,0 +1,2 @@
+pub mod MarketText
+pub mod Writing

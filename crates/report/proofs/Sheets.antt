@@ -1,0 +1,42 @@
+-- A written text is what `print_clearing` promises of a sheet.
+use Prim.Native.Nat.{ℕ, _*_, _≤_}
+use mathlib.Core.List.{List}
+use mathlib.Core.Path.{_≡_, sym, ap, _∙_}
+use native.Mathlib.Omega.{arith}
+use lib.ListN.{length, take, length-take}
+use Rattle.terms.specs.declared.Refusal.{Refusal}
+use Rattle.auction.specs.Market.{Tables, tables}
+use Rattle.text.specs.Writing.{Wrote}
+use Rattle.checking.specs.Content as content
+use Rattle.checking.specs.Content.{readSheet, tablesOf}
+use Rattle.page.specs.Text.{refusalText}
+use Rattle.sheet.proofs.Callers.{ReadTables}
+use Rattle.printing.specs.MarketText.{marketTextOf}
+use Rattle.printing.specs.Writing.{Prints}
+use Rattle.printing.proofs.Printing.{prints, length-refusal}
+use Rattle.report.specs.Text.{sheetText, printed}
+
+pub prints-fault : {l l′ : List ℕ} {q : ℕ} (s : List ℕ) (x : Refusal) → readSheet s ≡ content.fault x → Wrote l 0 (refusalText x) l′ q → Prints (printed s) l q l′
+unfolding printed sheetText
+prints-fault s x e w = rw e (prints w (length-refusal x))
+
+pub prints-sheet : {l l′ : List ℕ} {q : ℕ} (s : List ℕ) (t u : Tables) → readSheet s ≡ content.tables u → t ≡ u → Prints (marketTextOf t) l q l′ → Prints (printed s) l q l′
+unfolding printed sheetText
+prints-sheet s t u e f p = rw e (rw f at p)
+
+-- ---- the tables that were read, as parts of the lent ones
+
+pub part-long : (xs ys : List ℕ) (n : ℕ) → take n xs ≡ ys → length ys ≡ n → n ≡ length (take n xs)
+part-long xs ys n e h = sym (ap length e ∙ h)
+
+pub part-fits : (xs ys : List ℕ) (n : ℕ) → take n xs ≡ ys → length ys ≡ n → n ≤ length xs
+part-fits xs ys n e h = omega (arith, length-take n xs, part-long xs ys n e h)
+
+pub same-tables : {s a b c d : List ℕ} {n m : ℕ} → ReadTables s n m a b c d → tables (take m b) (take m c) (take n a) (take (n * m) d) (length (take m b)) ≡ tablesOf s
+same-tables r = λ i. record {
+  asks = r .asks-are i;
+  bays = r .bays-are i;
+  amounts = r .amounts-are i;
+  bids = r .bids-are i;
+  width = (ap length (r .asks-are) ∙ r .asks-long ∙ sym (r .width-is)) i;
+}
