@@ -1,4 +1,4 @@
--- What the functions of src/ promise each other: the round of a market, by its verdict and by the book's size.
+-- The round of a market, by its verdict and by the size of the book.
 use Prim.Native.Nat.{ℕ}
 use mathlib.Core.List.{List, [], _∷_, _++_}
 use lib.ListN.{length}
