@@ -11,7 +11,7 @@ pub fn at(adds: &[u64], k: usize) -> u64
     if k < adds.len() { adds[k] } else { 0 }
 }
 
-// For `settling`, once `any_exceeds` has found room, which is what it requires.
+// For `settling`, once `room::any_exceeds` has found room, which is what it requires.
 pub fn add(accounts: &mut [u64], adds: &[u64])
     requires { ⌜ Addable (now accounts) (now adds) ⌝ }
     ensures { λ _. ⌜ now (accounts .exit) ≡ plus (now (accounts .entry)) (now (adds .entry)) ⌝ }

@@ -1,4 +1,4 @@
--- Document 01's cases and limitCases, by computation.
+-- Document 01's cases, limits, calls and postings, by computation.
 use mathlib.Core.Path.{refl}
 use Rattle.auction.specs.Counting.{_<?_, _≤?_, _=?_, _and_, _or_, only, sum, greatest, count, some, any, list}
 use Rattle.auction.specs.Refusals.{firstFault}

@@ -152,7 +152,7 @@ postings =
     ∷ posted 1 (0 ∷ 0 ∷ 1_000_000_000_000_001 ∷ []) (0 ∷ 0 ∷ []) (0 ∷ 0 ∷ []) 0 0 (refused AccountOverLimit)
     ∷ []
 
--- each case is accepted and outcomeOf as expected, in A guest 1's other place would have cost 16, and each limit is judged as expected
+-- each case is accepted and clears as expected, in A guest 1's other place would have cost 16, and each limit is judged as expected
 pub record CasesHold : Type 0 where
   pub all-accepted : map (λ c. verdict (c .given)) cases ≡ map (λ c. accepted) cases
   pub all-cleared : map (λ c. outcome (c .given)) cases ≡ map (λ c. c .expected) cases

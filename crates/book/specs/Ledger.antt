@@ -5,7 +5,7 @@ use mathlib.Core.List.{List, [], _∷_}
 use mathlib.Core.Path.{_≡_}
 use lib.ListN.{getD, length}
 use Rattle.terms.specs.declared.Refusal.the-variants.{RoundOutOfTurn}
-use Rattle.auction.specs.Refusals.{Verdict, accepted, refused, code}
+use Rattle.auction.specs.Refusals.{Verdict, accepted, refused}
 use Rattle.auction.specs.Faults.{overLimit}
 use Rattle.auction.specs.Cases.{caseE}
 use Rattle.stations.specs.Records.{account, accountAt, paidOf}
@@ -17,11 +17,6 @@ use Rattle.book.specs.LentBook.{LentBook, book, blank, plain}
 pub record Posted (entry : LentBook) (p : Posting) (v : Verdict) (exit : LentBook) : Type 0 where
   pub answered : v ≡ answer (plain entry) p
   pub left : plain exit ≡ after (plain entry) p
-
--- one call that answers by number: the plain book's answer and step
-pub record Numbered (entry : LentBook) (p : Posting) (exit : LentBook) (k : ℕ) : Type 0 where
-  pub number-is : k ≡ code (answer (plain entry) p)
-  pub exit-is : plain exit ≡ after (plain entry) p
 
 -- a list of calls, each made to the book as the last left it
 pub data Calls : LentBook → List Posting → List Verdict → LentBook → Type 0 where

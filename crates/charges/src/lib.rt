@@ -15,7 +15,7 @@ fn least_charge(cut: UnitPrice, amount: u16) -> u32
     cut.times(amount as u32).narrow()
 }
 
-// Cut times amount for each guest. For `clearing`.
+// Cut times amount for each guest. For `clearing`, once the market is found good.
 pub fn least_charges(amounts: &[u16], cut: UnitPrice, least: &mut [u32])
     requires { ⌜ (length (now least) ≡ length (now amounts)) × (cut .0 ≤ maxPrice) ⌝ }
     requires { ⌜ ((k : ℕ) → k < length (now amounts) → getD (now amounts) k 0 ≤ maxAmount) ⌝ }
@@ -39,7 +39,8 @@ fn charge_at(station: u32, least: u32, critical: u32) -> u32
     }
 }
 
-// Each guest's station and charge, from the station chosen and the critical total of each station number. For `assignment`.
+// Each guest's station and charge, from the station chosen and the critical total of each station number. For
+// `assignment`, where all have chosen one of the stations or none.
 pub fn charge_guests(
     chosen: &[u32],
     least: &[u32],

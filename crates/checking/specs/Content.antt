@@ -15,7 +15,7 @@ use Rattle.fields.specs.Rows.{rowAt, askOf, baysOf, amountOf, bidOf, rowsFaults
 use Rattle.checking.specs.declared.Reading.the-variants.{Read, Refused}
 use Rattle.checking.specs.declared.Reading.{Reading}
 
--- ---- fields
+-- ---- the header, and the market
 
 -- the header
 unfoldable pub guests : List ℕ → ℕ
@@ -59,7 +59,7 @@ contentBy (refused r) t = fault r
 unfoldable pub readSheet : List ℕ → Content
 readSheet s = contentBy (firstFault (sheetFaults s)) (tablesOf s)
 
--- the answer: n and m, or a refusal, whose number is that of `number` in auction
+-- the answer: n and m, or a refusal, whose number is that of `number` in `terms`
 unfoldable pub answerOf : Content → Reading
 answerOf (fault r) = Refused r
 answerOf (tables t) = Read (length (t .amounts)) (length (t .asks))

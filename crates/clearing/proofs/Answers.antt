@@ -29,7 +29,7 @@ use Rattle.turns.specs.Stages.{AtCut}
 use Rattle.assignment.specs.Assignment.{Assigned}
 use Rattle.assignment.proofs.Assignment.{numbered}
 use Rattle.clearing.specs.Clears.{answerTo, resultsOf, Clears}
-use Rattle.clearing.specs.Stages.{Settles}
+use Rattle.clearing.specs.Settles.{Settles}
 use Rattle.clearing.specs.declared.Clearing.{Clearing}
 use Rattle.clearing.specs.declared.Clearing.the-variants as clearings
 
@@ -115,9 +115,9 @@ unfolding asVerdict
 is-refused accepted e = absurd (let z : _≡_ {A = ℕ} 0 1 = cc in omega arith)
 is-refused (refused r) e = cc
 
-pub clear-refused : (t : Tables) (r : Results) {x : Refusal} → verdicts.Refused x ≡ asVerdict (firstFault (clearingFaults t r)) → Clears t r (clearings.Refused x) r
+pub refused-clears : (t : Tables) (r : Results) {x : Refusal} → verdicts.Refused x ≡ asVerdict (firstFault (clearingFaults t r)) → Clears t r (clearings.Refused x) r
 unfolding answerTo resultsOf
-clear-refused t r e = let v = is-refused _ (sym e) in record { answered = rw v refl; left = rw v refl }
+refused-clears t r e = let v = is-refused _ (sym e) in record { answered = rw v refl; left = rw v refl }
 
 -- the row width is the number of stations
 width-of : (asks bays amounts bids : List ℕ) (width : ℕ) → WithinLimits (tables asks bays amounts bids width) → tables asks bays amounts bids width ≡ regular asks bays amounts bids

@@ -7,7 +7,7 @@ use Rattle.auction.specs.Faults.{clearingFaults}
 use Rattle.clearing.specs.declared.Clearing.{Clearing}
 use Rattle.clearing.specs.declared.Clearing.the-variants.{Cleared, Refused}
 
--- the enum's case for each verdict, with the values that it carries; a refusal's number is `number` of auction's Refusals
+-- the enum's case for each verdict, with the values that it carries; a refusal's number is `number` of `terms`
 unfoldable pub answerTo : Verdict → Outcome → Clearing
 answerTo accepted o = Cleared (o .cut) (o .margin)
 answerTo (refused r) o = Refused r

@@ -1,3 +1,3 @@
 pub mod Clears
-pub mod Stages
+pub mod Settles
 pub mod Calls

@@ -8,7 +8,7 @@ ghost use Rattle.auction.specs.Readings.{WithinLimits, RightLengths};
 ghost use Rattle.auction.specs.Market.{regular, tables};
 ghost use Rattle.auction.specs.Outcome.{results};
 ghost use Rattle.clearing.specs.Clears.{Clears};
-ghost use Rattle.clearing.specs.Stages.{Settles};
+ghost use Rattle.clearing.specs.Settles.{Settles};
 
 pub enum Clearing {
     Cleared { cut: u32, margin: u64 },
@@ -16,7 +16,7 @@ pub enum Clearing {
 }
 
 // The clearing of an accepted market, with room for each guest's least charge.
-fn settle(
+fn clear_with_room(
     asks: &[u32],
     bays: &[u16],
     amounts: &[u16],
@@ -43,7 +43,7 @@ fn settle(
     }
 }
 
-fn settle_accepted(
+fn clear_accepted(
     asks: &[u32],
     bays: &[u16],
     amounts: &[u16],
@@ -59,7 +59,7 @@ fn settle_accepted(
 {
     let mut least = [0u32; MAX_GUESTS];
     let n = amounts.len();
-    settle(
+    clear_with_room(
         asks,
         bays,
         amounts,
@@ -99,7 +99,7 @@ pub fn clear(
     );
     match verdict {
         Verdict::Refused(refusal) => Clearing::Refused(refusal),
-        Verdict::Accepted => settle_accepted(
+        Verdict::Accepted => clear_accepted(
             asks,
             bays,
             amounts,

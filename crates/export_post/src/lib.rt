@@ -7,7 +7,7 @@ ghost use Rattle.auction.specs.Refusals.{code};
 ghost use Rattle.round.specs.Round.{verdictOf};
 ghost use Rattle.book.specs.Posting.{posting};
 ghost use Rattle.book.specs.LentBook.{book};
-ghost use Rattle.book.specs.Ledger.{Posted, Numbered};
+ghost use Rattle.export_post.specs.PostsOut.{PostsOut};
 
 fn reply_number(reply: Reply) -> u8
     ensures { λ k. ⌜ k ≡ code (verdictOf reply) ⌝ }
@@ -32,7 +32,7 @@ pub extern "C" fn bay_market_post(
     house: &mut u64,
     last: &mut u32,
 ) -> u8
-    ensures { λ k. ⌜ Numbered (book (now (guests .entry)) (now (stations .entry)) (now (house .entry)) (now (last .entry)))
+    ensures { λ k. ⌜ PostsOut (book (now (guests .entry)) (now (stations .entry)) (now (house .entry)) (now (last .entry)))
         (posting (tables (now (asks .entry)) (now (bays .entry)) (now (amounts .entry)) (now (bids .entry)) width) round)
         (book (now (guests .exit)) (now (stations .exit)) (now (house .exit)) (now (last .exit))) k ⌝ }
 {

@@ -1,4 +1,5 @@
-// The fields of a sheet: numbers of 2 and of 4 bytes and bit maps, each with the place after it.
+// The fields of a sheet: numbers of 2 and of 4 bytes and bit maps, each with the place after it. For `passes`
+// and `checking`, which ask `ends` before they take a field, and for `filling`, whose sheet has no fault: that is what is required here.
 ghost use Prim.Native.Nat.{_+_, _*_, _^_, _<_, _≤_};
 ghost use mathlib.Core.Path.{_≡_};
 ghost use lib.ListN.{length};

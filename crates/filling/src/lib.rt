@@ -105,7 +105,7 @@ fn fill_row(
     fill_some(s, c, bits, stations, base, bids)
 }
 
-// The amounts and bids of all guests.
+// The amounts and bids of all guests. Required as in `fill_stations`.
 pub fn fill_rows(
     s: &[u8],
     c: Cursor,

@@ -32,7 +32,7 @@ impl Mills {
         Mills(x as u64)
     }
 
-    // Into a table of 32-bit numbers, for `selection` and `offers`, whose products fit.
+    // Into a table of 32-bit numbers, for `totals`, `charges` and `offers`, whose numbers are at most 10^9.
     pub fn narrow(self) -> u32
         requires { ⌜ self .0 < 2 ^ 32 ⌝ }
         ensures { λ r. ⌜ r ≡ self .0 ⌝ }
@@ -40,7 +40,7 @@ impl Mills {
         self.0 as u32
     }
 
-    // For `sales`, whose sums fit.
+    // For `margin`, which adds at most 200 numbers of 32 bits.
     pub fn plus(self, other: Mills) -> Mills
         requires { ⌜ self .0 + other .0 < 2 ^ 64 ⌝ }
         ensures { λ r. ⌜ r .0 ≡ self .0 + other .0 ⌝ }
@@ -48,7 +48,7 @@ impl Mills {
         Mills(self.0 + other.0)
     }
 
-    // For `offers` and `sales`, which take away no more than there is.
+    // For `offers` and `margin`, which take away no more than there is.
     pub fn less(self, other: Mills) -> Mills
         requires { ⌜ other .0 ≤ self .0 ⌝ }
         ensures { λ r. ⌜ r .0 ≡ self .0 - other .0 ⌝ }

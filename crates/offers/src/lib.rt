@@ -48,7 +48,8 @@ fn pick(old: u32, new: u32, a: u32, b: u32) -> u32
     if signed::below(old, new) { a } else { b }
 }
 
-// One station's offers to every guest: where an offer gains more than the best so far, it is chosen. For `assignment`.
+// One station's offers to every guest: where an offer gains more than the best so far, it is chosen. For `turns`: its lists are
+// those of an accepted market, and what it requires comes from `totals`, `selection` and `ties`.
 pub fn offer(
     totals: &[u32],
     least: &[u32],

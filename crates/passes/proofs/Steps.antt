@@ -1,4 +1,4 @@
--- The steps of the checking pass, told and read.
+-- The steps of the pass over rows, told and read.
 use Prim.Native.Nat.{ℕ}
 use mathlib.Core.Path.{_≡_, refl, ap}
 use native.Mathlib.Omega.{arith}

@@ -1,4 +1,4 @@
--- What a pass over rows promises. Nothing that `read` promises depends on this file.
+-- What a pass over rows promises. Nothing that `sheet::read` promises depends on this file.
 use Prim.Native.Nat.{ℕ}
 use Rattle.auction.specs.Refusals.{Verdict, accepted, refused}
 use Rattle.passes.specs.declared.Step.the-variants.{Next, Fault}

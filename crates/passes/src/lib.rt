@@ -1,4 +1,4 @@
-// The rows of a sheet, one after the other: where they end, or their first fault.
+// The checking pass over the rows of a sheet, one after the other: where they end, or their first fault.
 use fields::Cursor;
 use terms::Refusal;
 ghost use Prim.Native.Nat.{_≤_};

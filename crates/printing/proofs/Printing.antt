@@ -21,7 +21,7 @@ use Rattle.lines.proofs.Lines.{length-guest-lines, length-station-lines}
 use Rattle.page.specs.Text.{cutWord, marginWord, refusedWord, text, refusalText}
 use Rattle.clearing.proofs.Callers.{ClearedAs}
 use Rattle.printing.specs.MarketText.{marketText, marketTextOf}
-use Rattle.printing.specs.Writing.{maxText, Prints}
+use Rattle.printing.specs.Prints.{maxText, Prints}
 
 pub prints : {t l l′ : List ℕ} {q : ℕ} → Wrote l 0 t l′ q → length t ≤ maxText → Prints t l q l′
 prints {t} {l} {l′} {q} w h = record { buffer-is = wrote-all l t l′ q w; length-is = omega (arith, w .next); fits = omega (arith, w .next) }

@@ -1,2 +1,2 @@
 pub mod MarketText
-pub mod Writing
+pub mod Prints

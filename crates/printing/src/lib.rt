@@ -6,7 +6,7 @@ ghost use lib.ListN.{length};
 ghost use Rattle.terms.specs.Limits.{maxGuests, maxStations};
 ghost use Rattle.auction.specs.Market.{tables};
 ghost use Rattle.printing.specs.MarketText.{marketTextOf};
-ghost use Rattle.printing.specs.Writing.{Prints};
+ghost use Rattle.printing.specs.Prints.{Prints};
 
 // The text of a market, by way of lent result lists.
 fn print_cleared(

@@ -12,9 +12,9 @@ use Rattle.checking.specs.Content.{readSheet, tablesOf}
 use Rattle.page.specs.Text.{refusalText}
 use Rattle.sheet.proofs.Callers.{ReadTables}
 use Rattle.printing.specs.MarketText.{marketTextOf}
-use Rattle.printing.specs.Writing.{Prints}
+use Rattle.printing.specs.Prints.{Prints}
 use Rattle.printing.proofs.Printing.{prints, length-refusal}
-use Rattle.report.specs.Text.{sheetText, printed}
+use Rattle.report.specs.Printed.{sheetText, printed}
 
 pub prints-fault : {l l′ : List ℕ} {q : ℕ} (s : List ℕ) (x : Refusal) → readSheet s ≡ content.fault x → Wrote l 0 (refusalText x) l′ q → Prints (printed s) l q l′
 unfolding printed sheetText
@@ -26,11 +26,11 @@ prints-sheet s t u e f p = rw e (rw f at p)
 
 -- ---- the tables that were read, as parts of the lent ones
 
-pub part-long : (xs ys : List ℕ) (n : ℕ) → take n xs ≡ ys → length ys ≡ n → n ≡ length (take n xs)
-part-long xs ys n e h = sym (ap length e ∙ h)
+pub read-part-long : (xs ys : List ℕ) (n : ℕ) → take n xs ≡ ys → length ys ≡ n → n ≡ length (take n xs)
+read-part-long xs ys n e h = sym (ap length e ∙ h)
 
 pub part-fits : (xs ys : List ℕ) (n : ℕ) → take n xs ≡ ys → length ys ≡ n → n ≤ length xs
-part-fits xs ys n e h = omega (arith, length-take n xs, part-long xs ys n e h)
+part-fits xs ys n e h = omega (arith, length-take n xs, read-part-long xs ys n e h)
 
 pub same-tables : {s a b c d : List ℕ} {n m : ℕ} → ReadTables s n m a b c d → tables (take m b) (take m c) (take n a) (take (n * m) d) (length (take m b)) ≡ tablesOf s
 same-tables r = λ i. record {

@@ -1,7 +1,7 @@
 // What the clearing program prints, as bytes in a lent buffer.
 use checking::Reading;
-ghost use Rattle.printing.specs.Writing.{Prints};
-ghost use Rattle.report.specs.Text.{printed};
+ghost use Rattle.printing.specs.Prints.{Prints};
+ghost use Rattle.report.specs.Printed.{printed};
 
 // The text that the clearing program prints for a sheet, as far as the buffer reaches. Gives the text's length.
 pub fn print_clearing(sheet: &[u8], out: &mut [u8]) -> usize

@@ -49,8 +49,8 @@ fn pay_out(kwh: &[u32], cut: UnitPrice, sold: &mut [u32], paid: &mut [u64])
     }
 }
 
-// What each station sold and is paid, from each guest's station number. It and `margin` are for `clearing`, whose checks and
-// assignment give what they require.
+// What each station sold and is paid, from each guest's station number. For `clearing`, whose checks and
+// assignment give what it requires.
 pub fn sell(stations: &[u16], amounts: &[u16], cut: UnitPrice, sold: &mut [u32], paid: &mut [u64])
     requires { ⌜ (length (now stations) ≡ length (now amounts)) × (length (now amounts) ≤ maxGuests) ⌝ }
     requires { ⌜ ((k : ℕ) → k < length (now amounts) → getD (now amounts) k 0 ≤ maxAmount) ⌝ }

@@ -1,4 +1,4 @@
-// Comparison of numbers below 2^31, as signed ones.
+// Comparison of numbers below 2^31, as signed ones. For `totals`, `selection` and `offers`, whose totals and gains are at most 10^9 + 1.
 ghost use Prim.Native.Nat.{_^_, _<_, max};
 ghost use mathlib.Core.Path.{_≡_};
 ghost use Rattle.auction.specs.Counting.{_<?_};

@@ -35,7 +35,7 @@ pub fn stations_exceed(stations: &[StationAccount], r: Round) -> bool
     found
 }
 
-// Station j's account with what the round adds; as it is where that would be above its limit, which `settle` refuses.
+// Station j's account with what the round adds; as it is where that would be above its limit, which `settling::settle` refuses.
 fn credited(account: StationAccount, r: Round, j: usize) -> StationAccount
     ensures { λ a. ⌜ a ≡ creditedOf r j account ⌝ }
 {

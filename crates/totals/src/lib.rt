@@ -1,5 +1,5 @@
-// Guests' totals at one station, in a table of 32-bit numbers, and the greatest. What is required here, and in `selection`, `ties`,
-// `offers`, `charges`, `sales` and `margin`, their callers have from the checks of the market's tables.
+// Guests' totals at one station, in a table of 32-bit numbers, and the greatest. For `turns`, whose market is accepted: that gives
+// what is required here.
 use money::UnitPrice;
 ghost use Prim.Native.Nat.{ℕ, _+_, _*_, _<_, _≤_};
 ghost use mathlib.Core.Path.{_≡_};

@@ -1,5 +1,6 @@
 -- An accepted market at its cut, and the choices after some stations.
 use Prim.Native.Nat.{ℕ, _+_, _≤_, _<_}
+use mathlib.Core.Bool.{Bool, true, false}
 use mathlib.Core.List.{List}
 use mathlib.Core.Path.{_≡_}
 use lib.ListN.{getD, length}
@@ -33,3 +34,8 @@ pub record After (S : Screened) (n j : ℕ) (chosen gains criticals : List ℕ) 
   pub criticals-long : length criticals ≡ maxStations + 1
   pub criticals-are : (k : ℕ) → k < j → getD criticals (k + 1) 0 ≡ critical (queue S k)
   pub criticals-left : (k : ℕ) → j ≤ k → getD criticals (k + 1) 0 ≡ 0
+
+-- the table of totals after a turn: those gathered where the station is open, else as it was
+unfoldable pub gatheredIf : Bool → (gathered entry : List ℕ) → List ℕ
+gatheredIf true gathered entry = gathered
+gatheredIf false gathered entry = entry

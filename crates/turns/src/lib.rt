@@ -2,10 +2,12 @@
 use money::UnitPrice;
 ghost use Prim.Native.Nat.{_+_, _<_};
 ghost use mathlib.Core.Path.{_≡_};
-ghost use lib.ListN.{length};
+ghost use lib.ListN.{length, getD};
+ghost use Rattle.auction.specs.Counting.{_<?_, list};
 ghost use Rattle.auction.specs.Outcome.{seen};
 ghost use Rattle.auction.specs.Market.{regular};
-ghost use Rattle.turns.specs.Stages.{AtCut, After};
+ghost use Rattle.totals.specs.Totals.{totalAt};
+ghost use Rattle.turns.specs.Stages.{AtCut, After, gatheredIf};
 
 // Station j's turn, after the stations before it. For `assignment`, whose market is accepted and at its cut.
 pub fn station(
@@ -25,6 +27,7 @@ pub fn station(
     requires { ⌜ (j < length (now asks)) × (length (now totals) ≡ length (now amounts)) ⌝ }
     requires { ⌜ After (seen (regular (now asks) (now bays) (now amounts) (now bids))) (length (now amounts)) j (now chosen) (now gains) (now criticals) ⌝ }
     ensures { λ _. ⌜ After (seen (regular (now (asks .entry)) (now (bays .entry)) (now (amounts .entry)) (now (bids .entry)))) (length (now (amounts .entry))) (j + 1) (now (chosen .exit)) (now (gains .exit)) (now (criticals .exit)) ⌝ }
+    ensures { λ _. ⌜ now (totals .exit) ≡ gatheredIf (getD (now (asks .entry)) j 0 <? cut .0) (list (length (now (amounts .entry))) (totalAt (now (bids .entry)) (now (amounts .entry)) (length (now (asks .entry))) j (cut .0))) (now (totals .entry)) ⌝ }
 {
     let ask = asks[j];
     if UnitPrice(ask).below(cut) {

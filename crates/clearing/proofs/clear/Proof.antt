@@ -1,6 +1,6 @@
 use mathlib.Core.Path.{sym, _∙_}
 use borrow.Author.Needs.{needs}
-use Rattle.clearing.proofs.Answers.{clear-refused, clear-accepts, clear-settled}
+use Rattle.clearing.proofs.Answers.{refused-clears, clear-accepts, clear-settled}
 use Rattle.clearing.proofs.clear.Statement.{statement}
 use Rattle.clearing.proofs.clear.Tie as tie
 
@@ -13,8 +13,8 @@ enum-known-verdict c = search needs
 enum-told : tie.Need-enum-told
 enum-told c = search needs
 
-settle-accepted-requires : tie.Need-settle-accepted-requires
-settle-accepted-requires c κs =
+clear-accepted-requires : tie.Need-clear-accepted-requires
+clear-accepted-requires c κs =
     let a = clear-accepts _ _ _ _ _ _ (sym (c .before .before .before .before .enum-told .given .1) ∙ c .before .before .before .before .before .before .first-fault .ensures) in
     (a .within, a .fits)
 
@@ -31,7 +31,7 @@ same-length-4 : tie.Need-same-length-4
 same-length-4 c = search needs
 
 returns : tie.Need-returns
-returns c = clear-refused _ _ (sym (c .before .verdict .given .1) ∙ c .before .before .before .first-fault .ensures)
+returns c = refused-clears _ _ (sym (c .before .verdict .given .1) ∙ c .before .before .before .first-fault .ensures)
 
 same-length-5 : tie.Need-same-length-5
 same-length-5 c = search needs
@@ -46,7 +46,7 @@ same-length-8 : tie.Need-same-length-8
 same-length-8 c = search needs
 
 returns-2 : tie.Need-returns-2
-returns-2 c = clear-settled _ _ _ _ _ _ (sym (c .before .before .before .before .before .before .before .before .before .before .before .before .before .enum-told .given .1) ∙ c .before .before .before .before .before .before .before .before .before .before .before .before .before .before .before .first-fault .ensures) (c .before .before .before .before .before .before .before .before .settle-accepted .ensures)
+returns-2 c = clear-settled _ _ _ _ _ _ (sym (c .before .before .before .before .before .before .before .before .before .before .before .before .before .enum-told .given .1) ∙ c .before .before .before .before .before .before .before .before .before .before .before .before .before .before .before .first-fault .ensures) (c .before .before .before .before .before .before .before .before .clear-accepted .ensures)
 
 pub clear-spec : {M : Type 1} → statement M
 clear-spec =
@@ -55,7 +55,7 @@ clear-spec =
     first-fault-requires
     enum-known-verdict
     enum-told
-    settle-accepted-requires
+    clear-accepted-requires
     same-length
     same-length-2
     same-length-3

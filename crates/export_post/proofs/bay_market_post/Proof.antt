@@ -46,11 +46,12 @@ use Rattle.stations.specs.declared.StationAccount.{StationAccount}
 use Rattle.stations.proofs.StationAccount as T
 use Rattle.book.specs.Posting.{Posting, posting}
 use Rattle.book.specs.LentBook.{LentBook, book}
-use Rattle.book.specs.Ledger.{Posted, Numbered}
+use Rattle.book.specs.Ledger.{Posted}
 use Rattle.posting.proofs.post as post
 use Rattle.posting.proofs.post.Symbol as post-def
 use Rattle.posting.proofs.post.Met as post-thm
 use Rattle.posting.proofs.post.Symbol.{name as #posting·post}
+use Rattle.export_post.specs.PostsOut.{PostsOut}
 use Rattle.export_post.proofs.reply_number as number
 use Rattle.export_post.proofs.reply_number.Symbol as number-def
 use Rattle.export_post.proofs.reply_number.Met as number-thm
@@ -60,8 +61,8 @@ use Rattle.export_post.proofs.bay_market_post.Code as code
 use Rattle.export_post.proofs.reply_number.Symbol.{name as #export-post·reply-number}
 use Rattle.export_post.proofs.bay_market_post.Key.{name as #export-post·bay-market-post}
 
-numbered : {entry exit : LentBook} {p : Posting} {v : Verdict} {k : ℕ} → Posted entry p v exit → k ≡ code v → Numbered entry p exit k
-numbered said e = record { number-is = e ∙ ap code (said .answered); exit-is = said .left }
+posted-out : {entry exit : LentBook} {p : Posting} {v : Verdict} {k : ℕ} → Posted entry p v exit → k ≡ code v → PostsOut entry p exit k
+posted-out said e = record { number-is = e ∙ ap code (said .answered); exit-is = said .left }
 
 abbrev Nums : Type 0
 Nums = RefT (List ℕ)
@@ -176,7 +177,7 @@ module _ {M : Type 1} (𝓤 : URA M) (H : Heap 𝓤) (A : Atoms 𝓤) (W : Given
   exits r guests′ stations′ house′ last′ k v said e l-guests l-stations =
       qed W (Had guests′ stations′ house′ last′ k v) ∵
       suffices ! _ (ends-at 𝓤 H A f.ended stayed (f.clauses 𝓤 H A mem run) W bound v k (tt, (tt, (tt, (tt, (tt, (tt, (guests′, (stations′, (house′, (last′, tt)))))))))) (tt, (tt, (tt, (tt, (tt, (tt, (l-guests, (l-stations, (tt, (tt, tt))))))))))) $
-      says ! (numbered said e) $ frame ! $ fsplit ! $ move ! (1 ∷ []) $ fsplit ! $ move ! (1 ∷ []) $ fsplit ! $ move ! (1 ∷ []) $ nothing ! $ move ! (8 ∷ 0 ∷ []) $ fjoin ! $ move ! (7 ∷ 0 ∷ []) $ fjoin ! $
+      says ! (posted-out said e) $ frame ! $ fsplit ! $ move ! (1 ∷ []) $ fsplit ! $ move ! (1 ∷ []) $ fsplit ! $ move ! (1 ∷ []) $ nothing ! $ move ! (8 ∷ 0 ∷ []) $ fjoin ! $ move ! (7 ∷ 0 ∷ []) $ fjoin ! $
       move ! (6 ∷ 0 ∷ []) $ fjoin ! $ move ! (5 ∷ 0 ∷ []) $ fjoin ! $ owned ! u32 (Is u32) (uint-makes 𝓤 H A W w32) round _ (refl, round-fits) $ fjoin ! $
       owned ! usize (Is usize) (uint-makes 𝓤 H A W w64) width _ (refl, width-fits) $ fjoin ! $ move ! (1 ∷ 0 ∷ []) $ fjoin ! $ move ! (1 ∷ 0 ∷ []) $ fjoin ! $ move ! (1 ∷ 0 ∷ []) $
       fjoin ! $ move ! (1 ∷ 0 ∷ []) $ fjoin ! $ frame ! $ done !

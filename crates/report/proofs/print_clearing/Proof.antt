@@ -2,7 +2,7 @@ use mathlib.Core.Path.{refl}
 use native.Mathlib.Omega.{arith}
 use borrow.Author.Needs.{needs}
 use Rattle.sheet.proofs.Callers.{read-tables, read-fault}
-use Rattle.report.proofs.Sheets.{part-long, part-fits, same-tables, prints-fault, prints-sheet}
+use Rattle.report.proofs.Sheets.{read-part-long, part-fits, same-tables, prints-fault, prints-sheet}
 use Rattle.report.proofs.print_clearing.Statement.{statement}
 use Rattle.report.proofs.print_clearing.Tie as tie
 
@@ -34,19 +34,19 @@ array-share-prefix-asks : tie.Need-array-share-prefix-asks
 array-share-prefix-asks c = let t = read-tables _ _ _ _ _ _ _ _ _ _ (c .before .before .before .before .before .before .before .read .ensures) _ _ (c .before .guests .given .1) in part-fits _ _ _ (t .asks-are) (t .asks-long)
 
 slice-aggregate-print-market : tie.Need-slice-aggregate-print-market
-slice-aggregate-print-market c = let t = read-tables _ _ _ _ _ _ _ _ _ _ (c .before .before .before .before .before .before .before .before .read .ensures) _ _ (c .before .before .guests .given .1) in part-long _ _ _ (t .asks-are) (t .asks-long)
+slice-aggregate-print-market c = let t = read-tables _ _ _ _ _ _ _ _ _ _ (c .before .before .before .before .before .before .before .before .read .ensures) _ _ (c .before .before .guests .given .1) in read-part-long _ _ _ (t .asks-are) (t .asks-long)
 
 array-share-prefix-bays : tie.Need-array-share-prefix-bays
 array-share-prefix-bays c = let t = read-tables _ _ _ _ _ _ _ _ _ _ (c .before .before .before .before .before .before .before .before .read .ensures) _ _ (c .before .before .guests .given .1) in part-fits _ _ _ (t .bays-are) (t .bays-long)
 
 slice-aggregate-print-market-2 : tie.Need-slice-aggregate-print-market-2
-slice-aggregate-print-market-2 c = let t = read-tables _ _ _ _ _ _ _ _ _ _ (c .before .before .before .before .before .before .before .before .before .read .ensures) _ _ (c .before .before .before .guests .given .1) in part-long _ _ _ (t .bays-are) (t .bays-long)
+slice-aggregate-print-market-2 c = let t = read-tables _ _ _ _ _ _ _ _ _ _ (c .before .before .before .before .before .before .before .before .before .read .ensures) _ _ (c .before .before .before .guests .given .1) in read-part-long _ _ _ (t .bays-are) (t .bays-long)
 
 array-share-prefix-amounts : tie.Need-array-share-prefix-amounts
 array-share-prefix-amounts c = let t = read-tables _ _ _ _ _ _ _ _ _ _ (c .before .before .before .before .before .before .before .before .before .read .ensures) _ _ (c .before .before .before .guests .given .1) in part-fits _ _ _ (t .amounts-are) (t .amounts-long)
 
 slice-aggregate-print-market-3 : tie.Need-slice-aggregate-print-market-3
-slice-aggregate-print-market-3 c = let t = read-tables _ _ _ _ _ _ _ _ _ _ (c .before .before .before .before .before .before .before .before .before .before .read .ensures) _ _ (c .before .before .before .before .guests .given .1) in part-long _ _ _ (t .amounts-are) (t .amounts-long)
+slice-aggregate-print-market-3 c = let t = read-tables _ _ _ _ _ _ _ _ _ _ (c .before .before .before .before .before .before .before .before .before .before .read .ensures) _ _ (c .before .before .before .before .guests .given .1) in read-part-long _ _ _ (t .amounts-are) (t .amounts-long)
 
 mul-bids : tie.Need-mul-bids
 mul-bids c = let t = read-tables _ _ _ _ _ _ _ _ _ _ (c .before .before .before .before .before .before .before .before .before .before .read .ensures) _ _ (c .before .before .before .before .guests .given .1) in omega (arith, t .room)
@@ -55,10 +55,10 @@ array-share-prefix-bids : tie.Need-array-share-prefix-bids
 array-share-prefix-bids c = let t = read-tables _ _ _ _ _ _ _ _ _ _ (c .before .before .before .before .before .before .before .before .before .before .read .ensures) _ _ (c .before .before .before .before .guests .given .1) in part-fits _ _ _ (t .bids-are) (t .bids-long)
 
 slice-aggregate-print-market-4 : tie.Need-slice-aggregate-print-market-4
-slice-aggregate-print-market-4 c = let t = read-tables _ _ _ _ _ _ _ _ _ _ (c .before .before .before .before .before .before .before .before .before .before .before .read .ensures) _ _ (c .before .before .before .before .before .guests .given .1) in part-long _ _ _ (t .bids-are) (t .bids-long)
+slice-aggregate-print-market-4 c = let t = read-tables _ _ _ _ _ _ _ _ _ _ (c .before .before .before .before .before .before .before .before .before .before .before .read .ensures) _ _ (c .before .before .before .before .before .guests .given .1) in read-part-long _ _ _ (t .bids-are) (t .bids-long)
 
 print-market-requires : tie.Need-print-market-requires
-print-market-requires c κs = let t = read-tables _ _ _ _ _ _ _ _ _ _ (c .before .before .before .before .before .before .before .before .before .before .before .before .read .ensures) _ _ (c .before .before .before .before .before .before .guests .given .1) in (omega (arith, t .few, part-long _ _ _ (t .amounts-are) (t .amounts-long)), omega (arith, t .narrow, part-long _ _ _ (t .asks-are) (t .asks-long)))
+print-market-requires c κs = let t = read-tables _ _ _ _ _ _ _ _ _ _ (c .before .before .before .before .before .before .before .before .before .before .before .before .read .ensures) _ _ (c .before .before .before .before .before .before .guests .given .1) in (omega (arith, t .few, read-part-long _ _ _ (t .amounts-are) (t .amounts-long)), omega (arith, t .narrow, read-part-long _ _ _ (t .asks-are) (t .asks-long)))
 
 same-length : tie.Need-same-length
 same-length c = search needs

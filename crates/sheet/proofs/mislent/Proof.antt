@@ -1,4 +1,4 @@
--- The test is that of `lent`.
+-- The test is that of `lentTables`.
 use mathlib.Core.Path.{refl}
 use borrow.Author.Needs.{needs}
 use Rattle.auction.specs.Counting.{_=?_, _or_}

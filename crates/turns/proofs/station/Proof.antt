@@ -3,8 +3,10 @@ use native.Mathlib.Omega.{arith}
 use borrow.Author.Needs.{needs}
 use borrow.Author.Tests.{ltb-true, ltb-false}
 use Rattle.terms.specs.Limits.{maxGuests}
+use Rattle.auction.specs.Counting.{_<?_}
 use Rattle.auction.specs.Market.{regular}
 use Rattle.auction.proofs.Loops.{long}
+use Rattle.turns.specs.Stages.{gatheredIf}
 use Rattle.turns.proofs.station.Statement.{statement}
 use Rattle.turns.proofs.station.Tie as tie
 use Rattle.turns.proofs.Turns.{few-above, offerable, all-low, none-above, top-low, critical-low, shut, turned}
@@ -70,13 +72,18 @@ same-length-4 : tie.Need-same-length-4
 same-length-4 c = search needs
 
 returns : tie.Need-returns
+unfolding gatheredIf _<?_
 returns c =
     let critical = c .before .before .before .before .before .before .before .before .before .before .critical-total .ensures in
-    turned (regular _ _ _ _) _ _ (c .before .before .before .before .before .before .before .before .before .before .before .before .before .before .before .before .before .before .before .before .before .before .before .before .before .before .before .before .before .pre .0) _ (c .before .before .before .before .before .before .before .before .before .before .before .before .before .before .before .before .before .before .before .before .before .before .before .before .before .before .before .before .before .pre .1 .0 .0) (ltb-true _ _ (sym (c .before .before .before .before .before .before .before .before .before .before .before .before .before .before .before .before .before .before .below .ensures) ∙ c .before .before .before .before .before .before .before .before .before .before .before .before .before .before .before .before .before .if1 .taken))
-    _ (c .before .before .before .before .before .before .before .before .before .before .before .before .before .before .before .gather .ensures .totals-are) _ _ _ refl (critical .least-few) (rw (← critical .counted) (c .before .before .before .before .before .before .before .before .tie-bound .ensures)) _ refl (c .before .before .before .before .before .before .before .before .before .before .before .before .before .before .before .before .before .before .before .before .before .before .before .before .before .before .before .before .before .pre .1 .1) (c .before .before .before .before .offer .ensures)
+    (
+      turned (regular _ _ _ _) _ _ (c .before .before .before .before .before .before .before .before .before .before .before .before .before .before .before .before .before .before .before .before .before .before .before .before .before .before .before .before .before .pre .0) _ (c .before .before .before .before .before .before .before .before .before .before .before .before .before .before .before .before .before .before .before .before .before .before .before .before .before .before .before .before .before .pre .1 .0 .0) (ltb-true _ _ (sym (c .before .before .before .before .before .before .before .before .before .before .before .before .before .before .before .before .before .before .below .ensures) ∙ c .before .before .before .before .before .before .before .before .before .before .before .before .before .before .before .before .before .if1 .taken))
+      _ (c .before .before .before .before .before .before .before .before .before .before .before .before .before .before .before .gather .ensures .totals-are) _ _ _ refl (critical .least-few) (rw (← critical .counted) (c .before .before .before .before .before .before .before .before .tie-bound .ensures)) _ refl (c .before .before .before .before .before .before .before .before .before .before .before .before .before .before .before .before .before .before .before .before .before .before .before .before .before .before .before .before .before .pre .1 .1) (c .before .before .before .before .offer .ensures),
+      rw (sym (c .before .before .before .before .before .before .before .before .before .before .before .before .before .before .before .before .before .before .below .ensures) ∙ c .before .before .before .before .before .before .before .before .before .before .before .before .before .before .before .before .before .if1 .taken) (c .before .before .before .before .before .before .before .before .before .before .before .before .before .before .before .gather .ensures .totals-are),
+    )
 
 returns-2 : tie.Need-returns-2
-returns-2 c = shut (regular _ _ _ _) _ _ (c .before .before .before .before .before .before .before .before .before .before .before .before .pre .0) (ltb-false _ _ (sym (c .before .below .ensures) ∙ c .if1 .left)) (c .before .before .before .before .before .before .before .before .before .before .before .before .pre .1 .1)
+unfolding gatheredIf _<?_
+returns-2 c = (shut (regular _ _ _ _) _ _ (c .before .before .before .before .before .before .before .before .before .before .before .before .pre .0) (ltb-false _ _ (sym (c .before .below .ensures) ∙ c .if1 .left)) (c .before .before .before .before .before .before .before .before .before .before .before .before .pre .1 .1), rw (sym (c .before .below .ensures) ∙ c .if1 .left) refl)
 
 pub station-spec : {M : Type 1} → statement M
 station-spec =

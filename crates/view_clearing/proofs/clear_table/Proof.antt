@@ -1,4 +1,4 @@
--- `views::clear_table` meets its contract: a walk of its MIR, by hand. The view is taken apart, and `clear` is called on the plain slices; each `&mut` goes to it at its own lifetime, share and name, and is not needed after the call.
+-- `view_clearing::clear_table` meets its contract: a walk of its MIR, by hand. The view is taken apart, and `clear` is called on the plain slices; each `&mut` goes to it at its own lifetime, share and name, and is not needed after the call.
 -- All that the proof knows of `clear` is that it meets its contract.
 -- Assumes nothing.
 use Prim.Native.Nat.{ℕ, _<_, _^_}

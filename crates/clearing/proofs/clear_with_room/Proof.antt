@@ -4,8 +4,8 @@ use borrow.Author.Needs.{needs}
 use Rattle.auction.specs.Market.{regular}
 use Rattle.auction.proofs.Loops.{long}
 use Rattle.clearing.proofs.Answers.{cut-low, at-cut, stations-count, charges-count, stations-low, settles}
-use Rattle.clearing.proofs.settle.Statement.{statement}
-use Rattle.clearing.proofs.settle.Tie as tie
+use Rattle.clearing.proofs.clear_with_room.Statement.{statement}
+use Rattle.clearing.proofs.clear_with_room.Tie as tie
 
 cut-requires : tie.Need-cut-requires
 cut-requires c κs = search needs
@@ -52,8 +52,8 @@ same-length-5 c = search needs
 returns : tie.Need-returns
 returns c = settles (regular _ _ _ _) (c .before .before .before .before .before .before .before .before .before .before .before .before .before .before .before .assign-all .ensures) (at-cut (regular _ _ _ _) (c .before .before .before .before .before .before .before .before .before .before .before .before .before .before .before .before .before .before .before .before .before .before .before .before .before .before .before .before .before .before .before .before .before .pre .0) (c .before .before .before .before .before .before .before .before .before .before .before .before .before .before .before .before .before .before .before .before .before .before .before .cut .ensures) (c .before .before .before .before .before .before .before .before .before .before .before .before .before .before .before .before .before .before .before .before .before .least-charges .ensures)) (c .before .before .before .before .before .before .before .before .before .before .before .before .before .before .before .before .before .before .before .before .before .before .before .before .before .before .before .before .before .before .before .before .before .pre .1 .0 .sold-long) (c .before .before .before .before .before .before .before .sell .ensures) (c .margin .ensures)
 
-pub settle-spec : {M : Type 1} → statement M
-settle-spec =
+pub clear-with-room-spec : {M : Type 1} → statement M
+clear-with-room-spec =
     tie.close
     (tie.spec
     cut-requires

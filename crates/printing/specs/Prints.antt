@@ -9,7 +9,7 @@ use Rattle.text.specs.Writing.{overlaid}
 abbrev pub maxText : ℕ
 maxText = 20_093
 
--- the contract of `print_clearing`: the buffer holds the text as far as it reaches, and the answer is the text's length
+-- the contract of `print_market`, and of `report::print_clearing`: the buffer holds the text as far as it reaches, and the answer is the text's length
 pub record Prints (t out : List ℕ) (r : ℕ) (out′ : List ℕ) : Type 0 where
   pub buffer-is : out′ ≡ overlaid t out
   pub length-is : r ≡ length t

@@ -1,4 +1,4 @@
--- What the contract of the accepted market's clearing cites.
+-- What the clearing of an accepted market promises.
 use mathlib.Core.Path.{_≡_}
 use Rattle.auction.specs.Market.{Tables}
 use Rattle.auction.specs.Outcome.{Results, outcome}
