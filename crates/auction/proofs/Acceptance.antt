@@ -1,63 +1,29 @@
 -- A market is accepted exactly within the limits of document 01's 'A market'.
-use Prim.Native.Nat.{ℕ, _≤_, _<_}
-use mathlib.Core.Bool.{Bool, true, false, not}
-use mathlib.Core.List.{List, [], _∷_, _++_}
-use mathlib.Core.Path.{_≡_, refl, ap}
+use Prim.Native.Nat.{ℕ, _*_, _≤_, _<_}
+use mathlib.Core.Bool.{false, not}
+use mathlib.Core.List.{List}
+use mathlib.Core.Path.{_≡_, ap}
 use native.Mathlib.Omega.{arith}
+use native.Mathlib.Nat.{mul-le-mul-right}
 use lib.ListN.{getD, length}
 use borrow.Author.Tests.{not-false}
-use Rattle.terms.specs.Limits.{maxPrice}
-use Rattle.terms.specs.declared.Refusal.{Refusal}
-use Rattle.auction.specs.Counting.{_=?_, any}
-use Rattle.auction.specs.Refusals.{Row, _gives_, accepted, refused, firstFault}
+use Rattle.terms.specs.Limits.{maxGuests, maxStations, maxPrice}
+use Rattle.auction.specs.Counting.{_<?_, _=?_, _or_, any}
+use Rattle.auction.specs.Refusals.{accepted, firstFault}
 use Rattle.auction.specs.Market.{Tables}
 use Rattle.auction.specs.Faults.{outside, counts, lengths, lent, values, marketFaults, verdict, Accepted, clearingFaults, Book, bookSize, outOfTurn, postingFaults}
 use Rattle.auction.specs.Outcome.{Results}
 use Rattle.auction.specs.Readings.{WithinLimits, AcceptedReads, CallWithinLimits, CallAcceptedReads, PostingWithinLimits, PostingAcceptedReads}
 use Rattle.auction.proofs.Tests.{or-no, neither, lt-no, not-lt, le-no, not-le, eq-yes, eq-no, is-eq, not-eq}
 use Rattle.auction.proofs.Counting.{any-no, none-any}
+use Rattle.auction.proofs.Refusals.{fault-none, no-fault, no-faults, fault-second, fault-free}
 
-pub stop : {b : Bool} (r : Refusal) (rows : List Row) → b ≡ true → firstFault ((b gives r) ∷ rows) ≡ refused r
-unfolding firstFault
-stop r rows e = rw e refl
+-- counts within the limits
+pub counted : (n m : ℕ) → (maxGuests <? n or m =? 0 or maxStations <? m) ≡ false → (n ≤ maxGuests) × (1 ≤ m) × (m ≤ maxStations)
+counted n m e = let (a, most) = or-no _ _ e in let (guests, some) = or-no _ _ a in (lt-no _ _ guests, omega (arith, eq-no _ _ some), lt-no _ _ most)
 
-pub pass : {b : Bool} (r : Refusal) (rows : List Row) → b ≡ false → firstFault ((b gives r) ∷ rows) ≡ firstFault rows
-unfolding firstFault
-pass r rows e = rw e refl
-
--- no row of a table holds: not the first, and none of the rest
-pub clear-of : (b : Bool) (r : Refusal) (rows : List Row) → firstFault ((b gives r) ∷ rows) ≡ accepted → (b ≡ false) × (firstFault rows ≡ accepted)
-unfolding firstFault
-clear-of true r rows e = absurd (let z : _≡_ {A = ℕ} 0 1 = cc in omega arith)
-clear-of false r rows e = (refl, e)
-
-pub clear : {b : Bool} (r : Refusal) (rows : List Row) → b ≡ false → firstFault rows ≡ accepted → firstFault ((b gives r) ∷ rows) ≡ accepted
-unfolding firstFault
-clear r rows p e = rw p e
-
--- no row of two tables in turn holds
-pub clear-of-both : (xs ys : List Row) → firstFault (xs ++ ys) ≡ accepted → (firstFault xs ≡ accepted) × (firstFault ys ≡ accepted)
-unfolding firstFault
-clear-of-both [] ys e = (refl, e)
-clear-of-both ((true gives r) ∷ xs) ys e = absurd (let z : _≡_ {A = ℕ} 0 1 = cc in omega arith)
-clear-of-both ((false gives r) ∷ xs) ys e = clear-of-both xs ys e
-
--- of two tables in turn, the first answers where it refuses, and the second where the first accepts
-pub first-refuses : (xs ys : List Row) (r : Refusal) → firstFault xs ≡ refused r → firstFault (xs ++ ys) ≡ refused r
-unfolding firstFault
-first-refuses [] ys r e = absurd (let z : _≡_ {A = ℕ} 0 1 = cc in omega arith)
-first-refuses ((true gives q) ∷ xs) ys r e = e
-first-refuses ((false gives q) ∷ xs) ys r e = first-refuses xs ys r e
-
-pub first-accepts : (xs ys : List Row) → firstFault xs ≡ accepted → firstFault (xs ++ ys) ≡ firstFault ys
-unfolding firstFault
-first-accepts [] ys e = refl
-first-accepts ((true gives q) ∷ xs) ys e = absurd (let z : _≡_ {A = ℕ} 0 1 = cc in omega arith)
-first-accepts ((false gives q) ∷ xs) ys e = first-accepts xs ys e
-
-pub no-rows : firstFault [] ≡ accepted
-unfolding firstFault
-no-rows = refl
+pub product-fits : (n m : ℕ) → n ≤ maxGuests → m ≤ maxStations → n * m ≤ maxGuests * maxStations
+product-fits n m a b = omega (arith, mul-le-mul-right m a)
 
 pub inside : (low high x : ℕ) → outside low high x ≡ false → (low ≤ x) × (x ≤ high)
 unfolding outside
@@ -79,21 +45,20 @@ not-unequal a b e = ap not (is-eq a b e)
 within : (t : Tables) → Accepted t → WithinLimits t
 unfolding verdict marketFaults counts lengths values
 within t e =
-    let (c, e1) = clear-of _ _ _ e in
-    let (l, e2) = clear-of _ _ _ e1 in
-    let (asks, e3) = clear-of _ _ _ e2 in
-    let (bays, e4) = clear-of _ _ _ e3 in
-    let (amounts, e5) = clear-of _ _ _ e4 in
-    let (bids, e6) = clear-of _ _ _ e5 in
-    let (c01, most) = or-no _ _ c in
-    let (guests, some) = or-no _ _ c01 in
+    let (c, e1) = no-fault _ _ _ e in
+    let (l, e2) = no-fault _ _ _ e1 in
+    let (asks, e3) = no-fault _ _ _ e2 in
+    let (bays, e4) = no-fault _ _ _ e3 in
+    let (amounts, e5) = no-fault _ _ _ e4 in
+    let (bids, e6) = no-fault _ _ _ e5 in
+    let k = counted (length (t .amounts)) (length (t .asks)) c in
     let (l01, width) = or-no _ _ l in
     let (bay-list, bid-list) = or-no _ _ l01 in
     let bays-long : length (t .bays) ≡ length (t .asks) = equal _ _ bay-list in
     record {
-      guests-most = lt-no _ _ guests;
-      stations-least = omega (arith, eq-no _ _ some);
-      stations-most = lt-no _ _ most;
+      guests-most = k .0;
+      stations-least = k .1;
+      stations-most = k .2;
       bays-length = bays-long;
       bids-length = equal _ _ bid-list;
       width-is = equal _ _ width;
@@ -108,13 +73,13 @@ within t e =
 accept : (t : Tables) → WithinLimits t → Accepted t
 unfolding verdict marketFaults counts lengths values
 accept t w =
-    clear _ _ (neither (neither (not-lt _ _ (w .guests-most)) (not-eq (length (t .asks)) 0 (λ q. omega (arith, w .stations-least)))) (not-lt _ _ (w .stations-most)))
-    (clear _ _ (neither (neither (not-unequal _ _ (w .bays-length)) (not-unequal _ _ (w .bids-length))) (not-unequal _ _ (w .width-is)))
-    (clear _ _ (none-any (t .asks) _ (λ j lj. not-outside 0 maxPrice _ (omega arith) (w .ask-most j lj)))
-    (clear _ _ (none-any (t .bays) _ (λ j lj. let l : j < length (t .asks) = omega (arith, w .bays-length) in not-outside _ _ _ (w .bays-least j l) (w .bays-most j l)))
-    (clear _ _ (none-any (t .amounts) _ (λ i li. not-outside _ _ _ (w .amount-least i li) (w .amount-most i li)))
-    (clear _ _ (none-any (t .bids) _ (λ q lq. not-outside 0 maxPrice _ (omega arith) (w .bid-most q lq)))
-    no-rows)))))
+    fault-free _ _ (neither (neither (not-lt _ _ (w .guests-most)) (not-eq (length (t .asks)) 0 (λ q. omega (arith, w .stations-least)))) (not-lt _ _ (w .stations-most)))
+    (fault-free _ _ (neither (neither (not-unequal _ _ (w .bays-length)) (not-unequal _ _ (w .bids-length))) (not-unequal _ _ (w .width-is)))
+    (fault-free _ _ (none-any (t .asks) _ (λ j lj. not-outside 0 maxPrice _ (omega arith) (w .ask-most j lj)))
+    (fault-free _ _ (none-any (t .bays) _ (λ j lj. let l : j < length (t .asks) = omega (arith, w .bays-length) in not-outside _ _ _ (w .bays-least j l) (w .bays-most j l)))
+    (fault-free _ _ (none-any (t .amounts) _ (λ i li. not-outside _ _ _ (w .amount-least i li) (w .amount-most i li)))
+    (fault-free _ _ (none-any (t .bids) _ (λ q lq. not-outside 0 maxPrice _ (omega arith) (w .bid-most q lq)))
+    fault-none)))))
 
 pub accepted-reads : AcceptedReads
 accepted-reads t = (within t, accept t)
@@ -122,23 +87,23 @@ accepted-reads t = (within t, accept t)
 call-within : (t : Tables) (r : Results) → firstFault (clearingFaults t r) ≡ accepted → CallWithinLimits t r
 unfolding verdict marketFaults clearingFaults counts lengths lent
 call-within t r e =
-    let (c, e1) = clear-of _ _ _ e in
-    let (l, e2) = clear-of _ _ _ e1 in
-    let (k, e3) = clear-of _ _ _ e2 in
+    let (c, e1) = no-fault _ _ _ e in
+    let (l, e2) = no-fault _ _ _ e1 in
+    let (k, e3) = no-fault _ _ _ e2 in
     let (k012, paid) = or-no _ _ k in
     let (k01, sold) = or-no _ _ k012 in
     let (stations, charges) = or-no _ _ k01 in
     record {
-      market-accepted = clear _ _ c (clear _ _ l e3);
+      market-accepted = fault-free _ _ c (fault-free _ _ l e3);
       lists-fit = record { stations-long = equal _ _ stations; charges-long = equal _ _ charges; sold-long = equal _ _ sold; paid-long = equal _ _ paid };
     }
 
 call-accept : (t : Tables) (r : Results) → CallWithinLimits t r → firstFault (clearingFaults t r) ≡ accepted
 unfolding verdict marketFaults clearingFaults counts lengths lent
 call-accept t r w =
-    let (c, e1) = clear-of _ _ _ (w .market-accepted) in
-    let (l, e2) = clear-of _ _ _ e1 in
-    clear _ _ c (clear _ _ l (clear _ _
+    let (c, e1) = no-fault _ _ _ (w .market-accepted) in
+    let (l, e2) = no-fault _ _ _ e1 in
+    fault-free _ _ c (fault-free _ _ l (fault-free _ _
     (neither (neither (neither (not-unequal _ _ (w .lists-fit .stations-long)) (not-unequal _ _ (w .lists-fit .charges-long))) (not-unequal _ _ (w .lists-fit .sold-long))) (not-unequal _ _ (w .lists-fit .paid-long)))
     e2))
 
@@ -148,10 +113,10 @@ call-accepted-reads t r = (call-within t r, call-accept t r)
 posting-within : (t : Tables) (round : ℕ) (B : Book) → firstFault (postingFaults t round B) ≡ accepted → PostingWithinLimits t round B
 unfolding verdict postingFaults bookSize outOfTurn
 posting-within t round B e =
-    let (m, e1) = clear-of-both (marketFaults t) _ e in
-    let (size, e2) = clear-of _ _ _ e1 in
-    let (turn, e3) = clear-of _ _ _ e2 in
-    let (room, e4) = clear-of _ _ _ e3 in
+    let (m, e1) = no-faults (marketFaults t) _ e in
+    let (size, e2) = no-fault _ _ _ e1 in
+    let (turn, e3) = no-fault _ _ _ e2 in
+    let (room, e4) = no-fault _ _ _ e3 in
     let (g, s) = or-no _ _ size in
     let (left, next) = or-no _ _ turn in
     let (before, after) = or-no _ _ room in
@@ -170,11 +135,11 @@ posting-within t round B e =
 posting-accept : (t : Tables) (round : ℕ) (B : Book) → PostingWithinLimits t round B → firstFault (postingFaults t round B) ≡ accepted
 unfolding verdict postingFaults bookSize outOfTurn
 posting-accept t round B w =
-    rw (first-accepts (marketFaults t) _ (w .market-accepted))
-    (clear _ _ (neither (not-outside _ _ _ (w .guests-least) (w .guests-most)) (not-outside _ _ _ (w .stations-least) (w .stations-most)))
-    (clear _ _ (neither (not-le _ _ (w .rounds-left)) (not-unequal _ _ (w .next-round)))
-    (clear _ _ (neither (w .within-before) (w .within-after))
-    no-rows)))
+    rw (fault-second (marketFaults t) _ (w .market-accepted))
+    (fault-free _ _ (neither (not-outside _ _ _ (w .guests-least) (w .guests-most)) (not-outside _ _ _ (w .stations-least) (w .stations-most)))
+    (fault-free _ _ (neither (not-le _ _ (w .rounds-left)) (not-unequal _ _ (w .next-round)))
+    (fault-free _ _ (neither (w .within-before) (w .within-after))
+    fault-none)))
 
 pub posting-accepted-reads : PostingAcceptedReads
 posting-accepted-reads t round B = (posting-within t round B, posting-accept t round B)

@@ -3,7 +3,7 @@ use Prim.Native.Nat.{ℕ, zero, suc, _+_, _*_, _≤_, _<_, max}
 use mathlib.Core.Bool.{Bool, true, false}
 use mathlib.Core.Logic.{_⊎_, inl, inr, ⊎-elim}
 use mathlib.Core.Path.{_≡_, refl, sym, ap, ap₂, _∙_}
-use mathlib.Core.List.{List, _∷_}
+use mathlib.Core.List.{List, [], _∷_, _++_}
 use native.Mathlib.Nat.{add-zero, eq-or-lt-of-le, le-of-suc-le-suc, not-suc-le-zero, le-refl}
 use native.Mathlib.Numerals.{add-one}
 use native.Mathlib.Omega.{arith}
@@ -136,6 +136,30 @@ unfolding count sum
 count-most zero f = omega arith
 count-most (suc n) f = omega (arith, count-most n f, only-le (f n) 1 1 (λ _. le-refl 1))
 
+pub count-up : (n m : ℕ) (f : ℕ → Bool) → n ≤ m → count n f ≤ count m f
+unfolding count sum
+count-up n zero f h = let e : n ≡ 0 = omega arith in rw e (omega arith)
+count-up n (suc m) f h = ⊎-elim
+    (λ (e : n ≡ suc m). rw e (omega arith))
+    (λ (l : n < suc m). omega (arith, count-up n m f (le-of-suc-le-suc l)))
+    (eq-or-lt-of-le h)
+
+-- where all n pass, each does, and all below each
+pub count-all : (n : ℕ) (f : ℕ → Bool) → count n f ≡ n → (k : ℕ) → k < n → (count k f ≡ k) × (f k ≡ true)
+unfolding count sum only
+count-all zero f e k l = absurd (omega arith)
+count-all (suc n) f e k l = ⊎-elim
+    (λ (t : f n ≡ true). let c : count n f ≡ n = omega (arith, rw t at e) in ⊎-elim
+    (λ (q : k ≡ n). rw q (c, t))
+    (λ (q : k < n). count-all n f c k q)
+    (eq-or-lt-of-le (le-of-suc-le-suc l)))
+    (λ (t : f n ≡ false). absurd (omega (arith, rw t at e, count-most n f)))
+    (decide (f n))
+
+pub count-front : (n : ℕ) (f : ℕ → Bool) → count (suc n) f ≡ only (f 0) 1 + count n (λ k. f (suc k))
+unfolding count
+count-front n f = sum-front n (λ k. only (f k) 1)
+
 -- counting those below i is counting the first i
 pub count-first : (f : ℕ → Bool) (n i : ℕ) → i ≤ n → count n (λ k. f k and k <? i) ≡ count i f
 unfolding count sum
@@ -252,3 +276,12 @@ pub list-cong : (n : ℕ) (f g : ℕ → ℕ) → ((k : ℕ) → k < n → f k �
 unfolding list
 list-cong zero f g h = refl
 list-cong (suc n) f g h = ap₂ _∷_ (h 0 (omega arith)) (list-cong n (λ k. f (suc k)) (λ k. g (suc k)) (λ k l. h (suc k) (omega arith)))
+
+list-suc : (n : ℕ) (f : ℕ → ℕ) → list (suc n) f ≡ list n f ++ (f n ∷ [])
+unfolding list
+list-suc zero f = refl
+list-suc (suc n) f = ap (λ l. f 0 ∷ l) (list-suc n (λ k. f (suc k)))
+
+-- a step of a loop that fills, in the code's j + 1
+pub list-step : (j : ℕ) (f : ℕ → ℕ) → list (j + 1) f ≡ list j f ++ (f j ∷ [])
+list-step j f = rw add-one (list-suc j f)

@@ -5,6 +5,7 @@ pub mod Choice
 pub mod Queues
 pub mod Pivots
 pub mod Cut
+pub mod Refusals
 pub mod Acceptance
 pub mod Decisions
 pub mod Truthful

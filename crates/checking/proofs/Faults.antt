@@ -1,5 +1,5 @@
 -- The faults of a sheet, as the checking pass meets them.
-use Prim.Native.Nat.{ℕ, zero, suc, _+_, _*_, _≤_, _<_}
+use Prim.Native.Nat.{ℕ, _+_, _*_, _≤_, _<_}
 use mathlib.Core.Bool.{Bool, true, false}
 use mathlib.Core.List.{List, [], _∷_, _++_}
 use mathlib.Core.Path.{_≡_, refl, ap, _∙_}
@@ -8,16 +8,17 @@ use lib.ListN.{length}
 use Rattle.terms.specs.Limits.{maxGuests, maxStations}
 use Rattle.terms.specs.declared.Refusal.the-variants.{SheetEnds, CountsOutOfRange, TrailingBytes}
 use Rattle.terms.specs.declared.Refusal.{Refusal}
-use Rattle.auction.specs.Counting.{_<?_, _=?_, _or_}
+use Rattle.auction.specs.Counting.{_<?_}
 use Rattle.auction.specs.Faults.{counts}
 use Rattle.auction.specs.Refusals.{_gives_, accepted, refused, firstFault}
-use Rattle.auction.proofs.Tests.{lt-no, eq-no, is-lt, not-lt, not-eq, or-no, neither}
+use Rattle.auction.proofs.Acceptance.{counted}
+use Rattle.auction.proofs.Tests.{lt-no, is-lt, not-lt, not-eq, neither}
+use Rattle.auction.proofs.Refusals.{fault-here, fault-later, fault-none, no-fault, fault-first, fault-second, no-faults}
 use Rattle.fields.specs.Taken.{Taken}
 use Rattle.fields.specs.Rows.{rowAt, rowsFaults}
 use Rattle.fields.specs.declared.Cursor.{Cursor}
 use Rattle.fields.proofs.Rows.{first-row}
-use Rattle.fields.proofs.Fields.{moved, narrow, wide}
-use Rattle.fields.proofs.Lists.{fault-here, fault-later, fault-none, no-fault, fault-first, fault-second, no-faults}
+use Rattle.fields.proofs.Fields.{moved, narrow}
 use Rattle.checking.specs.Content.{guests, stations, sheetFaults}
 
 pub sheet-short : (s : List ℕ) → length s < 4 → firstFault (sheetFaults s) ≡ refused SheetEnds
@@ -35,16 +36,9 @@ unfolding guests stations
 headed {s} {n} {m} {c} {d} h t u = record { within = h; n-is = t .value; m-is = moved s 2 (c .at) 2 (u .value) (omega (arith, t .place)) }
 
 -- what the test of the counts leaves
-pub counted : (n m : ℕ) → counts n m ≡ (false gives CountsOutOfRange) → (n ≤ maxGuests) × (1 ≤ m) × (m ≤ maxStations)
+pub counts-within : (n m : ℕ) → counts n m ≡ (false gives CountsOutOfRange) → (n ≤ maxGuests) × (1 ≤ m) × (m ≤ maxStations)
 unfolding counts
-counted n m e =
-    let b : (maxGuests <? n or m =? 0 or maxStations <? m) ≡ false = cc in
-    let (b1, wide) = or-no _ _ b in let (many, none) = or-no _ _ b1 in
-    (lt-no _ _ many, pos m (eq-no _ _ none), lt-no _ _ wide)
-  where
-    pos : (k : ℕ) → (k ≡ 0 → ⊥) → 1 ≤ k
-    pos zero h = absurd (h refl)
-    pos (suc k) h = omega arith
+counts-within n m e = counted n m (cc)
 
 pub counts-good : (n m : ℕ) → n ≤ maxGuests → 1 ≤ m → m ≤ maxStations → counts n m ≡ (false gives CountsOutOfRange)
 unfolding counts
@@ -91,7 +85,7 @@ unfolding sheetFaults counts
 sheet-sound s e =
     let (a, e1) = no-fault _ _ _ e in let (b, e2) = no-fault _ _ _ e1 in let (c, e3) = no-fault _ _ _ e2 in
     let (r, e4) = no-faults _ _ e3 in let (d, e5) = no-fault _ _ _ e4 in
-    let k = counted (guests s) (stations s) (ap (λ b. b gives CountsOutOfRange) b) in
+    let k = counted (guests s) (stations s) b in
     record {
       few = k .0;
       some = k .1;

@@ -1,6 +1,6 @@
 -- Laws of fields and bit maps.
 use Prim.Native.Nat.{ℕ, zero, suc, _+_, _*_, _-_, _/_, _%_, _^_, _≤_, _<_}
-use mathlib.Core.Bool.{Bool, true, false}
+use mathlib.Core.Bool.{true, false}
 use mathlib.Core.List.{List}
 use mathlib.Core.Logic.{⊎-elim}
 use mathlib.Core.Path.{_≡_, refl, sym, ap, _∙_}
@@ -12,11 +12,9 @@ use lib.ListN.{getD}
 use lib.Pow.{pow-mono, pow-add}
 use borrow.Author.Tests.{lt-ltb, le-ltb}
 use Rattle.auction.specs.Counting.{_<?_, _=?_, only, count}
-use Rattle.auction.proofs.Counting.{count-start, count-cong}
+use Rattle.auction.proofs.Counting.{count-start, count-cong, count-front}
 use Rattle.auction.proofs.Tests.{decide, lt-or-le, eq-yes, eq-no, only-yes, only-no}
 use Rattle.fields.specs.Fields.{number, hasBit}
-use Rattle.fields.specs.Rows.{bidBy}
-use Rattle.fields.proofs.Lists.{count-front, count-all}
 
 -- ---- numbers
 
@@ -108,36 +106,3 @@ ones-count (suc m) x h = ones-step x
 
 pub count-narrow : (m x : ℕ) → m ≤ 64 → x < 2 ^ m → count 64 (hasBit x) ≡ count m (hasBit x)
 count-narrow m x w h = sym (ones-count 64 x (omega (arith, pow-mono {i = m} {j = 64} w))) ∙ ones-count m x h
-
--- ---- bids
-
-pub bid-is : (s : List ℕ) (map q j p v : ℕ) → p ≡ q + 4 * count j (hasBit map) → v ≡ only (hasBit map j) (number s p 4) → v ≡ bidBy s map q j
-unfolding bidBy
-bid-is s map q j p v e f = rw (← e) f
-
--- where all bits are set the bids follow each other
-pub bid-full : (s : List ℕ) (map q m : ℕ) → count m (hasBit map) ≡ m → (j : ℕ) → j < m → number s (q + 4 * j) 4 ≡ bidBy s map q j
-unfolding bidBy
-bid-full s map q m e j l = let (c, b) = count-all m (hasBit map) e j l in rw c (sym (only-yes _ _ b))
-
--- ---- a field that is there if a bit is set; where it is not, the first bytes are read
-
-pub only-less : (b : Bool) (x : ℕ) → only b x ≤ x
-unfolding only
-only-less true x = omega arith
-only-less false x = omega arith
-
-pub scaled : (b : Bool) (x k : ℕ) → k ≡ only b 1 → x * k ≡ only b x
-unfolding only
-scaled true x k e = rw e (omega arith)
-scaled false x k e = rw e (omega arith)
-
-pub field-in : (b : Bool) (p n : ℕ) → p + 4 * only b 1 ≤ n → 4 ≤ n → only b p + 4 ≤ n
-unfolding only
-field-in true p n h l = omega (arith, h)
-field-in false p n h l = l
-
-pub field-value : (s : List ℕ) (b : Bool) (p : ℕ) → only b (number s (only b p) 4) ≡ only b (number s p 4)
-unfolding only
-field-value s true p = refl
-field-value s false p = refl

@@ -12,12 +12,12 @@ use Rattle.terms.specs.declared.Refusal.{Refusal}
 use Rattle.auction.specs.Counting.{_<?_, count, joined}
 use Rattle.auction.specs.Refusals.{_gives_, accepted, refused, firstFault}
 use Rattle.auction.proofs.Tests.{lt-no, is-lt, not-lt}
+use Rattle.auction.proofs.Refusals.{fault-here, fault-later, fault-none, no-fault, fault-first, fault-second, no-faults}
 use Rattle.fields.specs.Taken.{Taken}
 use Rattle.fields.specs.Fields.{mapWidth, hasBit}
 use Rattle.fields.specs.Rows.{mapAt, bidsAt, nextAt, rowAt, rowFaults, rowsFaults}
 use Rattle.fields.specs.declared.Cursor.{Cursor}
 use Rattle.fields.proofs.Fields.{moved, narrow, wide, count-narrow}
-use Rattle.fields.proofs.Lists.{fault-here, fault-later, fault-none, no-fault, fault-first, fault-second, no-faults}
 
 -- ---- a row
 

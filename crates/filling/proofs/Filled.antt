@@ -6,8 +6,7 @@ use native.Mathlib.Omega.{arith}
 use lib.ListN.{length, getD, take, drop, set, length-append, length-set, take-append-drop}
 use lib.Seq.{drop-cons, set-at, take-at, drop-append-add, drop-drop, length-take-le}
 use Rattle.auction.specs.Counting.{list}
-use Rattle.auction.proofs.Counting.{length-list, list-cong}
-use Rattle.fields.proofs.Lists.{list-step}
+use Rattle.auction.proofs.Counting.{length-list, list-cong, list-step}
 use Rattle.filling.specs.Over.{over}
 use Rattle.filling.specs.Filling.{placed}
 

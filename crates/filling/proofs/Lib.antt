@@ -1,2 +1,3 @@
+pub mod Bids
 pub mod Filled
 pub mod Rows

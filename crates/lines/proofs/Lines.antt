@@ -7,7 +7,7 @@ use native.Mathlib.Omega.{arith}
 use lib.ListN.{length, length-append}
 use Rattle.auction.specs.Counting.{joined}
 use Rattle.text.specs.Decimal.{field}
-use Rattle.text.specs.Writing.{Wrote}
+use Rattle.text.specs.Wrote.{Wrote}
 use Rattle.text.proofs.Fields.{length-field}
 use Rattle.text.proofs.Writing.{wrote-then}
 use Rattle.lines.specs.Lines.{guestWord, atStationWord, chargeWord, stationWord, soldWord, paidWord, lineEnd, guestLine, stationLine, guestLines, stationLines}

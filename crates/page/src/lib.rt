@@ -5,7 +5,7 @@ ghost use mathlib.Core.Path.{_≡_};
 ghost use lib.ListN.{length};
 ghost use Rattle.terms.specs.Limits.{maxGuests, maxStations};
 ghost use Rattle.auction.specs.Outcome.{outcomeOf};
-ghost use Rattle.text.specs.Writing.{Wrote};
+ghost use Rattle.text.specs.Wrote.{Wrote};
 ghost use Rattle.page.specs.Text.{text, refusalText};
 
 pub fn refusal_text(refusal: Refusal, out: &mut [u8]) -> usize

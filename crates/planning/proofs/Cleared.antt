@@ -20,7 +20,7 @@ use Rattle.auction.specs.Readings.{RightLengths}
 use Rattle.auction.proofs.Tests.{or-left, or-right, is-lt, lt-or-le, only-yes, only-no, not-lt}
 use Rattle.auction.proofs.Counting.{length-list, getD-list}
 use Rattle.auction.proofs.Loops.{is-list}
-use Rattle.round.specs.Round.{posted, refusing}
+use Rattle.round.specs.Rounds.{posted, refusing}
 use Rattle.round.specs.declared.Reply.the-variants as reply
 use Rattle.round.specs.declared.Round.{Round}
 use Rattle.book.specs.Posting.{posting, toGuest, toSold, toPaid, toHouse}

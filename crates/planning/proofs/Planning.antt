@@ -9,8 +9,9 @@ use Rattle.terms.specs.declared.Refusal.the-variants.{BookSize}
 use Rattle.auction.specs.Market.{Tables}
 use Rattle.auction.specs.Refusals.{_gives_, Verdict, accepted, refused, firstFault}
 use Rattle.auction.specs.Faults.{bookSize, marketFaults, verdict}
-use Rattle.auction.proofs.Acceptance.{first-refuses, first-accepts}
-use Rattle.round.specs.Round.{posted, verdictOf, refusing}
+use Rattle.auction.proofs.Refusals.{fault-first, fault-second}
+use Rattle.round.specs.Round.{verdictOf}
+use Rattle.round.specs.Rounds.{posted, refusing}
 use Rattle.round.specs.declared.Reply.the-variants as reply
 use Rattle.round.specs.declared.Round.{Round}
 use Rattle.book.specs.Posting.{Posting, posting}
@@ -39,12 +40,12 @@ module _ (t : Tables) (guests stations : ℕ) (r : Round) (e : r ≡ roundBy (ve
   unfolding planned earlyFaults verdict
   plan-refused x q =
       let v = refused-reply x q in
-      e ∙ ap (λ v. roundBy v (posting t 0)) (v ∙ sym (first-refuses (marketFaults t) _ x v))
+      e ∙ ap (λ v. roundBy v (posting t 0)) (v ∙ sym (fault-first (marketFaults t) _ v))
 
   planned-size : (a : Bool) → (a gives BookSize) ≡ bookSize (length (t .amounts)) (length (t .asks)) guests stations → r .reply ≡ reply.Posted
       → planned t guests stations ≡ roundBy (firstFault ((a gives BookSize) ∷ [])) (posting t 0)
   unfolding planned earlyFaults verdict
-  planned-size a ea q = ap (λ v. roundBy v (posting t 0)) (first-accepts (marketFaults t) _ (accepted-reply q) ∙ ap (λ row. firstFault (row ∷ [])) (sym ea))
+  planned-size a ea q = ap (λ v. roundBy v (posting t 0)) (fault-second (marketFaults t) _ (accepted-reply q) ∙ ap (λ row. firstFault (row ∷ [])) (sym ea))
 
   pub plan-size : (s : Round) (a : Bool) → (a gives BookSize) ≡ bookSize (length (t .amounts)) (length (t .asks)) guests stations → a ≡ true
       → r .reply ≡ reply.Posted → s ≡ refusing BookSize → s ≡ planned t guests stations

@@ -7,7 +7,7 @@ use Rattle.auction.specs.Counting.{list}
 use Rattle.auction.specs.Refusals.{Row, Verdict, accepted, refused, firstFault}
 use Rattle.auction.specs.Market.{Tables}
 use Rattle.auction.specs.Faults.{marketFaults, bookSize}
-use Rattle.round.specs.Round.{refusing, posted}
+use Rattle.round.specs.Rounds.{refusing, posted}
 use Rattle.round.specs.declared.Round.{Round}
 use Rattle.book.specs.Posting.{Posting, posting, toGuest, toSold, toPaid, toHouse}
 

@@ -16,9 +16,11 @@ use Rattle.auction.specs.Refusals.{Row, _gives_, Verdict, accepted, refused, fi
 use Rattle.auction.specs.Faults.{Book, raised, entered, overLimit, bookSize, outOfTurn, marketFaults, postingFaults}
 use Rattle.auction.proofs.Tests.{same-test, or-cases, or-left, or-right, or-no, lt-yes, is-lt, lt-or-le}
 use Rattle.auction.proofs.Counting.{some-cong, some-mono, getD-list, list-cong}
-use Rattle.auction.proofs.Acceptance.{clear-of, clear-of-both, first-refuses, first-accepts, inside}
+use Rattle.auction.proofs.Acceptance.{inside}
+use Rattle.auction.proofs.Refusals.{no-fault, no-faults, fault-first, fault-second}
 use Rattle.accounts.specs.Accounts.{plus}
-use Rattle.round.specs.Round.{posted, verdictOf, refusing}
+use Rattle.round.specs.Round.{verdictOf}
+use Rattle.round.specs.Rounds.{posted, refusing}
 use Rattle.round.specs.declared.Reply.the-variants as reply
 use Rattle.round.specs.declared.Round.{Round}
 use Rattle.room.specs.Room.{exceeding}
@@ -97,8 +99,8 @@ unfolding followed
 first-follows xs ys = go (firstFault xs) refl
   where
     go : (v : Verdict) → firstFault xs ≡ v → firstFault (xs ++ ys) ≡ followed (firstFault xs) ys
-    go accepted e = first-accepts xs ys e ∙ ap (λ v. followed v ys) (sym e)
-    go (refused x) e = first-refuses xs ys x e ∙ ap (λ v. followed v ys) (sym e)
+    go accepted e = fault-second xs ys e ∙ ap (λ v. followed v ys) (sym e)
+    go (refused x) e = fault-first xs ys e ∙ ap (λ v. followed v ys) (sym e)
 
 -- the round does not depend on its number
 same-round : (v : Verdict) (t : Tables) (n : ℕ) → roundBy v (posting t 0) ≡ roundBy v (posting t n)
@@ -130,13 +132,13 @@ module _ (p : Posting) (L : LentBook) where
 
   early-accepted : answer B p ≡ accepted → firstFault early ≡ accepted
   unfolding answer
-  early-accepted e = clear-of-both early (late after-limit) (sym (ap firstFault in-turn) ∙ e) .0
+  early-accepted e = no-faults early (late after-limit) (sym (ap firstFault in-turn) ∙ e) .0
 
   -- the book is no larger than a round
   sizes : firstFault early ≡ accepted → (length (L .guests) ≤ maxGuests) × (length (L .stations) ≤ maxStations)
   unfolding earlyFaults bookSize
   sizes e =
-      let (size, _) = clear-of _ _ _ (clear-of-both (marketFaults (p .tables)) _ e .1) in
+      let (size, _) = no-fault _ _ _ (no-faults (marketFaults (p .tables)) _ e .1) in
       let (guest-size, station-size) = or-no _ _ size in
       (inside _ _ _ guest-size .1, inside _ _ _ station-size .1)
 
@@ -167,9 +169,9 @@ module _ (p : Posting) (L : LentBook) where
   room-left : answer B p ≡ accepted → (z : (length (L .guests) ≤ maxGuests) × (length (L .stations) ≤ maxStations)) → exceedingTo (adding p) (length (L .stations)) (L .stations) ≡ false
   unfolding answer late outOfTurn
   room-left e z =
-      let (_, e0) = clear-of-both early (late after-limit) (sym (ap firstFault in-turn) ∙ e) in
-      let (_, e1) = clear-of _ _ _ e0 in
-      let (limit, _) = clear-of _ _ _ e1 in
+      let (_, e0) = no-faults early (late after-limit) (sym (ap firstFault in-turn) ∙ e) in
+      let (_, e1) = no-fault _ _ _ e0 in
+      let (limit, _) = no-fault _ _ _ e1 in
       or-no _ _ (or-no _ _ (room-is z ∙ limit) .0) .0
 
   -- the planned round, under its number

@@ -13,7 +13,7 @@ use Rattle.auction.specs.Outcome.{Results, Outcome, settle, seen, outcome, outc
 use Rattle.auction.specs.Faults.{verdict}
 use Rattle.auction.proofs.Counting.{length-list}
 use Rattle.text.specs.Decimal.{field}
-use Rattle.text.specs.Writing.{Wrote}
+use Rattle.text.specs.Wrote.{Wrote}
 use Rattle.text.proofs.Fields.{length-field}
 use Rattle.text.proofs.Writing.{wrote-all}
 use Rattle.lines.specs.Lines.{lineEnd, guestLines, stationLines}

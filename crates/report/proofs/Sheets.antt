@@ -6,7 +6,7 @@ use native.Mathlib.Omega.{arith}
 use lib.ListN.{length, take, length-take}
 use Rattle.terms.specs.declared.Refusal.{Refusal}
 use Rattle.auction.specs.Market.{Tables, tables}
-use Rattle.text.specs.Writing.{Wrote}
+use Rattle.text.specs.Wrote.{Wrote}
 use Rattle.checking.specs.Content as content
 use Rattle.checking.specs.Content.{readSheet, tablesOf}
 use Rattle.page.specs.Text.{refusalText}

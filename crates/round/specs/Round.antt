@@ -1,29 +1,9 @@
--- What a round's reply says, the round that is refused and one that is posted.
-use Prim.Native.Nat.{ℕ}
-use mathlib.Core.List.{List}
-use lib.ListN.{replicate}
-use Rattle.terms.specs.Limits.{maxGuests, maxStations}
-use Rattle.terms.specs.declared.Refusal.{Refusal}
+-- What a round's reply says.
 use Rattle.auction.specs.Refusals.{Verdict, accepted, refused}
 use Rattle.round.specs.declared.Reply.{Reply}
 use Rattle.round.specs.declared.Reply.the-variants as reply
-use Rattle.round.specs.declared.Round.{Round}
 
 -- document 01's answer for each case of the enum
 unfoldable pub verdictOf : Reply → Verdict
 verdictOf reply.Posted = accepted
 verdictOf (reply.Refused r) = refused r
-
--- a round that is refused adds 0 everywhere
-unfoldable pub refusing : Refusal → Round
-refusing r = record {
-  reply = reply.Refused r;
-  charges = replicate maxGuests 0;
-  sold = replicate maxStations 0;
-  paid = replicate maxStations 0;
-  margin = 0;
-}
-
--- a posted round of these lists
-unfoldable pub posted : (charges sold paid : List ℕ) (margin : ℕ) → Round
-posted charges sold paid margin = record { reply = reply.Posted; charges = charges; sold = sold; paid = paid; margin = margin }

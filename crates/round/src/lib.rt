@@ -2,7 +2,7 @@
 use terms::Refusal;
 ghost use mathlib.Core.Path.{_≡_};
 ghost use lib.ListN.{length};
-ghost use Rattle.round.specs.Round.{posted, refusing as refusingOf};
+ghost use Rattle.round.specs.Rounds.{posted, refusing as refusingOf};
 
 pub enum Reply {
     Posted,

@@ -14,8 +14,8 @@ use Rattle.auction.specs.Market.{Tables}
 use Rattle.auction.specs.Refusals.{Verdict, accepted, refused, firstFault}
 use Rattle.auction.proofs.Counting.{length-list}
 use Rattle.auction.proofs.Tests.{is-eq, neither}
+use Rattle.auction.proofs.Refusals.{fault-later, no-fault}
 use Rattle.fields.specs.Rows.{bidOf}
-use Rattle.fields.proofs.Lists.{fault-later, no-fault}
 use Rattle.filling.specs.Over.{over}
 use Rattle.filling.proofs.Rows.{joined-length}
 use Rattle.checking.specs.Content.{stations, tablesOf, sheetFaults, tables, fault, contentBy, readSheet}

@@ -3,7 +3,6 @@ use Prim.Native.Nat.{ℕ, _*_, _≤_}
 use mathlib.Core.Bool.{Bool, true, false, not}
 use mathlib.Core.List.{List, _∷_}
 use mathlib.Core.Path.{_≡_, refl, sym, _∙_}
-use native.Mathlib.Nat.{mul-le-mul-right}
 use native.Mathlib.Omega.{arith}
 use lib.ListN.{length}
 use Rattle.terms.specs.declared.Refusal.the-variants.{LentLengths}
@@ -11,9 +10,10 @@ use Rattle.terms.specs.declared.Refusal.{Refusal}
 use Rattle.auction.specs.Counting.{_=?_, _or_, list, joined}
 use Rattle.auction.specs.Refusals.{_gives_, accepted, refused, firstFault}
 use Rattle.auction.proofs.Counting.{length-list}
+use Rattle.auction.proofs.Acceptance.{product-fits}
 use Rattle.auction.proofs.Tests.{eq-yes, or-no}
+use Rattle.auction.proofs.Refusals.{fault-here, fault-later}
 use Rattle.fields.specs.Rows.{askOf, baysOf, amountOf, bidOf, rowsFaults}
-use Rattle.fields.proofs.Lists.{fault-here, fault-later}
 use Rattle.filling.specs.Over.{over}
 use Rattle.checking.specs.Content.{guests, stations, tablesOf, sheetFaults, contentBy, readSheet, answerOf}
 use Rattle.checking.specs.declared.Reading.the-variants.{Read, Refused}
@@ -24,7 +24,7 @@ use Rattle.sheet.specs.Sheet.{lentTables, readInto, written, Reads}
 
 -- room for the table
 pub room-for : (n m k : ℕ) → n ≤ 200 → m ≤ 40 → k ≡ 8000 → n * m ≤ k
-room-for n m k h g e = omega (arith, mul-le-mul-right m h)
+room-for n m k h g e = omega (arith, product-fits n m h g)
 
 pub lent-lengths : (a b c d : ℕ) → lentTables a b c d ≡ (false gives LentLengths) → (a ≡ 200) × (b ≡ 40) × (c ≡ 40) × (d ≡ 8000)
 unfolding lentTables

@@ -10,7 +10,7 @@ use lib.ListN.{length, length-append}
 use Rattle.auction.specs.Counting.{_<?_}
 use Rattle.auction.proofs.Tests.{is-lt, not-lt}
 use Rattle.text.specs.Decimal.{higher, digits, decimal}
-use Rattle.text.specs.Writing.{Wrote}
+use Rattle.text.specs.Wrote.{Wrote}
 use Rattle.text.proofs.Writing.{wrote-then}
 
 length-higher : (b : Bool) (ds : List ℕ) → length (higher b ds) ≤ length ds

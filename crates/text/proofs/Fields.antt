@@ -4,7 +4,7 @@ use mathlib.Core.List.{List}
 use native.Mathlib.Omega.{arith}
 use lib.ListN.{length, length-append}
 use Rattle.text.specs.Decimal.{digits, decimal, field}
-use Rattle.text.specs.Writing.{Wrote}
+use Rattle.text.specs.Wrote.{Wrote}
 use Rattle.text.proofs.Decimal.{length-decimal, word-digits}
 use Rattle.text.proofs.Writing.{wrote-then}
 

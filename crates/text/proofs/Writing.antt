@@ -8,7 +8,8 @@ use native.Mathlib.Omega.{arith}
 use lib.ListN.{getD, length, set, take, drop, length-set, length-append, length-take, length-drop, List·getD-append}
 use lib.Seq.{take-all, take-suc, getD-set-same, getD-set-other, getD-append-add, getD-take, getD-drop, ext-getD}
 use Rattle.auction.proofs.Tests.{lt-or-le}
-use Rattle.text.specs.Writing.{overlaid, Wrote}
+use Rattle.text.specs.Writing.{overlaid}
+use Rattle.text.specs.Wrote.{Wrote}
 
 pub wrote-none : (l : List ℕ) (p : ℕ) → Wrote l p [] l p
 wrote-none l p = record { same = refl; here = λ k a b. absurd (omega arith); low = λ k a. refl; high = λ k a. refl; next = omega arith }

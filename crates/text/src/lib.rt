@@ -3,7 +3,7 @@ ghost use Prim.Native.Nat.{ℕ, _+_, _<_, _^_};
 ghost use mathlib.Core.List.{_∷_, []};
 ghost use lib.ListN.{length};
 ghost use Rattle.text.specs.Decimal.{digits, field};
-ghost use Rattle.text.specs.Writing.{Wrote};
+ghost use Rattle.text.specs.Wrote.{Wrote};
 
 // A byte at a place, if the buffer reaches that far. For `lines` and `page`, whose places are far below what is required.
 pub fn put(out: &mut [u8], at: usize, b: u8) -> usize

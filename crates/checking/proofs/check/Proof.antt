@@ -11,7 +11,7 @@ use Rattle.auction.specs.Refusals.{_gives_}
 use Rattle.auction.proofs.Tests.{lt-yes, lt-no}
 use Rattle.fields.proofs.Rows.{first-row}
 use Rattle.passes.proofs.Steps.{told-next, told-fault}
-use Rattle.checking.proofs.Faults.{Headed, headed, sheet-short, bad-counts, stations-end, bad-rows, trailing, whole, counted}
+use Rattle.checking.proofs.Faults.{Headed, headed, sheet-short, bad-counts, stations-end, bad-rows, trailing, whole, counts-within}
 use Rattle.checking.proofs.Answers.{answer-fault, answer-read}
 use Rattle.checking.proofs.check.Statement.{statement}
 use Rattle.checking.proofs.check.Tie as tie
@@ -72,7 +72,7 @@ skip-requires c κs = search needs
 
 check-rows-requires : tie.Need-check-rows-requires
 check-rows-requires c κs = (
-  omega (arith, counted _ _ (good (c .before .before .before .before)) .2),
+  omega (arith, counts-within _ _ (good (c .before .before .before .before)) .2),
   omega (arith, c .skip .ensures, lt-no _ _ (sym (c .before .before .ends2 .ensures) ∙ c .before .if3 .left)),
   omega (arith, c .skip .ensures, first-row (c .before .before .before .before .before .before .before .before .before .before .before .before .before .args .s .now) (c .before .before .before .before .before .before .before .before .two2 .result .value), c .before .before .before .before .before .before .before .before .two2 .ensures .place, c .before .before .before .before .before .before .before .before .before .two .ensures .place),
 )

@@ -1,7 +1,7 @@
 use native.Mathlib.Omega.{arith}
 use borrow.Author.Needs.{needs}
 use Rattle.auction.specs.Counting.{_=?_, _or_}
-use Rattle.faults.proofs.Counts.{product-fits}
+use Rattle.auction.proofs.Acceptance.{product-fits}
 use Rattle.faults.proofs.bad_lengths.Statement.{statement}
 use Rattle.faults.proofs.bad_lengths.Tie as tie
 

@@ -4,7 +4,8 @@ use native.Mathlib.Omega.{arith}
 use borrow.Author.Needs.{needs}
 use Rattle.auction.specs.Counting.{count}
 use Rattle.fields.specs.Fields.{hasBit}
-use Rattle.fields.proofs.Fields.{count-narrow, bid-full}
+use Rattle.fields.proofs.Fields.{count-narrow}
+use Rattle.filling.proofs.Bids.{bid-full}
 use Rattle.filling.proofs.Filled.{placed-cong}
 use Rattle.filling.proofs.fill_row.Statement.{statement}
 use Rattle.filling.proofs.fill_row.Tie as tie

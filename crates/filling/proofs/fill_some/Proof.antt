@@ -7,11 +7,10 @@ use native.Mathlib.Omega.{arith}
 use lib.ListN.{take}
 use borrow.Author.Needs.{needs}
 use Rattle.auction.specs.Counting.{count, list}
-use Rattle.auction.proofs.Counting.{count-start, count-step}
+use Rattle.auction.proofs.Counting.{count-start, count-step, count-up}
 use Rattle.fields.specs.Fields.{hasBit}
 use Rattle.fields.specs.Rows.{bidBy}
-use Rattle.fields.proofs.Fields.{bid-is}
-use Rattle.fields.proofs.Lists.{count-up}
+use Rattle.filling.proofs.Bids.{bid-is}
 use Rattle.filling.proofs.Filled.{Filled, row-start, row-turn, row-end}
 use Rattle.filling.proofs.fill_some.Statement.{statement}
 use Rattle.filling.proofs.fill_some.Tie as tie

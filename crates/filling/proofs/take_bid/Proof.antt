@@ -4,7 +4,7 @@ use native.Mathlib.Omega.{arith}
 use borrow.Author.Needs.{needs}
 use Rattle.auction.specs.Counting.{only}
 use Rattle.fields.specs.Fields.{number, hasBit}
-use Rattle.fields.proofs.Fields.{only-less, scaled, field-in, field-value}
+use Rattle.filling.proofs.Bids.{only-less, scaled, field-in, field-value}
 use Rattle.filling.proofs.take_bid.Statement.{statement}
 use Rattle.filling.proofs.take_bid.Tie as tie
 

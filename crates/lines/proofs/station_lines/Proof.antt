@@ -3,7 +3,7 @@ use native.Mathlib.Omega.{arith}
 use lib.ListN.{length}
 use borrow.Author.Needs.{needs}
 use Rattle.auction.specs.Counting.{joined}
-use Rattle.text.specs.Writing.{Wrote}
+use Rattle.text.specs.Wrote.{Wrote}
 use Rattle.text.proofs.Writing.{wrote-none}
 use Rattle.lines.specs.Lines.{stationLines}
 use Rattle.lines.proofs.Lines.{wrote-joined, wrote-lines, station-lines-end}

@@ -3,9 +3,9 @@ use mathlib.Core.Path.{_∙_, sym}
 use native.Mathlib.Omega.{arith}
 use borrow.Author.Needs.{needs}
 use Rattle.auction.proofs.Tests.{lt-yes, lt-no}
+use Rattle.auction.proofs.Counting.{count-most}
 use Rattle.fields.specs.Fields.{hasBit}
 use Rattle.fields.proofs.Rows.{MapTaken, map-taken, amount-ends, map-ends, stray, bids-end, row-good, next-is, bids-at}
-use Rattle.fields.proofs.Lists.{count-le}
 use Rattle.passes.proofs.Steps.{step-fault, step-next}
 use Rattle.passes.proofs.check_row.Statement.{statement}
 use Rattle.passes.proofs.check_row.Tie as tie
@@ -47,7 +47,7 @@ count-bits-requires : tie.Need-count-bits-requires
 count-bits-requires c κs = search needs
 
 mul-size : tie.Need-mul-size
-mul-size c = omega (arith, c .count-bits .ensures, count-le 64 (hasBit (c .before .before .before .map .result .bits)))
+mul-size c = omega (arith, c .count-bits .ensures, count-most 64 (hasBit (c .before .before .before .map .result .bits)))
 
 ends-requires-3 : tie.Need-ends-requires-3
 ends-requires-3 c κs = omega (arith, taken (c .before .before .before .before) .to, taken (c .before .before .before .before) .within)

@@ -1,6 +1,6 @@
 use mathlib.Core.Path.{ap₂}
 use borrow.Author.Needs.{needs}
-use Rattle.round.specs.Round.{posted}
+use Rattle.round.specs.Rounds.{posted}
 use Rattle.round.proofs.cleared_round.Statement.{statement}
 use Rattle.round.proofs.cleared_round.Tie as tie
 

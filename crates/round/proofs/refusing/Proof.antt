@@ -1,5 +1,5 @@
 use borrow.Author.Needs.{needs}
-use Rattle.round.specs.Round.{refusing}
+use Rattle.round.specs.Rounds.{refusing}
 use Rattle.round.proofs.refusing.Statement.{statement}
 use Rattle.round.proofs.refusing.Tie as tie
 

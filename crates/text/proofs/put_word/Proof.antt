@@ -2,7 +2,7 @@ use Prim.Native.Nat.{_≤_, _-_}
 use native.Mathlib.Omega.{arith}
 use lib.ListN.{length, take, length-take}
 use borrow.Author.Needs.{needs}
-use Rattle.text.specs.Writing.{Wrote}
+use Rattle.text.specs.Wrote.{Wrote}
 use Rattle.text.proofs.Writing.{wrote-none, wrote-next, wrote-word}
 use Rattle.text.proofs.put_word.Statement.{statement}
 use Rattle.text.proofs.put_word.Tie as tie

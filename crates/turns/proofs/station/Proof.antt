@@ -74,10 +74,9 @@ same-length-4 c = search needs
 returns : tie.Need-returns
 unfolding gatheredIf _<?_
 returns c =
-    let critical = c .before .before .before .before .before .before .before .before .before .before .critical-total .ensures in
-    (
+    let critical = c .before .before .before .before .before .before .before .before .before .before .critical-total .ensures in (
       turned (regular _ _ _ _) _ _ (c .before .before .before .before .before .before .before .before .before .before .before .before .before .before .before .before .before .before .before .before .before .before .before .before .before .before .before .before .before .pre .0) _ (c .before .before .before .before .before .before .before .before .before .before .before .before .before .before .before .before .before .before .before .before .before .before .before .before .before .before .before .before .before .pre .1 .0 .0) (ltb-true _ _ (sym (c .before .before .before .before .before .before .before .before .before .before .before .before .before .before .before .before .before .before .below .ensures) ∙ c .before .before .before .before .before .before .before .before .before .before .before .before .before .before .before .before .before .if1 .taken))
-      _ (c .before .before .before .before .before .before .before .before .before .before .before .before .before .before .before .gather .ensures .totals-are) _ _ _ refl (critical .least-few) (rw (← critical .counted) (c .before .before .before .before .before .before .before .before .tie-bound .ensures)) _ refl (c .before .before .before .before .before .before .before .before .before .before .before .before .before .before .before .before .before .before .before .before .before .before .before .before .before .before .before .before .before .pre .1 .1) (c .before .before .before .before .offer .ensures),
+          _ (c .before .before .before .before .before .before .before .before .before .before .before .before .before .before .before .gather .ensures .totals-are) _ _ _ refl (critical .least-few) (rw (← critical .counted) (c .before .before .before .before .before .before .before .before .tie-bound .ensures)) _ refl (c .before .before .before .before .before .before .before .before .before .before .before .before .before .before .before .before .before .before .before .before .before .before .before .before .before .before .before .before .before .pre .1 .1) (c .before .before .before .before .offer .ensures),
       rw (sym (c .before .before .before .before .before .before .before .before .before .before .before .before .before .before .before .before .before .before .below .ensures) ∙ c .before .before .before .before .before .before .before .before .before .before .before .before .before .before .before .before .before .if1 .taken) (c .before .before .before .before .before .before .before .before .before .before .before .before .before .before .before .gather .ensures .totals-are),
     )
 
