@@ -19,8 +19,8 @@ use Rattle.auction.proofs.Tests.{only-le}
 use Rattle.auction.proofs.Counting.{sum-cong, greatest-le}
 use Rattle.auction.proofs.Acceptance.{accepted-reads, call-accepted-reads}
 use Rattle.auction.proofs.Loops.{long, element, relist}
-use Rattle.sales.specs.Sales.{kwhAt, PaidOut}
 use Rattle.cut.specs.MedianAsk.{under, eligible, medianAsk}
+use Rattle.sales.specs.Sales.{kwhAt, PaidOut}
 use Rattle.faults.specs.Verdicts.{asVerdict}
 use Rattle.faults.specs.declared.Verdict.{Verdict}
 use Rattle.faults.specs.declared.Verdict.the-variants as verdicts

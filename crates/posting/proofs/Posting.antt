@@ -18,11 +18,11 @@ use Rattle.auction.proofs.Tests.{same-test, or-cases, or-left, or-right, or-no,
 use Rattle.auction.proofs.Counting.{some-cong, some-mono, getD-list, list-cong}
 use Rattle.auction.proofs.Acceptance.{inside}
 use Rattle.auction.proofs.Refusals.{no-fault, no-faults, fault-first, fault-second}
-use Rattle.accounts.specs.Accounts.{plus}
 use Rattle.round.specs.Round.{verdictOf}
 use Rattle.round.specs.Rounds.{posted, refusing}
 use Rattle.round.specs.declared.Reply.the-variants as reply
 use Rattle.round.specs.declared.Round.{Round}
+use Rattle.accounts.specs.Accounts.{plus}
 use Rattle.room.specs.Room.{exceeding}
 use Rattle.settling.specs.Settling.{followed, ruled, keptRound, chosen, Settled}
 use Rattle.stations.specs.Records.{soldOf, paidOf}

@@ -7,9 +7,9 @@ use lib.ListN.{length, take, length-take}
 use Rattle.terms.specs.declared.Refusal.{Refusal}
 use Rattle.auction.specs.Market.{Tables, tables}
 use Rattle.text.specs.Wrote.{Wrote}
+use Rattle.page.specs.Text.{refusalText}
 use Rattle.checking.specs.Content as content
 use Rattle.checking.specs.Content.{readSheet, tablesOf}
-use Rattle.page.specs.Text.{refusalText}
 use Rattle.sheet.proofs.Callers.{ReadTables}
 use Rattle.printing.specs.MarketText.{marketTextOf}
 use Rattle.printing.specs.Prints.{Prints}

@@ -1,8 +1,8 @@
 -- What the clearing program prints of a sheet. Document 01, end of 'Cases'. A text is a list of bytes.
 use Prim.Native.Nat.{ℕ}
 use mathlib.Core.List.{List}
-use Rattle.checking.specs.Content.{Content, fault, tables, readSheet}
 use Rattle.page.specs.Text.{refusalText}
+use Rattle.checking.specs.Content.{Content, fault, tables, readSheet}
 use Rattle.printing.specs.MarketText.{marketTextOf}
 
 unfoldable pub sheetText : Content → List ℕ

@@ -14,11 +14,11 @@ use Rattle.auction.specs.Faults.{outOfTurn}
 use Rattle.auction.proofs.Tests.{lt-no, or-no}
 use Rattle.auction.proofs.Counting.{some-no}
 use Rattle.auction.proofs.Loops.{or-is}
-use Rattle.accounts.specs.Accounts.{plus, Addable}
 use Rattle.round.specs.Round.{verdictOf}
 use Rattle.round.specs.Rounds.{refusing}
 use Rattle.round.specs.declared.Reply.the-variants as reply
 use Rattle.round.specs.declared.Round.{Round}
+use Rattle.accounts.specs.Accounts.{plus, Addable}
 use Rattle.room.specs.Room.{exceeding}
 use Rattle.settling.specs.Settling.{followed, ruled, keptRound, chosen, Settled}
 

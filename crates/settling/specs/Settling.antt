@@ -8,10 +8,10 @@ use Rattle.terms.specs.declared.Refusal.the-variants.{AccountOverLimit}
 use Rattle.auction.specs.Counting.{_<?_, _or_}
 use Rattle.auction.specs.Refusals.{Row, _gives_, Verdict, accepted, refused, firstFault}
 use Rattle.auction.specs.Faults.{outOfTurn}
-use Rattle.accounts.specs.Accounts.{plus}
 use Rattle.round.specs.Round.{verdictOf}
 use Rattle.round.specs.Rounds.{refusing}
 use Rattle.round.specs.declared.Round.{Round}
+use Rattle.accounts.specs.Accounts.{plus}
 use Rattle.room.specs.Room.{exceeding}
 
 -- a verdict, and that of the rows that follow where it accepts

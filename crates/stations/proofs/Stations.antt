@@ -14,8 +14,8 @@ use Rattle.auction.specs.Counting.{_<?_, _or_, some}
 use Rattle.auction.proofs.Tests.{or-no, lt-no, lt-or-le}
 use Rattle.auction.proofs.Counting.{some-no, some-cong}
 use Rattle.auction.proofs.Loops.{or-is, is-list}
-use Rattle.accounts.specs.Accounts.{plus}
 use Rattle.round.specs.declared.Round.{Round}
+use Rattle.accounts.specs.Accounts.{plus}
 use Rattle.room.specs.Room.{exceeding}
 use Rattle.stations.specs.Records.{account, accountAt, soldOf, paidOf}
 use Rattle.stations.specs.Stations.{exceedsWith, exceedingTo, creditedBy, credited, creditedTo}
