@@ -1,9 +1,8 @@
 /*
  * The bay market: reading a market sheet, clearing a market, posting it to a ledger.
  *
- * Link the archives that archives.txt names, in its order; each is target/staticlib/lib<name>.a
- * after `rt staticlib <name>`, for x86-64: libexport_read.a has bay_market_read, libexport_clear.a
- * bay_market_clear, libexport_post.a bay_market_post. Nothing else is needed, and nothing is allocated.
+ * Link target/staticlib/libbay_market.a, which `rt staticlib bay_market` makes, for x86-64. Nothing else is
+ * needed, and nothing is allocated.
  *
  * Every function answers 0, or the number of the first fault found (enum bay_market_refusal). A call
  * that is refused has changed no lent memory. Any lengths and values may be lent; every call returns.

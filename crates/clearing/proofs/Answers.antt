@@ -5,43 +5,34 @@ use mathlib.Core.Path.{_≡_, refl, sym, ap, ap₂, subst, _∙_}
 use native.Mathlib.Numerals.{add-one}
 use native.Mathlib.Omega.{arith}
 use lib.ListN.{getD, length}
-use Rattle.terms.specs.Limits.{maxStations, maxPrice}
-use Rattle.terms.specs.declared.Refusal.{Refusal}
-use Rattle.auction.specs.Counting.{_=?_, only, sum, list}
-use Rattle.auction.specs.Refusals as refusals
-use Rattle.auction.specs.Refusals.{accepted, refused, firstFault}
-use Rattle.auction.specs.Market.{Tables, marketBy, market, cut, screen, tables, regular}
-use Rattle.auction.specs.Mechanism.{at, charge, charged, sold, paid, margin}
-use Rattle.auction.specs.Outcome.{Results, settle, seen, decided, outcome, results}
-use Rattle.auction.specs.Faults.{clearingFaults}
-use Rattle.auction.specs.Readings.{WithinLimits, RightLengths}
-use Rattle.auction.proofs.Tests.{only-le}
-use Rattle.auction.proofs.Counting.{sum-cong, greatest-le}
-use Rattle.auction.proofs.Acceptance.{accepted-reads, call-accepted-reads}
-use Rattle.auction.proofs.Loops.{long, element, relist}
-use Rattle.cut.specs.MedianAsk.{under, eligible, medianAsk}
-use Rattle.sales.specs.Sales.{kwhAt, PaidOut}
-use Rattle.faults.specs.Verdicts.{asVerdict}
-use Rattle.faults.specs.declared.Verdict.{Verdict}
-use Rattle.faults.specs.declared.Verdict.the-variants as verdicts
-use Rattle.charges.specs.Charges.{leastAt}
-use Rattle.turns.specs.Stages.{AtCut}
-use Rattle.assignment.specs.Assignment.{Assigned}
-use Rattle.assignment.proofs.Assignment.{numbered}
-use Rattle.clearing.specs.Clears.{answerTo, resultsOf, Clears}
+use Rattle.model.specs.Limits.{maxStations, maxPrice}
+use Rattle.model.specs.declared.refusal.Refusal.{Refusal}
+use Rattle.model.specs.Counting.{_=?_, only, sum, list}
+use Rattle.model.specs.Refusals as refusals
+use Rattle.model.specs.Refusals.{accepted, refused, firstFault}
+use Rattle.model.specs.market.Market.{Tables, marketBy, market, cut, screen, tables, regular}
+use Rattle.model.specs.market.Mechanism.{at, charge, charged, sold, paid, margin}
+use Rattle.model.specs.market.Outcome.{Results, settle, seen, decided, outcome, results}
+use Rattle.model.specs.market.Faults.{clearingFaults}
+use Rattle.model.specs.claims.Readings.{WithinLimits}
+use Rattle.model.proofs.Tests.{only-le}
+use Rattle.model.proofs.Counting.{sum-cong, greatest-le}
+use Rattle.model.proofs.Loops.{long, element, relist}
+use Rattle.pricing.specs.MedianAsk.{under, eligible, medianAsk}
+use Rattle.pricing.specs.Sales.{kwhAt, PaidOut}
+use Rattle.clearing.specs.Verdicts.{asVerdict}
+use Rattle.clearing.specs.declared.faults.Verdict.the-variants as verdicts
+use Rattle.pricing.specs.Charges.{leastAt}
+use Rattle.allocation.specs.Stages.{AtCut}
+use Rattle.allocation.specs.Assignment.{Assigned}
+use Rattle.allocation.proofs.assignment.Assignment.{numbered}
+use Rattle.model.specs.contracts.Clears.{answerTo, resultsOf, Clears}
 use Rattle.clearing.specs.Settles.{Settles}
-use Rattle.clearing.specs.declared.Clearing.{Clearing}
-use Rattle.clearing.specs.declared.Clearing.the-variants as clearings
+use Rattle.model.specs.declared.answers.Clearing.{Clearing}
+use Rattle.model.specs.declared.answers.Clearing.the-variants as clearings
+use Rattle.model.proofs.contracts.Accepts.{Accepts, accepts}
 
 -- ---- the table of refusals
-
--- no fault: a market within the limits, and result lists of the right lengths
-pub record Accepts (t : Tables) (r : Results) : Type 0 where
-  pub within : WithinLimits t
-  pub fits : RightLengths t r
-
-pub accepts : (t : Tables) (r : Results) → firstFault (clearingFaults t r) ≡ accepted → Accepts t r
-accepts t r e = let w = call-accepted-reads t r .0 e in record { within = accepted-reads t .0 (w .market-accepted); fits = w .lists-fit }
 
 -- ---- an accepted market
 

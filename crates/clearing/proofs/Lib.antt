@@ -1,4 +1,1 @@
-pub mod Answers
-pub mod Calls
-pub mod Worked
-pub mod Callers
+mod Answers

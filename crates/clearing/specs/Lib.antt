@@ -1,3 +1,2 @@
-pub mod Clears
 pub mod Settles
-pub mod Calls
+pub mod Verdicts

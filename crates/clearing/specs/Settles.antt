@@ -1,9 +1,9 @@
 -- What the clearing of an accepted market promises.
 use mathlib.Core.Path.{_≡_}
-use Rattle.auction.specs.Market.{Tables}
-use Rattle.auction.specs.Outcome.{Results, outcome}
-use Rattle.clearing.specs.declared.Clearing.{Clearing}
-use Rattle.clearing.specs.declared.Clearing.the-variants.{Cleared}
+use Rattle.model.specs.market.Market.{Tables}
+use Rattle.model.specs.market.Outcome.{Results, outcome}
+use Rattle.model.specs.declared.answers.Clearing.{Clearing}
+use Rattle.model.specs.declared.answers.Clearing.the-variants.{Cleared}
 
 -- an accepted market's answer and result lists
 pub record Settles (t : Tables) (answer : Clearing) (exit : Results) : Type 0 where

@@ -1,19 +1,24 @@
 // The clearing of a market: one call checks the lent tables, clears them and answers, or refuses and writes nothing.
-use faults::Verdict;
-use terms::MAX_GUESTS;
-use terms::Refusal;
+mod faults;
+mod scans;
+pub mod view_clearing;
+pub mod views;
+
+use crate::faults::Verdict;
+use allocation::assignment;
+use model::answers::Clearing;
+use model::limits::MAX_GUESTS;
+use pricing::charges;
+use pricing::cut;
+use pricing::margin;
+use pricing::sales;
 ghost use mathlib.Core.Path.{_≡_};
 ghost use lib.ListN.{length};
-ghost use Rattle.auction.specs.Readings.{WithinLimits, RightLengths};
-ghost use Rattle.auction.specs.Market.{regular, tables};
-ghost use Rattle.auction.specs.Outcome.{results};
-ghost use Rattle.clearing.specs.Clears.{Clears};
+ghost use Rattle.model.specs.claims.Readings.{WithinLimits, RightLengths};
+ghost use Rattle.model.specs.market.Market.{regular, tables};
+ghost use Rattle.model.specs.market.Outcome.{results};
+ghost use Rattle.model.specs.contracts.Clears.{Clears};
 ghost use Rattle.clearing.specs.Settles.{Settles};
-
-pub enum Clearing {
-    Cleared { cut: u32, margin: u64 },
-    Refused(Refusal),
-}
 
 // The clearing of an accepted market, with room for each guest's least charge.
 fn clear_with_room(

@@ -1,1 +1,1 @@
-pub mod Sheets
+mod Sheets

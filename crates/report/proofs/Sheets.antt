@@ -4,17 +4,17 @@ use mathlib.Core.List.{List}
 use mathlib.Core.Path.{_≡_, sym, ap, _∙_}
 use native.Mathlib.Omega.{arith}
 use lib.ListN.{length, take, length-take}
-use Rattle.terms.specs.declared.Refusal.{Refusal}
-use Rattle.auction.specs.Market.{Tables, tables}
-use Rattle.text.specs.Wrote.{Wrote}
-use Rattle.page.specs.Text.{refusalText}
-use Rattle.checking.specs.Content as content
-use Rattle.checking.specs.Content.{readSheet, tablesOf}
-use Rattle.sheet.proofs.Callers.{ReadTables}
-use Rattle.printing.specs.MarketText.{marketTextOf}
-use Rattle.printing.specs.Prints.{Prints}
-use Rattle.printing.proofs.Printing.{prints, length-refusal}
-use Rattle.report.specs.Printed.{sheetText, printed}
+use Rattle.model.specs.declared.refusal.Refusal.{Refusal}
+use Rattle.model.specs.market.Market.{Tables, tables}
+use Rattle.report.specs.Wrote.{Wrote}
+use Rattle.model.specs.text.Text.{refusalText}
+use Rattle.model.specs.sheet.Content as content
+use Rattle.model.specs.sheet.Content.{readSheet, tablesOf}
+use Rattle.model.proofs.contracts.Reads.{ReadTables}
+use Rattle.model.specs.text.MarketText.{marketTextOf}
+use Rattle.model.specs.contracts.Prints.{Prints}
+use Rattle.report.proofs.printing.Printing.{prints, length-refusal}
+use Rattle.model.specs.text.Printed.{sheetText, printed}
 
 pub prints-fault : {l l′ : List ℕ} {q : ℕ} (s : List ℕ) (x : Refusal) → readSheet s ≡ content.fault x → Wrote l 0 (refusalText x) l′ q → Prints (printed s) l q l′
 unfolding printed sheetText

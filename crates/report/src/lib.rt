@@ -1,7 +1,12 @@
 // What the clearing program prints, as bytes in a lent buffer.
-use checking::Reading;
-ghost use Rattle.printing.specs.Prints.{Prints};
-ghost use Rattle.report.specs.Printed.{printed};
+mod lines;
+mod page;
+mod printing;
+mod text;
+
+use model::answers::Reading;
+ghost use Rattle.model.specs.contracts.Prints.{Prints};
+ghost use Rattle.model.specs.text.Printed.{printed};
 
 // The text that the clearing program prints for a sheet, as far as the buffer reaches. Gives the text's length.
 pub fn print_clearing(sheet: &[u8], out: &mut [u8]) -> usize

@@ -1,3 +1,3 @@
-pub mod Sheet
-pub mod Layout
-pub mod Cases
+pub mod Filling
+pub mod Passes
+pub mod Taken

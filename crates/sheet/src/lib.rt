@@ -1,13 +1,18 @@
 // The reader of market sheets: whatever bytes arrive, the market that they state or the refusal of their first fault.
-use checking::Reading;
-use fields::Cursor;
-use terms::MAX_GUESTS;
-use terms::MAX_STATIONS;
-use terms::Refusal;
+mod checking;
+mod fields;
+mod filling;
+mod passes;
+
+use crate::fields::Cursor;
+use model::answers::Reading;
+use model::limits::MAX_GUESTS;
+use model::limits::MAX_STATIONS;
+use model::refusal::Refusal;
 ghost use mathlib.Core.Path.{_≡_};
-ghost use Rattle.terms.specs.declared.Refusal.the-variants.{LentLengths};
-ghost use Rattle.auction.specs.Refusals.{_gives_};
-ghost use Rattle.sheet.specs.Sheet.{lentTables, Reads};
+ghost use Rattle.model.specs.declared.refusal.Refusal.the-variants.{LentLengths};
+ghost use Rattle.model.specs.Refusals.{_gives_};
+ghost use Rattle.model.specs.contracts.Reads.{lentTables, Reads};
 
 fn mislent(amounts: usize, asks: usize, bays: usize, bids: usize) -> bool
     ensures { λ r. ⌜ lentTables amounts asks bays bids ≡ (r gives LentLengths) ⌝ }

@@ -1,8 +1,8 @@
 use mathlib.Core.Path.{sym}
 use native.Mathlib.Omega.{arith}
 use borrow.Author.Needs.{needs}
-use Rattle.terms.specs.Limits.{maxGuests}
-use Rattle.auction.proofs.Loops.{zeros-long}
+use Rattle.model.specs.Limits.{maxGuests}
+use Rattle.model.proofs.Loops.{zeros-long}
 use Rattle.clearing.proofs.clear_accepted.Statement.{statement}
 use Rattle.clearing.proofs.clear_accepted.Tie as tie
 

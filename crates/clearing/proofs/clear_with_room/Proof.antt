@@ -1,8 +1,8 @@
 use mathlib.Core.Path.{sym, _∙_}
 use native.Mathlib.Omega.{arith}
 use borrow.Author.Needs.{needs}
-use Rattle.auction.specs.Market.{regular}
-use Rattle.auction.proofs.Loops.{long}
+use Rattle.model.specs.market.Market.{regular}
+use Rattle.model.proofs.Loops.{long}
 use Rattle.clearing.proofs.Answers.{cut-low, at-cut, stations-count, charges-count, stations-low, settles}
 use Rattle.clearing.proofs.clear_with_room.Statement.{statement}
 use Rattle.clearing.proofs.clear_with_room.Tie as tie

@@ -1,7 +1,7 @@
 use mathlib.Core.Path.{refl}
 use native.Mathlib.Omega.{arith}
 use borrow.Author.Needs.{needs}
-use Rattle.sheet.proofs.Callers.{read-tables, read-fault}
+use Rattle.model.proofs.contracts.Reads.{read-tables, read-fault}
 use Rattle.report.proofs.Sheets.{read-part-long, part-fits, same-tables, prints-fault, prints-sheet}
 use Rattle.report.proofs.print_clearing.Statement.{statement}
 use Rattle.report.proofs.print_clearing.Tie as tie

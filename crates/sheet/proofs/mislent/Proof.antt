@@ -1,8 +1,8 @@
 -- The test is that of `lentTables`.
 use mathlib.Core.Path.{refl}
 use borrow.Author.Needs.{needs}
-use Rattle.auction.specs.Counting.{_=?_, _or_}
-use Rattle.sheet.specs.Sheet.{lentTables}
+use Rattle.model.specs.Counting.{_=?_, _or_}
+use Rattle.model.specs.contracts.Reads.{lentTables}
 use Rattle.sheet.proofs.mislent.Statement.{statement}
 use Rattle.sheet.proofs.mislent.Tie as tie
 

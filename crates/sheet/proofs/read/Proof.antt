@@ -4,13 +4,13 @@ use mathlib.Core.Path.{_≡_, _∙_, ap}
 use native.Mathlib.Omega.{arith}
 use lib.ListN.{length}
 use borrow.Author.Needs.{needs}
-use Rattle.terms.specs.declared.Refusal.the-variants.{LentLengths}
-use Rattle.auction.specs.Refusals.{_gives_, accepted, firstFault}
-use Rattle.checking.specs.Content.{guests, stations, sheetFaults, readSheet}
-use Rattle.checking.proofs.Faults.{sheet-sound}
-use Rattle.checking.proofs.Answers.{told-read}
-use Rattle.sheet.specs.Sheet.{lentTables}
-use Rattle.sheet.proofs.Tables.{lent-lengths, rows-good, room-for, refused-lent, refused-sheet, read-all}
+use Rattle.model.specs.declared.refusal.Refusal.the-variants.{LentLengths}
+use Rattle.model.specs.Refusals.{_gives_, accepted, firstFault}
+use Rattle.model.specs.sheet.Content.{guests, stations, sheetFaults, readSheet}
+use Rattle.model.proofs.sheet.Faults.{sheet-sound}
+use Rattle.model.proofs.sheet.Answers.{told-read}
+use Rattle.model.specs.contracts.Reads.{lentTables}
+use Rattle.model.proofs.sheet.Tables.{lent-lengths, rows-good, room-for, refused-lent, refused-sheet, read-all}
 use Rattle.sheet.proofs.read.Statement.{statement}
 use Rattle.sheet.proofs.read.Tie as tie
 

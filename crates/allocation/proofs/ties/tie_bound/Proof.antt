@@ -1,0 +1,78 @@
+use Prim.Native.Nat.{ℕ, _+_, _-_, _≤_, _<_}
+use mathlib.Core.Path.{_≡_}
+use mathlib.Core.Logic.{inl, inr}
+use native.Mathlib.Omega.{arith}
+use lib.ListN.{length}
+use borrow.Author.Needs.{needs}
+use borrow.Author.Count.{below-none}
+use Rattle.allocation.specs.Ties.{ties}
+use Rattle.allocation.proofs.ties.Ties.{no-tie, ties-none, ties-more, room-more, bound-here}
+use Rattle.allocation.proofs.ties.tie_bound.Statement.{statement}
+use Rattle.allocation.proofs.ties.tie_bound.Tie as tie
+
+abbrev Inv-loop : tie.InvT-loop
+Inv-loop totals t a b s₀ i₀ s i =
+    (i ≤ length totals) × (s ≤ a + i) × (s ≡ a + ties totals t i) × ((k : ℕ) → k < i → a + ties totals t k < b)
+
+abbrev μ-loop : tie.MeasureT-loop
+μ-loop totals t a b s₀ i₀ s i = length totals - i
+
+returns : tie.Need-returns Inv-loop μ-loop
+returns c = no-tie (c .if1 .taken)
+
+loop-holds : tie.Need-loop-holds Inv-loop μ-loop
+loop-holds c = (omega arith, omega arith, ties-none (c .before .before .args .totals .now) _ _, below-none _)
+
+cast-result : tie.Need-cast-result Inv-loop μ-loop
+cast-result c = search needs
+
+returns-2 : tie.Need-returns-2 Inv-loop μ-loop
+returns-2 c = bound-here (c .before .before .loop .inv .0) (c .before .before .before .if1 .left) (c .before .before .loop .inv .2) (c .before .before .loop .inv .3) (inl (c .if2 .taken))
+
+mul-tally : tie.Need-mul-tally Inv-loop μ-loop
+mul-tally c = search needs
+
+shared-slice-read-tally : tie.Need-shared-slice-read-tally Inv-loop μ-loop
+shared-slice-read-tally c = search needs
+
+tally-requires : tie.Need-tally-requires Inv-loop μ-loop
+tally-requires c κs = search needs
+
+add-i : tie.Need-add-i Inv-loop μ-loop
+add-i c = search needs
+
+loop-less : tie.Need-loop-less Inv-loop μ-loop
+loop-less c = search needs
+
+loop-again : tie.Need-loop-again Inv-loop μ-loop
+loop-again c = (
+  omega arith,
+  omega (arith, c .tally .ensures .1),
+  ties-more (c .before .before .before .before .before .before .before .args .totals .now) _ _ _ _ _ (c .before .before .before .before .loop .inv .2) (c .tally .ensures .0),
+  room-more (c .before .before .before .before .before .before .before .args .totals .now) _ _ _ _ _ (c .before .before .before .before .loop .inv .2) (c .before .before .if2 .left) (c .before .before .before .before .loop .inv .3),
+)
+
+cast-result-2 : tie.Need-cast-result-2 Inv-loop μ-loop
+cast-result-2 c = search needs
+
+returns-3 : tie.Need-returns-3 Inv-loop μ-loop
+returns-3 c = bound-here (c .before .loop .inv .0) (c .before .before .if1 .left) (c .before .loop .inv .2) (c .before .loop .inv .3) (inr (c .loop-test .left))
+
+pub tie-bound-spec : {M : Type 1} → statement M
+tie-bound-spec =
+    tie.close
+    (tie.spec
+    Inv-loop
+    μ-loop
+    returns
+    loop-holds
+    cast-result
+    returns-2
+    mul-tally
+    shared-slice-read-tally
+    tally-requires
+    add-i
+    loop-less
+    loop-again
+    cast-result-2
+    returns-3)

@@ -1,0 +1,6 @@
+pub mod Assignment
+pub mod Offers
+pub mod Selection
+pub mod Stages
+pub mod Ties
+pub mod Totals

@@ -1,0 +1,122 @@
+// Every guest's station and charge: the stations of an accepted market take their turns.
+use crate::turns;
+use model::limits::MAX_GUESTS;
+use model::limits::MAX_STATIONS;
+use pricing::charges;
+use pricing::money::UnitPrice;
+ghost use Prim.Native.Nat.{_+_, _<_};
+ghost use mathlib.Core.Path.{_≡_};
+ghost use lib.ListN.{length};
+ghost use Rattle.model.specs.market.Outcome.{seen};
+ghost use Rattle.model.specs.market.Market.{regular};
+ghost use Rattle.allocation.specs.Stages.{AtCut, After};
+ghost use Rattle.allocation.specs.Assignment.{Assigned};
+
+// Every station's turn.
+fn all_stations(
+    asks: &[u32],
+    bays: &[u16],
+    amounts: &[u16],
+    bids: &[u32],
+    cut: UnitPrice,
+    least: &[u32],
+    totals: &mut [u32],
+    chosen: &mut [u32],
+    gains: &mut [u32],
+    criticals: &mut [u32],
+)
+    requires { ⌜ AtCut (regular (now asks) (now bays) (now amounts) (now bids)) (cut .0) (now least) ⌝ }
+    requires { ⌜ length (now totals) ≡ length (now amounts) ⌝ }
+    requires { ⌜ After (seen (regular (now asks) (now bays) (now amounts) (now bids))) (length (now amounts)) 0 (now chosen) (now gains) (now criticals) ⌝ }
+    ensures { λ _. ⌜ After (seen (regular (now (asks .entry)) (now (bays .entry)) (now (amounts .entry)) (now (bids .entry)))) (length (now (amounts .entry))) (length (now (asks .entry))) (now (chosen .exit)) (now (gains .exit)) (now (criticals .exit)) ⌝ }
+{
+    let mut j = 0;
+    while j < asks.len() {
+        turns::station(
+            asks,
+            bays,
+            amounts,
+            bids,
+            cut,
+            least,
+            j,
+            totals,
+            chosen,
+            gains,
+            criticals,
+        );
+        j += 1;
+    }
+}
+
+// Every guest's station and charge, with room for what is gathered and chosen on the way.
+fn assign(
+    asks: &[u32],
+    bays: &[u16],
+    amounts: &[u16],
+    bids: &[u32],
+    cut: UnitPrice,
+    least: &[u32],
+    totals: &mut [u32],
+    chosen: &mut [u32],
+    gains: &mut [u32],
+    criticals: &mut [u32],
+    stations: &mut [u16],
+    charges: &mut [u32],
+)
+    requires { ⌜ AtCut (regular (now asks) (now bays) (now amounts) (now bids)) (cut .0) (now least) ⌝ }
+    requires { ⌜ length (now totals) ≡ length (now amounts) ⌝ }
+    requires { ⌜ After (seen (regular (now asks) (now bays) (now amounts) (now bids))) (length (now amounts)) 0 (now chosen) (now gains) (now criticals) ⌝ }
+    requires { ⌜ (length (now stations) ≡ length (now amounts)) × (length (now charges) ≡ length (now amounts)) ⌝ }
+    ensures { λ _. ⌜ Assigned (regular (now (asks .entry)) (now (bays .entry)) (now (amounts .entry)) (now (bids .entry))) (now (stations .exit)) (now (charges .exit)) ⌝ }
+{
+    all_stations(
+        asks,
+        bays,
+        amounts,
+        bids,
+        cut,
+        least,
+        totals,
+        chosen,
+        gains,
+        criticals,
+    );
+    charges::charge_guests(chosen, least, criticals, stations, charges);
+}
+
+// The same, with its own room. For `clearing`, which has checked the tables and found the cut and the least charges.
+pub fn assign_all(
+    asks: &[u32],
+    bays: &[u16],
+    amounts: &[u16],
+    bids: &[u32],
+    cut: UnitPrice,
+    least: &[u32],
+    stations: &mut [u16],
+    charges: &mut [u32],
+)
+    requires { ⌜ AtCut (regular (now asks) (now bays) (now amounts) (now bids)) (cut .0) (now least) ⌝ }
+    requires { ⌜ (length (now stations) ≡ length (now amounts)) × (length (now charges) ≡ length (now amounts)) ⌝ }
+    ensures { λ _. ⌜ Assigned (regular (now (asks .entry)) (now (bays .entry)) (now (amounts .entry)) (now (bids .entry))) (now (stations .exit)) (now (charges .exit)) ⌝ }
+{
+    let mut totals = [0u32; MAX_GUESTS];
+    let mut chosen = [0u32; MAX_GUESTS];
+    let mut gains = [0u32; MAX_GUESTS];
+    let mut criticals = [0u32; MAX_STATIONS + 1];
+    let n = amounts.len();
+    assign(
+        asks,
+        bays,
+        amounts,
+        bids,
+        cut,
+        least,
+        &mut totals[..n],
+        &mut chosen[..n],
+        &mut gains[..n],
+        &mut criticals,
+        stations,
+        charges,
+    );
+}

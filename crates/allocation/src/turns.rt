@@ -1,0 +1,54 @@
+// A station's turn: where it is open, its offers go to every guest.
+use crate::offers;
+use crate::selection;
+use crate::ties;
+use crate::totals;
+use pricing::money::UnitPrice;
+ghost use Prim.Native.Nat.{_+_, _<_};
+ghost use mathlib.Core.Path.{_≡_};
+ghost use lib.ListN.{length, getD};
+ghost use Rattle.model.specs.Counting.{_<?_, list};
+ghost use Rattle.model.specs.market.Outcome.{seen};
+ghost use Rattle.model.specs.market.Market.{regular};
+ghost use Rattle.allocation.specs.Totals.{totalAt};
+ghost use Rattle.allocation.specs.Stages.{AtCut, After, gatheredIf};
+
+// Station j's turn, after the stations before it. For `assignment`, whose market is accepted and at its cut.
+pub fn station(
+    asks: &[u32],
+    bays: &[u16],
+    amounts: &[u16],
+    bids: &[u32],
+    cut: UnitPrice,
+    least: &[u32],
+    j: usize,
+    totals: &mut [u32],
+    chosen: &mut [u32],
+    gains: &mut [u32],
+    criticals: &mut [u32],
+)
+    requires { ⌜ AtCut (regular (now asks) (now bays) (now amounts) (now bids)) (cut .0) (now least) ⌝ }
+    requires { ⌜ (j < length (now asks)) × (length (now totals) ≡ length (now amounts)) ⌝ }
+    requires { ⌜ After (seen (regular (now asks) (now bays) (now amounts) (now bids))) (length (now amounts)) j (now chosen) (now gains) (now criticals) ⌝ }
+    ensures { λ _. ⌜ After (seen (regular (now (asks .entry)) (now (bays .entry)) (now (amounts .entry)) (now (bids .entry)))) (length (now (amounts .entry))) (j + 1) (now (chosen .exit)) (now (gains .exit)) (now (criticals .exit)) ⌝ }
+    ensures { λ _. ⌜ now (totals .exit) ≡ gatheredIf (getD (now (asks .entry)) j 0 <? cut .0) (list (length (now (amounts .entry))) (totalAt (now (bids .entry)) (now (amounts .entry)) (length (now (asks .entry))) j (cut .0))) (now (totals .entry)) ⌝ }
+{
+    let ask = asks[j];
+    if UnitPrice(ask).below(cut) {
+        let top = totals::gather(bids, amounts, asks.len(), j, cut, totals);
+        let b = bays[j] as u32;
+        let critical = selection::critical_total(totals, top, b);
+        let bound = ties::tie_bound(totals, critical.total, critical.above, b);
+        let s = j + 1;
+        criticals[s] = critical.total;
+        offers::offer(
+            totals,
+            least,
+            critical.total,
+            bound,
+            s as u32,
+            chosen,
+            gains,
+        );
+    }
+}

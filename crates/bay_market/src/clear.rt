@@ -1,0 +1,45 @@
+// The clearing for other languages: include/bay_market.h.
+use model::answers::Clearing;
+ghost use Rattle.model.specs.market.Outcome.{results};
+ghost use Rattle.model.specs.market.Market.{tables};
+ghost use Rattle.model.specs.contracts.ClearsOut.{ClearsOut};
+
+#[no_mangle]
+pub extern "C" fn bay_market_clear(
+    asks: &[u32],
+    bays: &[u16],
+    amounts: &[u16],
+    bids: &[u32],
+    width: usize,
+    stations: &mut [u16],
+    charges: &mut [u32],
+    sold: &mut [u32],
+    paid: &mut [u64],
+    cut: &mut u32,
+    margin: &mut u64,
+) -> u8
+    ensures { λ r. ⌜ ClearsOut (tables (now (asks .entry)) (now (bays .entry)) (now (amounts .entry)) (now (bids .entry)) width) (results (now (stations .entry)) (now (charges .entry)) (now (sold .entry)) (now (paid .entry))) (now (cut .entry)) (now (margin .entry)) r (results (now (stations .exit)) (now (charges .exit)) (now (sold .exit)) (now (paid .exit))) (now (cut .exit)) (now (margin .exit)) ⌝ }
+{
+    let answer = clearing::clear(
+        asks,
+        bays,
+        amounts,
+        bids,
+        width,
+        stations,
+        charges,
+        sold,
+        paid,
+    );
+    match answer {
+        Clearing::Refused(refusal) => refusal.number(),
+        Clearing::Cleared {
+            cut: at,
+            margin: kept,
+        } => {
+            *cut = at;
+            *margin = kept;
+            0
+        }
+    }
+}

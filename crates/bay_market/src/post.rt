@@ -1,0 +1,52 @@
+// The posting of a round for other languages: include/bay_market.h.
+use model::account::StationAccount;
+use model::answers::Reply;
+ghost use mathlib.Core.Path.{_≡_};
+ghost use Rattle.model.specs.market.Market.{tables};
+ghost use Rattle.model.specs.Refusals.{code};
+ghost use Rattle.model.specs.contracts.Replies.{verdictOf};
+ghost use Rattle.model.specs.book.Posting.{posting};
+ghost use Rattle.model.specs.book.LentBook.{book};
+ghost use Rattle.model.specs.contracts.PostsOut.{PostsOut};
+
+fn reply_number(reply: Reply) -> u8
+    ensures { λ k. ⌜ k ≡ code (verdictOf reply) ⌝ }
+{
+    match reply {
+        Reply::Posted => 0,
+        Reply::Refused(refusal) => refusal.number(),
+    }
+}
+
+// `post` for C: 0 for a posted round, or the refusal's number.
+#[no_mangle]
+pub extern "C" fn bay_market_post(
+    asks: &[u32],
+    bays: &[u16],
+    amounts: &[u16],
+    bids: &[u32],
+    width: usize,
+    round: u32,
+    guests: &mut [u64],
+    stations: &mut [StationAccount],
+    house: &mut u64,
+    last: &mut u32,
+) -> u8
+    ensures { λ k. ⌜ PostsOut (book (now (guests .entry)) (now (stations .entry)) (now (house .entry)) (now (last .entry)))
+        (posting (tables (now (asks .entry)) (now (bays .entry)) (now (amounts .entry)) (now (bids .entry)) width) round)
+        (book (now (guests .exit)) (now (stations .exit)) (now (house .exit)) (now (last .exit))) k ⌝ }
+{
+    let reply = ledger::post(
+        asks,
+        bays,
+        amounts,
+        bids,
+        width,
+        round,
+        guests,
+        stations,
+        house,
+        last,
+    );
+    reply_number(reply)
+}

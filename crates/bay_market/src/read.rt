@@ -1,0 +1,26 @@
+// The reader for other languages: include/bay_market.h.
+use model::answers::Reading;
+ghost use Rattle.model.specs.contracts.ReadsOut.{ReadsOut};
+
+#[no_mangle]
+pub extern "C" fn bay_market_read(
+    sheet: &[u8],
+    amounts: &mut [u16],
+    asks: &mut [u32],
+    bays: &mut [u16],
+    bids: &mut [u32],
+    n: &mut u16,
+    m: &mut u16,
+) -> u8
+    ensures { λ r. ⌜ ReadsOut (now (sheet .entry)) (now (amounts .entry)) (now (asks .entry)) (now (bays .entry)) (now (bids .entry)) (now (n .entry)) (now (m .entry)) r (now (amounts .exit)) (now (asks .exit)) (now (bays .exit)) (now (bids .exit)) (now (n .exit)) (now (m .exit)) ⌝ }
+{
+    let reading = sheet::read(sheet, amounts, asks, bays, bids);
+    match reading {
+        Reading::Refused(refusal) => refusal.number(),
+        Reading::Read { guests, stations } => {
+            *n = guests as u16;
+            *m = stations as u16;
+            0
+        }
+    }
+}

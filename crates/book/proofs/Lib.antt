@@ -1,5 +1,0 @@
-pub mod Accounts
-pub mod LentBook
-pub mod Ledger
-pub mod Example
-pub mod Existence

@@ -1,4 +1,0 @@
-pub mod Posting
-pub mod PlainBook
-pub mod LentBook
-pub mod Ledger

@@ -1,0 +1,89 @@
+// The first fault of a call that clears a market, in the order of document 01's table.
+use crate::scans;
+use model::limits::MAX_AMOUNT;
+use model::limits::MAX_CAPACITY;
+use model::limits::MAX_GUESTS;
+use model::limits::MAX_PRICE;
+use model::limits::MAX_STATIONS;
+use model::refusal::Refusal;
+ghost use Prim.Native.Nat.{_*_, _<_, _≤_};
+ghost use mathlib.Core.Bool.{not};
+ghost use mathlib.Core.Path.{_≡_};
+ghost use Rattle.model.specs.Limits.{maxGuests, maxStations};
+ghost use Rattle.model.specs.Counting.{_<?_, _=?_, _or_};
+ghost use Rattle.model.specs.Refusals.{firstFault};
+ghost use Rattle.model.specs.market.Faults.{values, clearingFaults};
+ghost use Rattle.model.specs.market.Market.{regular, tables};
+ghost use Rattle.model.specs.market.Outcome.{results};
+ghost use Rattle.clearing.specs.Verdicts.{asVerdict};
+
+pub enum Verdict {
+    Accepted,
+    Refused(Refusal),
+}
+
+fn bad_counts(n: usize, m: usize) -> bool
+    ensures { λ r. ⌜ r ≡ (maxGuests <? n or m =? 0 or maxStations <? m) ⌝ }
+{
+    (MAX_GUESTS < n) | (m == 0) | (MAX_STATIONS < m)
+}
+
+fn bad_lengths(n: usize, m: usize, bays: usize, bids: usize, width: usize) -> bool
+    requires { ⌜ (n ≤ maxGuests) × (m ≤ maxStations) ⌝ }
+    ensures { λ r. ⌜ r ≡ (not (bays =? m) or not (bids =? n * m) or not (width =? m)) ⌝ }
+{
+    (bays != m) | (bids != n * m) | (width != m)
+}
+
+fn bad_lent(n: usize, m: usize, stations: usize, charges: usize, sold: usize, paid: usize) -> bool
+    ensures { λ r. ⌜ r ≡ (not (stations =? n) or not (charges =? n) or not (sold =? m) or not (paid =? m)) ⌝ }
+{
+    (stations != n) | (charges != n) | (sold != m) | (paid != m)
+}
+
+// The first fault of a value: all asks, then all bays, then all amounts, then all bids.
+fn value_fault(asks: &[u32], bays: &[u16], amounts: &[u16], bids: &[u32]) -> Verdict
+    ensures { λ r. ⌜ r ≡ asVerdict (firstFault (values (regular (now (asks .entry)) (now (bays .entry)) (now (amounts .entry)) (now (bids .entry))))) ⌝ }
+{
+    if scans::any_outside32(asks, 0, MAX_PRICE) {
+        return Verdict::Refused(Refusal::AskOutOfRange);
+    }
+    if scans::any_outside16(bays, 1, MAX_CAPACITY) {
+        return Verdict::Refused(Refusal::BaysOutOfRange);
+    }
+    if scans::any_outside16(amounts, 1, MAX_AMOUNT) {
+        return Verdict::Refused(Refusal::AmountOutOfRange);
+    }
+    if scans::any_outside32(bids, 0, MAX_PRICE) {
+        return Verdict::Refused(Refusal::BidOutOfRange);
+    }
+    Verdict::Accepted
+}
+
+// The first fault of a call, in the order of document 01's table. The counts come first, so that n times m cannot wrap.
+pub fn first_fault(
+    asks: &[u32],
+    bays: &[u16],
+    amounts: &[u16],
+    bids: &[u32],
+    width: usize,
+    stations: &[u16],
+    charges: &[u32],
+    sold: &[u32],
+    paid: &[u64],
+) -> Verdict
+    ensures { λ r. ⌜ r ≡ asVerdict (firstFault (clearingFaults (tables (now (asks .entry)) (now (bays .entry)) (now (amounts .entry)) (now (bids .entry)) width) (results (now (stations .entry)) (now (charges .entry)) (now (sold .entry)) (now (paid .entry))))) ⌝ }
+{
+    let n = amounts.len();
+    let m = asks.len();
+    if bad_counts(n, m) {
+        return Verdict::Refused(Refusal::CountsOutOfRange);
+    }
+    if bad_lengths(n, m, bays.len(), bids.len(), width) {
+        return Verdict::Refused(Refusal::LengthsDiffer);
+    }
+    if bad_lent(n, m, stations.len(), charges.len(), sold.len(), paid.len()) {
+        return Verdict::Refused(Refusal::LentLengths);
+    }
+    value_fault(asks, bays, amounts, bids)
+}

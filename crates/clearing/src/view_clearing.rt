@@ -1,0 +1,32 @@
+// The clearing of a market whose bids stand in a view.
+use crate::views::BidTable;
+use model::answers::Clearing;
+ghost use Rattle.model.specs.market.Outcome.{results};
+ghost use Rattle.model.specs.market.Market.{tables};
+ghost use Rattle.model.specs.contracts.Clears.{Clears};
+
+// Clears a market whose bids stand in a view, or refuses it and writes nothing: `clear` of what the view holds.
+pub fn clear_table(
+    asks: &[u32],
+    bays: &[u16],
+    amounts: &[u16],
+    table: BidTable<'_>,
+    stations: &mut [u16],
+    charges: &mut [u32],
+    sold: &mut [u32],
+    paid: &mut [u64],
+) -> Clearing
+    ensures { λ r. ⌜ Clears (tables (now (asks .entry)) (now (bays .entry)) (now (amounts .entry)) (now (table .entry .bids)) (table .entry .width)) (results (now (stations .entry)) (now (charges .entry)) (now (sold .entry)) (now (paid .entry))) r (results (now (stations .exit)) (now (charges .exit)) (now (sold .exit)) (now (paid .exit))) ⌝ }
+{
+    crate::clear(
+        asks,
+        bays,
+        amounts,
+        table.bids,
+        table.width,
+        stations,
+        charges,
+        sold,
+        paid,
+    )
+}

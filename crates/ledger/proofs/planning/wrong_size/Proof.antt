@@ -1,0 +1,13 @@
+use borrow.Author.Needs.{needs}
+use Rattle.model.specs.Counting.{_<?_, _or_}
+use Rattle.model.specs.market.Faults.{outside}
+use Rattle.model.specs.book.Faults.{bookSize}
+use Rattle.ledger.proofs.planning.wrong_size.Statement.{statement}
+use Rattle.ledger.proofs.planning.wrong_size.Tie as tie
+
+returns : tie.Need-returns
+unfolding bookSize _or_ outside _<?_
+returns c = search needs
+
+pub wrong-size-spec : {M : Type 1} → statement M
+wrong-size-spec = tie.close (tie.spec returns)

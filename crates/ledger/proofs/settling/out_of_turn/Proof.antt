@@ -1,0 +1,23 @@
+use mathlib.Core.Path.{sym, ap}
+use borrow.Author.Needs.{needs}
+use Rattle.model.specs.declared.refusal.Refusal.the-variants.{RoundOutOfTurn}
+use Rattle.model.specs.Counting.{_=?_}
+use Rattle.model.specs.Refusals.{_gives_}
+use Rattle.model.specs.book.Faults.{outOfTurn}
+use Rattle.model.proofs.Tests.{or-left, or-skip, is-le, not-le}
+use Rattle.ledger.proofs.settling.out_of_turn.Statement.{statement}
+use Rattle.ledger.proofs.settling.out_of_turn.Tie as tie
+
+returns : tie.Need-returns
+unfolding outOfTurn
+returns c = ap (λ b. b gives RoundOutOfTurn) (sym (or-left _ _ (is-le _ _ (c .if1 .taken))))
+
+add-result : tie.Need-add-result
+add-result c = search needs
+
+returns-2 : tie.Need-returns-2
+unfolding outOfTurn _=?_
+returns-2 c = ap (λ b. b gives RoundOutOfTurn) (sym (or-skip _ (not-le _ _ (c .if1 .left))))
+
+pub out-of-turn-spec : {M : Type 1} → statement M
+out-of-turn-spec = tie.close (tie.spec returns add-result returns-2)

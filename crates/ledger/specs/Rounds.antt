@@ -1,0 +1,22 @@
+-- The round that is refused, and one that is posted.
+use Prim.Native.Nat.{ℕ}
+use mathlib.Core.List.{List}
+use lib.ListN.{replicate}
+use Rattle.model.specs.Limits.{maxGuests, maxStations}
+use Rattle.model.specs.declared.refusal.Refusal.{Refusal}
+use Rattle.model.specs.declared.answers.Reply.the-variants as reply
+use Rattle.ledger.specs.declared.round.Round.{Round}
+
+-- a round that is refused adds 0 everywhere
+unfoldable pub refusing : Refusal → Round
+refusing r = record {
+  reply = reply.Refused r;
+  charges = replicate maxGuests 0;
+  sold = replicate maxStations 0;
+  paid = replicate maxStations 0;
+  margin = 0;
+}
+
+-- a posted round of these lists
+unfoldable pub posted : (charges sold paid : List ℕ) (margin : ℕ) → Round
+posted charges sold paid margin = record { reply = reply.Posted; charges = charges; sold = sold; paid = paid; margin = margin }

@@ -1,0 +1,10 @@
+pub mod Counting
+pub mod Loops
+pub mod Refusals
+pub mod Tests
+pub mod book
+pub mod cases
+pub mod claims
+pub mod contracts
+pub mod market
+pub mod sheet

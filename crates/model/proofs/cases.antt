@@ -1,0 +1,5 @@
+pub mod Cases
+pub mod Example
+pub mod Instances
+pub mod Sheets
+pub mod Worked

@@ -1,0 +1,116 @@
+-- The worked instances: the theorems at numbers, and the numbers by computation.
+use Prim.Native.Nat.{ℕ, zero, suc, _<_}
+use mathlib.Core.Path.{_≡_, refl}
+use native.Mathlib.Omega.{arith}
+use lib.IntN.{pos, negsuc}
+use lib.ListN.{getD}
+use Rattle.model.specs.Counting.{_<?_, _≤?_, _=?_, _and_, _or_, only, sum, greatest, count, some, any}
+use Rattle.model.specs.Refusals.{firstFault}
+use Rattle.model.specs.market.Market.{bidAt, marketBy, median, byNumber, market, cut, opens, screen, queue, before, rank, provisional, critical}
+use Rattle.model.specs.market.Mechanism.{at, charge, charged, obtained, sold, paid, margin, better, best, surplus, truthful}
+use Rattle.model.specs.market.Outcome.{seen, decided}
+use Rattle.model.specs.market.Faults.{outside, counts, lengths, values, marketFaults, verdict, Accepted}
+use Rattle.model.specs.market.Gains.{guestGain, stationGain}
+use Rattle.model.specs.claims.Truth.{AlikeButForGuest, AlikeButForStation}
+use Rattle.model.specs.cases.Cases.{pair, caseE, caseG}
+use Rattle.model.specs.cases.Instances.{overbid, GuestInstance, costly, underasked, StationInstance, MenuInstance, LimitsInstance}
+use Rattle.model.proofs.market.Pivots.{without, left-out, pivot, past, bar}
+use Rattle.model.proofs.market.Menus.{menu}
+use Rattle.model.proofs.claims.Truth.{guest-truthful, station-truthful, menu-of, clearing-limits}
+
+-- the numbers
+pub record Numbers : Type 0 where
+  pub accepted-G : Accepted caseG
+  pub accepted-overbid : Accepted overbid
+  pub accepted-costly : Accepted costly
+  pub accepted-underasked : Accepted underasked
+  pub accepted-E : Accepted caseE
+  pub G-gains : guestGain (seen caseG) (decided caseG) (bidAt caseG 1) 1 ≡ pos 0
+  pub overbid-gains : guestGain (seen overbid) (decided overbid) (bidAt caseG 1) 1 ≡ negsuc 6
+  pub costly-gains : stationGain (seen costly) (decided costly) 5 0 ≡ pos 0
+  pub underasked-gains : stationGain (seen underasked) (decided underasked) 5 0 ≡ negsuc 1
+  pub bar-is : (menu (market caseG) 1) .bar 0 ≡ 28
+  pub price-is : (menu (market caseG) 1) .price 0 ≡ 27
+  pub charges-are : sum 2 (charged (seen caseE) (decided caseE)) ≡ 24
+  pub payments-are : sum 2 (paid (seen caseE) (decided caseE)) ≡ 18
+  pub margin-is : margin (seen caseE) (decided caseE) ≡ 6
+
+numbers : Numbers
+unfolding _<?_ _≤?_ _=?_ _and_ _or_ only sum greatest count some any firstFault bidAt marketBy median byNumber market cut opens screen queue before rank provisional critical at charge charged obtained sold paid margin better best surplus truthful seen decided outside counts lengths values marketFaults verdict guestGain stationGain pair caseE caseG overbid costly underasked without left-out pivot past bar menu
+numbers = record {
+  accepted-G = refl;
+  accepted-overbid = refl;
+  accepted-costly = refl;
+  accepted-underasked = refl;
+  accepted-E = refl;
+  G-gains = refl;
+  overbid-gains = refl;
+  costly-gains = refl;
+  underasked-gains = refl;
+  bar-is = refl;
+  price-is = refl;
+  charges-are = refl;
+  payments-are = refl;
+  margin-is = refl;
+}
+
+guests-alike : AlikeButForGuest caseG overbid 1
+unfolding pair caseG overbid bidAt
+guests-alike = record { same-asks = refl; same-bays = refl; same-amounts = refl; same-bids = row }
+  where
+    row : (k j : ℕ) → k < 2 → j < 2 → (k ≡ 1 → ⊥) → bidAt overbid k j ≡ bidAt caseG k j
+    row zero zero lk lj n = refl
+    row zero (suc zero) lk lj n = refl
+    row zero (suc (suc j)) lk lj n = absurd (omega arith)
+    row (suc zero) j lk lj n = absurd (n refl)
+    row (suc (suc k)) j lk lj n = absurd (omega arith)
+
+stations-alike : AlikeButForStation costly underasked 0
+unfolding costly underasked
+stations-alike = record { same-count = refl; same-asks = asks; same-bays = refl; same-amounts = refl; same-bids = refl }
+  where
+    asks : (k : ℕ) → k < 2 → (k ≡ 0 → ⊥) → getD (underasked .asks) k 0 ≡ getD (costly .asks) k 0
+    asks zero l n = absurd (n refl)
+    asks (suc k) l n = refl
+
+second-of-two : 1 < 2
+second-of-two = omega arith
+
+pub guest-instance : GuestInstance
+unfolding seen decided market pair caseG
+guest-instance = record {
+  accepted = numbers .accepted-G;
+  accepted′ = numbers .accepted-overbid;
+  alike = guests-alike;
+  truth-gains = numbers .G-gains;
+  overbid-gains = numbers .overbid-gains;
+  no-more = guest-truthful median caseG overbid 1 (numbers .accepted-G) (numbers .accepted-overbid) second-of-two guests-alike;
+}
+
+pub station-instance : StationInstance
+unfolding seen decided market costly
+station-instance = record {
+  accepted = numbers .accepted-costly;
+  accepted′ = numbers .accepted-underasked;
+  alike = stations-alike;
+  truth-gains = numbers .costly-gains;
+  underasked-gains = numbers .underasked-gains;
+  no-more = station-truthful median costly underasked 0 (numbers .accepted-costly) (numbers .accepted-underasked) (omega arith) stations-alike;
+}
+
+pub menu-instance : MenuInstance
+unfolding market pair caseG
+menu-instance = record {
+  menu = menu (market caseG) 1;
+  is-menu = menu-of caseG 1 (numbers .accepted-G) second-of-two;
+  bar-is = numbers .bar-is;
+  price-is = numbers .price-is;
+}
+
+pub limits-instance : LimitsInstance
+limits-instance = record {
+  within = clearing-limits caseE (numbers .accepted-E);
+  charges-are = numbers .charges-are;
+  payments-are = numbers .payments-are;
+  margin-is = numbers .margin-is;
+}

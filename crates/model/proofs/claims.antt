@@ -1,0 +1,4 @@
+pub mod Calls
+pub mod Existence
+pub mod Ledger
+pub mod Truth

@@ -1,0 +1,183 @@
+-- Demand 3, first two sentences, proved: two tables that are alike are one market with other bids or another ask.
+use Prim.Native.Nat.{ℕ, suc, _+_, _*_, _-_, _≤_, _<_}
+use mathlib.Core.Bool.{Bool, true, false, cond}
+use mathlib.Core.Logic.{⊎-elim}
+use mathlib.Core.Path.{_≡_, refl, sym, ap, subst, _∙_}
+use native.Mathlib.Omega.{arith}
+use lib.Dec.{T, ltb, leb→le, le→leb}
+use lib.IntN.{pos, negsuc, subℕ}
+use lib.ListN.{getD, length, List·getD-eq-default}
+use lib.Signed.{leZ}
+use borrow.Author.Tests.{ltb-true, ltb-false}
+use Rattle.model.specs.Counting.{sum}
+use Rattle.model.specs.market.Market.{Tables, bidAt, Market, marketBy, median, byNumber, market, screen}
+use Rattle.model.specs.market.Mechanism.{at, charged, obtained, sold, paid, margin, truthful}
+use Rattle.model.specs.market.Outcome.{seen, decided}
+use Rattle.model.specs.market.Faults.{Accepted}
+use Rattle.model.specs.market.Gains.{guestGain, stationGain}
+use Rattle.model.specs.claims.Truth.{AlikeButForGuest, AlikeButForStation, GuestTruthful, StationTruthful, SignedReads, choice, MenuOf, GuestMenu, ClearingLimits}
+use Rattle.model.proofs.Tests.{lt-or-le}
+use Rattle.model.proofs.market.Acceptance.{accepted-reads}
+use Rattle.model.proofs.market.Decisions.{charged-within-bid, payment-covers-ask, balance}
+use Rattle.model.proofs.market.Truthful.{numbers-differ, truthful-candidates, truthful-fair}
+use Rattle.model.proofs.market.Menus.{choice-truth, menu, menu-below, menu-near, rebid, menu-assigned, menu-charged}
+use Rattle.model.proofs.market.Stations.{reask, station-truth}
+
+-- ---- signed gains
+
+signed : (a b c d : ℕ) → T (leZ (subℕ a b) (subℕ c d)) → a + d ≤ c + b
+signed a b c d = go (ltb a b) refl (ltb c d) refl
+  where
+    go : (x : Bool) → ltb a b ≡ x → (y : Bool) → ltb c d ≡ y
+        → T (leZ (cond x (negsuc (b - suc a)) (pos (a - b))) (cond y (negsuc (d - suc c)) (pos (c - d)))) → a + d ≤ c + b
+    go true p true q h = omega (arith, ltb-true a b p, ltb-true c d q, leb→le (d - suc c) (b - suc a) h)
+    go true p false q h = omega (arith, ltb-true a b p, ltb-false c d q)
+    go false p true q h = absurd h
+    go false p false q h = omega (arith, ltb-false a b p, ltb-false c d q, leb→le (a - b) (c - d) h)
+
+unsigned : (a b c d : ℕ) → a + d ≤ c + b → T (leZ (subℕ a b) (subℕ c d))
+unsigned a b c d h = go (ltb a b) refl (ltb c d) refl
+  where
+    go : (x : Bool) → ltb a b ≡ x → (y : Bool) → ltb c d ≡ y
+        → T (leZ (cond x (negsuc (b - suc a)) (pos (a - b))) (cond y (negsuc (d - suc c)) (pos (c - d))))
+    go true p true q = le→leb (d - suc c) (b - suc a) (omega (arith, ltb-true a b p, ltb-true c d q))
+    go true p false q = tt
+    go false p true q = absurd (omega (arith, ltb-false a b p, ltb-true c d q))
+    go false p false q = le→leb (a - b) (c - d) (omega (arith, ltb-false a b p, ltb-false c d q))
+
+pub signed-reads : SignedReads
+signed-reads a b c d = (λ h. signed a b c d (h .le), λ h. record { le = unsigned a b c d h })
+
+-- ---- guests
+
+module _ (t t′ : Tables) (i : ℕ) (A : AlikeButForGuest t t′ i) where
+  rebid-market : (rule key : ℕ → ℕ) → rebid (marketBy rule key t) (bidAt t′) ≡ marketBy rule key t′
+  unfolding marketBy
+  rebid-market rule key = λ x. record {
+    guests = length (sym (A .same-amounts) x);
+    stations = length (sym (A .same-asks) x);
+    position = rule (length (sym (A .same-asks) x));
+    ask = λ j. getD (sym (A .same-asks) x) j 0;
+    capacity = λ j. getD (sym (A .same-bays) x) j 0;
+    amount = λ i. getD (sym (A .same-amounts) x) i 0;
+    bid = bidAt t′;
+    key = key;
+  }
+
+module _ (rule : ℕ → ℕ) (t : Tables) (i : ℕ) (a : Accepted t) (li : i < length (t .amounts)) where
+  abbrev M : Market
+  M = marketBy rule byNumber t
+
+  -- in N guest i is assigned its choice by the totals that it states there, and charged the price
+  abbrev ByMenu : Market → Type 0
+  ByMenu N = ((truthful (screen N)) .assigned i ≡ choice (length (t .asks)) (menu M i) ((screen N) .total i))
+      × (charged (screen N) (truthful (screen N)) i ≡ at ((menu M i) .price) (choice (length (t .asks)) (menu M i) ((screen N) .total i)))
+
+  rebid-by-menu : (b : ℕ → ℕ → ℕ) → ((k j : ℕ) → k < length (t .amounts) → j < length (t .asks) → (k ≡ i → ⊥) → b k j ≡ bidAt t k j) → ByMenu (rebid M b)
+  unfolding marketBy
+  rebid-by-menu b alike =
+      let w = accepted-reads t .0 a in (
+        menu-assigned M (numbers-differ _) i li (w .amount-least i li) (w .bays-least) b alike,
+        menu-charged M (numbers-differ _) i li (w .amount-least i li) (w .bays-least) b alike,
+      )
+
+  by-menu : (t′ : Tables) → AlikeButForGuest t t′ i → ByMenu (marketBy rule byNumber t′)
+  by-menu t′ A = subst ByMenu (rebid-market t t′ i A rule byNumber) (rebid-by-menu (bidAt t′) (A .same-bids))
+
+  -- in its own market by its true totals
+  worths : ℕ → ℕ
+  worths j = bidAt t i j * (screen M) .amount i
+
+  by-worths : ((truthful (screen M)) .assigned i ≡ choice (length (t .asks)) (menu M i) worths)
+      × (charged (screen M) (truthful (screen M)) i ≡ at ((menu M i) .price) (choice (length (t .asks)) (menu M i) worths))
+  unfolding worths screen marketBy
+  by-worths = rebid-by-menu (bidAt t) (λ k j lk lj n. refl)
+
+  obtained-worths : (t′ : Tables) → AlikeButForGuest t t′ i → let S′ = screen (marketBy rule byNumber t′) in
+      obtained S′ (truthful S′) (bidAt t i) i ≡ at worths ((truthful S′) .assigned i)
+  unfolding obtained worths screen marketBy
+  obtained-worths t′ A = ap (λ x. at (λ j. bidAt t i j * getD x i 0) ((truthful (screen (marketBy rule byNumber t′))) .assigned i)) (A .same-amounts)
+
+  gains-no-more : (t′ : Tables) → AlikeButForGuest t t′ i → let S = screen M in let S′ = screen (marketBy rule byNumber t′) in
+      obtained S′ (truthful S′) (bidAt t i) i + charged S (truthful S) i ≤ obtained S (truthful S) (bidAt t i) i + charged S′ (truthful S′) i
+  gains-no-more t′ A =
+      let (e, c) = by-worths in
+      let (e′, c′) = by-menu t′ A in
+      let own = obtained-worths t (record { same-asks = refl; same-bays = refl; same-amounts = refl; same-bids = λ k j lk lj n. refl }) in
+      rw (obtained-worths t′ A, own, e′, e, c′, c) (choice-truth (length (t .asks)) (menu M i) (menu-below M i) (menu-near M i) worths _)
+
+pub guest-truthful : GuestTruthful
+unfolding guestGain
+guest-truthful rule t t′ i a a′ li A = signed-reads _ _ _ _ .1 (gains-no-more rule t i a li t′ A)
+
+pub menu-of : (t : Tables) (i : ℕ) → Accepted t → i < length (t .amounts) → MenuOf t i (menu (market t) i)
+unfolding seen decided market menu
+menu-of t i a li = record {
+  opens-offer = λ j lj. refl;
+  priced-below = menu-below (market t) i;
+  priced-near = menu-near (market t) i;
+  assigns = λ t′ a′ A. by-menu median t i a li t′ A .0;
+  charges = λ t′ a′ A. by-menu median t i a li t′ A .1;
+}
+
+pub guest-menu : GuestMenu
+guest-menu t i a li = (menu (market t) i, menu-of t i a li)
+
+-- ---- stations
+
+module _ (t t′ : Tables) (j : ℕ) (A : AlikeButForStation t t′ j) where
+  reask-market : (rule key : ℕ → ℕ) → reask (marketBy rule key t) (λ k. getD (t′ .asks) k 0) ≡ marketBy rule key t′
+  unfolding marketBy bidAt
+  reask-market rule key = λ x. record {
+    guests = length (sym (A .same-amounts) x);
+    stations = sym (A .same-count) x;
+    position = rule (sym (A .same-count) x);
+    ask = λ k. getD (t′ .asks) k 0;
+    capacity = λ k. getD (sym (A .same-bays) x) k 0;
+    amount = λ i. getD (sym (A .same-amounts) x) i 0;
+    bid = λ i k. getD (sym (A .same-bids) x) (i * sym (A .same-count) x + k) 0;
+    key = key;
+  }
+
+  -- beyond the tables' ends too
+  asks-same : (k : ℕ) → (k ≡ j → ⊥) → getD (t′ .asks) k 0 ≡ getD (t .asks) k 0
+  asks-same k n = ⊎-elim
+      (λ (l : k < length (t .asks)). A .same-asks k l n)
+      (λ (l : length (t .asks) ≤ k). List·getD-eq-default (t′ .asks) 0 (let l′ : length (t′ .asks) ≤ k = omega (arith, A .same-count) in l′) ∙ sym (List·getD-eq-default (t .asks) 0 l))
+      (lt-or-le k (length (t .asks)))
+
+module _ (rule : ℕ → ℕ) (t : Tables) (j : ℕ) where
+  -- in N station j gains no more, with its ask in t as its cost
+  abbrev NoMore : Market → Type 0
+  NoMore N = let S = screen (marketBy rule byNumber t) in let S′ = screen N in
+      paid S′ (truthful S′) j + getD (t .asks) j 0 * sold S (truthful S) j ≤ paid S (truthful S) j + getD (t .asks) j 0 * sold S′ (truthful S′) j
+
+  reask-no-more : (a : ℕ → ℕ) → ((k : ℕ) → (k ≡ j → ⊥) → a k ≡ getD (t .asks) k 0) → NoMore (reask (marketBy rule byNumber t) a)
+  unfolding marketBy
+  reask-no-more a alike = station-truth truthful truthful-candidates (marketBy rule byNumber t) j a (λ k n. sym (alike k n))
+
+pub station-truthful : StationTruthful
+unfolding stationGain
+station-truthful rule t t′ j a a′ lj A = signed-reads _ _ _ _ .1
+    (subst (NoMore rule t j) (reask-market t t′ j A rule byNumber) (reask-no-more rule t j (λ k. getD (t′ .asks) k 0) (asks-same t t′ j A)))
+
+-- ---- the limits of every clearing
+
+-- accepted or not, the charges are the payments and the margin
+pub balanced : (t : Tables) → sum (length (t .amounts)) (charged (seen t) (decided t)) ≡ sum (length (t .asks)) (paid (seen t) (decided t)) + margin (seen t) (decided t)
+unfolding seen decided market marketBy screen
+balanced t = balance (seen t) (decided t) (truthful-candidates (seen t))
+
+pub clearing-limits : ClearingLimits
+unfolding seen decided market marketBy screen charged sold at
+clearing-limits t a =
+    let F = truthful-fair (screen (market t)) (numbers-differ _) in
+    record {
+      charge-within-bid = charged-within-bid (market t) (decided t) F;
+      unassigned-free = λ i e. rw e;
+      payment-covers-ask = payment-covers-ask (market t) (decided t) (F .candidates);
+      sold-as-assigned = λ j. refl;
+      within-bays = F .fits;
+      balanced = balanced t;
+      covered = omega (arith, balanced t);
+    }

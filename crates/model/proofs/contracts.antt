@@ -1,0 +1,5 @@
+pub mod Accepts
+pub mod Clears
+pub mod ClearsOut
+pub mod Reads
+pub mod ReadsOut

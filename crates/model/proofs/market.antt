@@ -1,0 +1,10 @@
+pub mod Acceptance
+pub mod Choice
+pub mod Cut
+pub mod Decisions
+pub mod Limits
+pub mod Menus
+pub mod Pivots
+pub mod Queues
+pub mod Stations
+pub mod Truthful

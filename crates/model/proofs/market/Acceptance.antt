@@ -1,0 +1,147 @@
+-- A market is accepted exactly within the limits of document 01's 'A market'.
+use Prim.Native.Nat.{ℕ, _*_, _≤_, _<_}
+use mathlib.Core.Bool.{false, not}
+use mathlib.Core.List.{List}
+use mathlib.Core.Path.{_≡_, ap}
+use native.Mathlib.Omega.{arith}
+use native.Mathlib.Nat.{mul-le-mul-right}
+use lib.ListN.{getD, length}
+use borrow.Author.Tests.{not-false}
+use Rattle.model.specs.Limits.{maxGuests, maxStations, maxPrice}
+use Rattle.model.specs.Counting.{_<?_, _=?_, _or_, any}
+use Rattle.model.specs.Refusals.{accepted, firstFault}
+use Rattle.model.specs.market.Market.{Tables}
+use Rattle.model.specs.market.Faults.{outside, counts, lengths, lent, values, marketFaults, verdict, Accepted, clearingFaults}
+use Rattle.model.specs.book.Book.{Book}
+use Rattle.model.specs.book.Faults.{bookSize, outOfTurn, postingFaults}
+use Rattle.model.specs.market.Outcome.{Results}
+use Rattle.model.specs.claims.Readings.{WithinLimits, AcceptedReads, CallWithinLimits, CallAcceptedReads, PostingWithinLimits, PostingAcceptedReads}
+use Rattle.model.proofs.Tests.{or-no, neither, lt-no, not-lt, le-no, not-le, eq-yes, eq-no, is-eq, not-eq}
+use Rattle.model.proofs.Counting.{any-no, none-any}
+use Rattle.model.proofs.Refusals.{fault-none, no-fault, no-faults, fault-second, fault-free}
+
+-- counts within the limits
+pub counted : (n m : ℕ) → (maxGuests <? n or m =? 0 or maxStations <? m) ≡ false → (n ≤ maxGuests) × (1 ≤ m) × (m ≤ maxStations)
+counted n m e = let (a, most) = or-no _ _ e in let (guests, some) = or-no _ _ a in (lt-no _ _ guests, omega (arith, eq-no _ _ some), lt-no _ _ most)
+
+pub product-fits : (n m : ℕ) → n ≤ maxGuests → m ≤ maxStations → n * m ≤ maxGuests * maxStations
+product-fits n m a b = omega (arith, mul-le-mul-right m a)
+
+pub inside : (low high x : ℕ) → outside low high x ≡ false → (low ≤ x) × (x ≤ high)
+unfolding outside
+inside low high x e = let h = or-no _ _ e in (lt-no _ _ (h .0), lt-no _ _ (h .1))
+
+pub not-outside : (low high x : ℕ) → low ≤ x → x ≤ high → outside low high x ≡ false
+unfolding outside
+not-outside low high x l h = neither (not-lt _ _ l) (not-lt _ _ h)
+
+all-inside : (low high : ℕ) (xs : List ℕ) → any xs (outside low high) ≡ false → (k : ℕ) → k < length xs → (low ≤ getD xs k 0) × (getD xs k 0 ≤ high)
+all-inside low high xs e k l = inside low high _ (any-no xs _ e k l)
+
+equal : (a b : ℕ) → not (a =? b) ≡ false → a ≡ b
+equal a b e = eq-yes a b (not-false _ e)
+
+not-unequal : (a b : ℕ) → a ≡ b → not (a =? b) ≡ false
+not-unequal a b e = ap not (is-eq a b e)
+
+within : (t : Tables) → Accepted t → WithinLimits t
+unfolding verdict marketFaults counts lengths values
+within t e =
+    let (c, e1) = no-fault _ _ _ e in
+    let (l, e2) = no-fault _ _ _ e1 in
+    let (asks, e3) = no-fault _ _ _ e2 in
+    let (bays, e4) = no-fault _ _ _ e3 in
+    let (amounts, e5) = no-fault _ _ _ e4 in
+    let (bids, e6) = no-fault _ _ _ e5 in
+    let k = counted (length (t .amounts)) (length (t .asks)) c in
+    let (l01, width) = or-no _ _ l in
+    let (bay-list, bid-list) = or-no _ _ l01 in
+    let bays-long : length (t .bays) ≡ length (t .asks) = equal _ _ bay-list in
+    record {
+      guests-most = k .0;
+      stations-least = k .1;
+      stations-most = k .2;
+      bays-length = bays-long;
+      bids-length = equal _ _ bid-list;
+      width-is = equal _ _ width;
+      ask-most = λ j lj. all-inside _ _ _ asks j lj .1;
+      bays-least = λ j lj. all-inside _ _ _ bays j (omega arith) .0;
+      bays-most = λ j lj. all-inside _ _ _ bays j (omega arith) .1;
+      amount-least = λ i li. all-inside _ _ _ amounts i li .0;
+      amount-most = λ i li. all-inside _ _ _ amounts i li .1;
+      bid-most = λ q lq. all-inside _ _ _ bids q lq .1;
+    }
+
+accept : (t : Tables) → WithinLimits t → Accepted t
+unfolding verdict marketFaults counts lengths values
+accept t w =
+    fault-free _ _ (neither (neither (not-lt _ _ (w .guests-most)) (not-eq (length (t .asks)) 0 (λ q. omega (arith, w .stations-least)))) (not-lt _ _ (w .stations-most)))
+    (fault-free _ _ (neither (neither (not-unequal _ _ (w .bays-length)) (not-unequal _ _ (w .bids-length))) (not-unequal _ _ (w .width-is)))
+    (fault-free _ _ (none-any (t .asks) _ (λ j lj. not-outside 0 maxPrice _ (omega arith) (w .ask-most j lj)))
+    (fault-free _ _ (none-any (t .bays) _ (λ j lj. let l : j < length (t .asks) = omega (arith, w .bays-length) in not-outside _ _ _ (w .bays-least j l) (w .bays-most j l)))
+    (fault-free _ _ (none-any (t .amounts) _ (λ i li. not-outside _ _ _ (w .amount-least i li) (w .amount-most i li)))
+    (fault-free _ _ (none-any (t .bids) _ (λ q lq. not-outside 0 maxPrice _ (omega arith) (w .bid-most q lq)))
+    fault-none)))))
+
+pub accepted-reads : AcceptedReads
+accepted-reads t = (within t, accept t)
+
+call-within : (t : Tables) (r : Results) → firstFault (clearingFaults t r) ≡ accepted → CallWithinLimits t r
+unfolding verdict marketFaults clearingFaults counts lengths lent
+call-within t r e =
+    let (c, e1) = no-fault _ _ _ e in
+    let (l, e2) = no-fault _ _ _ e1 in
+    let (k, e3) = no-fault _ _ _ e2 in
+    let (k012, paid) = or-no _ _ k in
+    let (k01, sold) = or-no _ _ k012 in
+    let (stations, charges) = or-no _ _ k01 in
+    record {
+      market-accepted = fault-free _ _ c (fault-free _ _ l e3);
+      lists-fit = record { stations-long = equal _ _ stations; charges-long = equal _ _ charges; sold-long = equal _ _ sold; paid-long = equal _ _ paid };
+    }
+
+call-accept : (t : Tables) (r : Results) → CallWithinLimits t r → firstFault (clearingFaults t r) ≡ accepted
+unfolding verdict marketFaults clearingFaults counts lengths lent
+call-accept t r w =
+    let (c, e1) = no-fault _ _ _ (w .market-accepted) in
+    let (l, e2) = no-fault _ _ _ e1 in
+    fault-free _ _ c (fault-free _ _ l (fault-free _ _
+    (neither (neither (neither (not-unequal _ _ (w .lists-fit .stations-long)) (not-unequal _ _ (w .lists-fit .charges-long))) (not-unequal _ _ (w .lists-fit .sold-long))) (not-unequal _ _ (w .lists-fit .paid-long)))
+    e2))
+
+pub call-accepted-reads : CallAcceptedReads
+call-accepted-reads t r = (call-within t r, call-accept t r)
+
+posting-within : (t : Tables) (round : ℕ) (B : Book) → firstFault (postingFaults t round B) ≡ accepted → PostingWithinLimits t round B
+unfolding verdict postingFaults bookSize outOfTurn
+posting-within t round B e =
+    let (m, e1) = no-faults (marketFaults t) _ e in
+    let (size, e2) = no-fault _ _ _ e1 in
+    let (turn, e3) = no-fault _ _ _ e2 in
+    let (room, e4) = no-fault _ _ _ e3 in
+    let (g, s) = or-no _ _ size in
+    let (left, next) = or-no _ _ turn in
+    let (before, after) = or-no _ _ room in
+    record {
+      market-accepted = m;
+      guests-least = inside _ _ _ g .0;
+      guests-most = inside _ _ _ g .1;
+      stations-least = inside _ _ _ s .0;
+      stations-most = inside _ _ _ s .1;
+      rounds-left = le-no _ _ left;
+      next-round = equal _ _ next;
+      within-before = before;
+      within-after = after;
+    }
+
+posting-accept : (t : Tables) (round : ℕ) (B : Book) → PostingWithinLimits t round B → firstFault (postingFaults t round B) ≡ accepted
+unfolding verdict postingFaults bookSize outOfTurn
+posting-accept t round B w =
+    rw (fault-second (marketFaults t) _ (w .market-accepted))
+    (fault-free _ _ (neither (not-outside _ _ _ (w .guests-least) (w .guests-most)) (not-outside _ _ _ (w .stations-least) (w .stations-most)))
+    (fault-free _ _ (neither (not-le _ _ (w .rounds-left)) (not-unequal _ _ (w .next-round)))
+    (fault-free _ _ (neither (w .within-before) (w .within-after))
+    fault-none)))
+
+pub posting-accepted-reads : PostingAcceptedReads
+posting-accepted-reads t round B = (posting-within t round B, posting-accept t round B)

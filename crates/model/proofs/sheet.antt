@@ -1,0 +1,10 @@
+pub mod Answers
+pub mod Faults
+pub mod Fields
+pub mod Holds
+pub mod Joined
+pub mod Longest
+pub mod Rows
+pub mod Stated
+pub mod Tables
+pub mod Truth

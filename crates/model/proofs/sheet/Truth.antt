@@ -1,0 +1,210 @@
+-- A sheet is read as a market exactly where it states that market.
+use Prim.Native.Nat.{ℕ, zero, suc, _+_, _*_, _/_, _%_, _<_, _≤_}
+use mathlib.Core.Bool.{Bool, true, false}
+use mathlib.Core.List.{List, _++_}
+use mathlib.Core.Logic.{⊎-elim}
+use mathlib.Core.Path.{_≡_, refl, sym, ap, _∙_, subst}
+use native.Mathlib.Nat.{not-suc-le-zero, eq-or-lt-of-le, le-of-suc-le-suc, le-antisymm, div-add-mod', div-lt-iff-lt-mul, mod-lt, mul-le-mul-right}
+use native.Mathlib.Omega.{arith}
+use lib.ListN.{length, getD, List·getD-append}
+use lib.Seq.{ext-getD, getD-append-add}
+use Rattle.model.specs.Counting.{only, list, joined}
+use Rattle.model.specs.market.Market.{Tables, bidAt}
+use Rattle.model.specs.Refusals.{Verdict, accepted, refused, firstFault}
+use Rattle.model.proofs.Counting.{up, here, length-list, getD-list}
+use Rattle.model.proofs.Tests.{decide, only-le, only-yes, only-no}
+use Rattle.model.specs.sheet.Fields.{number, hasBit}
+use Rattle.model.specs.sheet.Rows.{mapAt, bidsAt, nextAt, rowAt, askOf, baysOf, amountOf, bidBy, bidOf, rowsFaults}
+use Rattle.model.proofs.sheet.Rows.{bids-at, RowSound, sound-row, sound-at, rows-none, rows-suc, first-row}
+use Rattle.model.proofs.sheet.Fields.{number-low}
+use Rattle.model.proofs.sheet.Joined.{joined-length}
+use Rattle.model.specs.sheet.Content.{guests, stations, tablesOf, sheetFaults, tables, contentBy, readSheet}
+use Rattle.model.proofs.sheet.Faults.{counts-good, whole, Sound, sheet-sound}
+use Rattle.model.specs.sheet.Layout.{Fitting, States, Bytes, ReadsExactlyWhatIsStated, StatesOneMarket}
+use Rattle.model.proofs.sheet.Holds.{pack-bit, pack-low, pack-bits}
+use Rattle.model.proofs.sheet.Stated.{n, m, Fields, row-suc, fields-layout, layout-fields}
+
+-- ---- lists by their places
+
+list-is : (n : ℕ) (f : ℕ → ℕ) (l : List ℕ) → length l ≡ n → ((k : ℕ) → k < n → f k ≡ getD l k 0) → list n f ≡ l
+list-is n f l e h = ext-getD 0 (list n f) l (length-list n f ∙ sym e) (λ k b. let c : k < n = omega (arith, length-list n f) in getD-list n f k c ∙ h k c)
+
+getD-joined : (n m : ℕ) (f : ℕ → ℕ → ℕ) (i j : ℕ) → i < n → j < m → getD (joined n (λ i. list m (f i))) (i * m + j) 0 ≡ f i j
+unfolding joined
+getD-joined zero m f i j l k = absurd (not-suc-le-zero l)
+getD-joined (suc n) m f i j l k = ⊎-elim
+    (λ (e : i ≡ n). rw e (ap (λ z. getD (joined n (λ i. list m (f i)) ++ list m (f n)) (z + j) 0) (sym (joined-length n m f)) ∙ getD-append-add (joined n (λ i. list m (f i))) (list m (f n)) j 0 ∙ getD-list m (f n) j k))
+    (λ (h : i < n). List·getD-append (joined n (λ i. list m (f i))) _ 0 (i * m + j) (omega (arith, joined-length n m f, mul-le-mul-right m h)) ∙ getD-joined n m f i j h k)
+    (eq-or-lt-of-le (le-of-suc-le-suc l))
+
+joined-is : (n m : ℕ) (f : ℕ → ℕ → ℕ) (l : List ℕ) → 0 < m → length l ≡ n * m → ((i j : ℕ) → i < n → j < m → f i j ≡ getD l (i * m + j) 0) → joined n (λ i. list m (f i)) ≡ l
+joined-is n m f l z e h = ext-getD 0 (joined n (λ i. list m (f i))) l (joined-length n m f ∙ sym e) (λ k b.
+    let i : k / m < n = div-lt-iff-lt-mul z .1 (omega (arith, joined-length n m f)) in
+    let j : k % m < m = mod-lt k z in
+    rw (div-add-mod' k m) at (getD-joined n m f (k / m) (k % m) i j ∙ h (k / m) (k % m) i j))
+
+only-low : (b : Bool) (x : ℕ) {y : ℕ} → x < y → only b x < y
+only-low b x h = omega (arith, only-le b x x (λ e. omega arith))
+
+-- ---- rows rise, and end where the sheet does
+
+next-more : (s : List ℕ) (m p : ℕ) → bidsAt m p ≤ nextAt s m p
+unfolding nextAt
+next-more s m p = omega arith
+
+rise : (s : List ℕ) (m n i : ℕ) → i ≤ n → rowAt s m i ≤ rowAt s m n
+rise s m zero i l = let e : i ≡ 0 = omega arith in rw e (omega arith)
+rise s m (suc n) i l = ⊎-elim
+    (λ (e : i ≡ suc n). rw e (omega arith))
+    (λ (h : i < suc n). omega (arith, rise s m n i (le-of-suc-le-suc h), row-suc s m n, next-more s m (rowAt s m n), bids-at m (rowAt s m n)))
+    (eq-or-lt-of-le l)
+
+within : (s : List ℕ) (m n : ℕ) → 4 + 6 * m ≤ length s → firstFault (rowsFaults s m n) ≡ accepted → rowAt s m n ≤ length s
+within s m zero h e = omega (arith, first-row s m)
+within s m (suc n) h e = omega (arith, row-suc s m n, sound-at s m (suc n) n (rowAt s m n) e here refl .bids-in)
+
+all-sound : (s : List ℕ) (m n : ℕ) → ((i : ℕ) → i < n → RowSound s m (rowAt s m i)) → firstFault (rowsFaults s m n) ≡ accepted
+all-sound s m zero h = rows-none s m
+all-sound s m (suc n) h = rows-suc s m n (all-sound s m n (λ i l. h i (up l))) ∙ sound-row (h n here)
+
+-- ---- a sheet that states a market is read as it
+
+module _ (s : List ℕ) (t : Tables) (set : ℕ → ℕ → Bool) (g : Fitting t) (f : Fields s t set) where
+  row-is-sound : (i : ℕ) → i < n t → RowSound s (m t) (rowAt s (m t) i)
+  row-is-sound i l =
+      let e : nextAt s (m t) (rowAt s (m t) i) ≤ length s = omega (arith, row-suc s (m t) i, rise s (m t) (n t) (suc i) l, f .end) in
+      record {
+        map-in = omega (arith, next-more s (m t) (rowAt s (m t) i));
+        no-stray = rw (f .map-is i l) (pack-low (m t) (set i));
+        bids-in = e;
+      }
+
+  no-fault-in : firstFault (sheetFaults s) ≡ accepted
+  no-fault-in = whole (record { within = omega (arith, first); n-is = sym (f .n-is); m-is = sym (f .m-is) }) (counts-good (n t) (m t) (g .few) (g .some) (g .narrow))
+      first (all-sound s (m t) (n t) row-is-sound) (omega (arith, f .end))
+    where
+      first : 4 + 6 * m t ≤ length s
+      first = omega (arith, first-row s (m t), rise s (m t) (n t) 0 (omega arith), f .end)
+
+  module _ (covers : (i j : ℕ) → i < n t → j < m t → set i j ≡ false → bidAt t i j ≡ 0) where
+    bid-same : (i j : ℕ) → i < n t → j < m t → bidOf s (m t) i j ≡ bidAt t i j
+    unfolding bidOf bidBy
+    bid-same i j l k =
+        let e : hasBit (mapAt s (m t) (rowAt s (m t) i)) j ≡ set i j = ap (λ x. hasBit x j) (f .map-is i l) ∙ pack-bit (m t) (set i) j k in
+        ⊎-elim
+        (λ (b : set i j ≡ true). only-yes _ _ (e ∙ b) ∙ f .bid-is i j l k b)
+        (λ (b : set i j ≡ false). only-no _ _ (e ∙ b) ∙ sym (covers i j l k b))
+        (decide (set i j))
+
+    tables-same : tablesOf s ≡ t
+    unfolding tablesOf askOf baysOf amountOf bidAt
+    tables-same = rw (f .n-is, f .m-is) (λ x. record {
+      asks = list-is (m t) (λ j. number s (4 + 6 * j) 4) (t .asks) refl (f .ask-is) x;
+      bays = list-is (m t) (λ j. number s (8 + 6 * j) 2) (t .bays) (g .bays-long) (f .bays-are) x;
+      amounts = list-is (n t) (λ i. number s (rowAt s (m t) i) 2) (t .amounts) refl (f .amount-is) x;
+      bids = joined-is (n t) (m t) (bidOf s (m t)) (t .bids) (g .some) (g .bids-long) bid-same x;
+      width = sym (g .width-is) x;
+    })
+
+    fields-read : readSheet s ≡ tables t
+    unfolding readSheet contentBy
+    fields-read = rw (no-fault-in, tables-same) refl
+
+states-read : (s : List ℕ) (t : Tables) → States s t → readSheet s ≡ tables t
+states-read s t w = fields-read s t (w .set) (w .fitting) (layout-fields s t (w .set) (w .fitting) (w .is)) (w .covers)
+
+-- ---- and a sheet that is read as a market states it
+
+-- t's tables are the sheet's, place by place
+record Is (s : List ℕ) (t : Tables) : Type 0 where
+  pub n-is : n t ≡ guests s
+  pub m-is : m t ≡ stations s
+  pub width-is : t .width ≡ m t
+  pub bays-long : length (t .bays) ≡ m t
+  pub bids-long : length (t .bids) ≡ n t * m t
+  pub ask-at : (j : ℕ) → j < m t → getD (t .asks) j 0 ≡ number s (4 + 6 * j) 4
+  pub bays-at : (j : ℕ) → j < m t → getD (t .bays) j 0 ≡ number s (8 + 6 * j) 2
+  pub amount-at : (i : ℕ) → i < n t → getD (t .amounts) i 0 ≡ number s (rowAt s (m t) i) 2
+  pub bid-at : (i j : ℕ) → i < n t → j < m t → bidAt t i j ≡ bidOf s (m t) i j
+
+tables-are : (s : List ℕ) → Is s (tablesOf s)
+unfolding tablesOf bidAt askOf baysOf amountOf
+tables-are s = record {
+  n-is = length-list (guests s) _;
+  m-is = length-list (stations s) _;
+  width-is = sym (length-list (stations s) _);
+  bays-long = length-list (stations s) _ ∙ sym (length-list (stations s) _);
+  bids-long = simp (length-list, joined-length);
+  ask-at = λ j l. getD-list (stations s) _ j (rw length-list at l);
+  bays-at = λ j l. getD-list (stations s) _ j (rw length-list at l);
+  amount-at = λ i l. simp length-list (getD-list (guests s) _ i (rw length-list at l));
+  bid-at = λ i j l k. simp length-list (getD-joined (guests s) (stations s) (bidOf s (stations s)) i j (rw length-list at l) (rw length-list at k));
+}
+
+module _ (s : List ℕ) (t : Tables) (y : Bytes s) (z : firstFault (sheetFaults s) ≡ accepted) (w : Is s t) where
+  sound : Sound s
+  sound = sheet-sound s z
+
+  rows-in : firstFault (rowsFaults s (m t) (n t)) ≡ accepted
+  rows-in = rw (w .m-is, w .n-is) (sound .rows-in)
+
+  set : ℕ → ℕ → Bool
+  set i = hasBit (mapAt s (m t) (rowAt s (m t) i))
+
+  fits : Fitting t
+  unfolding bidOf bidBy
+  fits = record {
+    few = omega (arith, w .n-is, sound .few);
+    some = omega (arith, w .m-is, sound .some);
+    narrow = omega (arith, w .m-is, sound .narrow);
+    width-is = w .width-is;
+    bays-long = w .bays-long;
+    bids-long = w .bids-long;
+    ask-fits = λ j l. rw (w .ask-at j l) (number-low s y _ 4);
+    bays-fit = λ j l. rw (w .bays-at j l) (number-low s y _ 2);
+    amount-fits = λ i l. rw (w .amount-at i l) (number-low s y _ 2);
+    bid-fits = λ i j l k. rw (w .bid-at i j l k) (only-low _ _ (number-low s y _ 4));
+  }
+
+  fields : Fields s t set
+  unfolding bidOf bidBy set
+  fields = record {
+    n-is = sym (w .n-is);
+    m-is = sym (w .m-is);
+    ask-is = λ j l. sym (w .ask-at j l);
+    bays-are = λ j l. sym (w .bays-at j l);
+    amount-is = λ i l. sym (w .amount-at i l);
+    map-is = λ i l. sym (pack-bits (m t) _ (sound-at s (m t) (n t) i _ rows-in l refl .no-stray));
+    bid-is = λ i j l k b. sym (w .bid-at i j l k ∙ only-yes _ _ b);
+    end = le-antisymm (within s (m t) (n t) (omega (arith, w .m-is, sound .stations-in)) rows-in) (rw (w .m-is, w .n-is) (sound .end));
+  }
+
+  states : States s t
+  unfolding bidOf bidBy set
+  states = record {
+    fitting = fits;
+    set = set;
+    covers = λ i j l k b. w .bid-at i j l k ∙ only-no _ _ b;
+    is = fields-layout s t set y fields;
+  }
+
+told-tables : (v : Verdict) (a b : Tables) → contentBy v a ≡ tables b → (v ≡ accepted) × (a ≡ b)
+unfolding contentBy
+told-tables accepted a b e = let g : a ≡ b = cc in (refl, g)
+told-tables (refused r) a b e = let z : _≡_ {A = ℕ} 0 1 = cc in absurd (omega arith)
+
+read-states : (s : List ℕ) (t : Tables) → Bytes s → readSheet s ≡ tables t → States s t
+unfolding readSheet
+read-states s t y e =
+    let (a, b) = told-tables (firstFault (sheetFaults s)) (tablesOf s) t e in
+    states s t y a (subst (λ u. Is s u) b (tables-are s))
+
+-- ---- the two statements
+
+pub reads-exactly : ReadsExactlyWhatIsStated
+reads-exactly s t y = (read-states s t y, states-read s t)
+
+pub states-one : StatesOneMarket
+states-one s t u a b =
+    let e : tables t ≡ tables u = sym (states-read s t a) ∙ states-read s u b in
+    let f : t ≡ u = cc in f

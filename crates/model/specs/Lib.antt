@@ -1,0 +1,11 @@
+pub mod Counting
+pub mod Limits
+pub mod Numbers
+pub mod Refusals
+pub mod book
+pub mod cases
+pub mod claims
+pub mod contracts
+pub mod market
+pub mod sheet
+pub mod text

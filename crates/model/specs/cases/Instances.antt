@@ -1,0 +1,54 @@
+-- One worked instance, with its numbers, of each statement of claims/Truth.antt.
+use mathlib.Core.List.{[], _∷_}
+use mathlib.Core.Path.{_≡_}
+use lib.IntN.{pos, negsuc}
+use lib.Signed.{_≤ℤ_}
+use Rattle.model.specs.Counting.{sum}
+use Rattle.model.specs.market.Market.{Tables, regular, bidAt}
+use Rattle.model.specs.market.Mechanism.{charged, paid, margin}
+use Rattle.model.specs.market.Outcome.{seen, decided}
+use Rattle.model.specs.market.Faults.{Accepted}
+use Rattle.model.specs.market.Gains.{guestGain, stationGain}
+use Rattle.model.specs.claims.Truth.{AlikeButForGuest, AlikeButForStation, Menu, MenuOf, ClearsWithin}
+use Rattle.model.specs.cases.Cases.{pair, caseE, caseG}
+
+-- case G, where guest 2 is worth 10 per kWh and bids 14: it takes the bay for 27, and is worth 20
+unfoldable pub overbid : Tables
+overbid = pair (3 ∷ 2 ∷ []) (9 ∷ 0 ∷ 14 ∷ 0 ∷ [])
+
+pub record GuestInstance : Type 0 where
+  pub accepted : Accepted caseG
+  pub accepted′ : Accepted overbid
+  pub alike : AlikeButForGuest caseG overbid 1
+  pub truth-gains : guestGain (seen caseG) (decided caseG) (bidAt caseG 1) 1 ≡ pos 0
+  pub overbid-gains : guestGain (seen overbid) (decided overbid) (bidAt caseG 1) 1 ≡ negsuc 6
+  pub no-more : guestGain (seen overbid) (decided overbid) (bidAt caseG 1) 1 ≤ℤ guestGain (seen caseG) (decided caseG) (bidAt caseG 1) 1
+
+-- station 1 costs 5 and stays closed; asking 1 it opens, and sells at the cut, 3
+unfoldable pub costly : Tables
+costly = regular (5 ∷ 3 ∷ []) (1 ∷ 1 ∷ []) (1 ∷ []) (4 ∷ 0 ∷ [])
+
+unfoldable pub underasked : Tables
+underasked = regular (1 ∷ 3 ∷ []) (1 ∷ 1 ∷ []) (1 ∷ []) (4 ∷ 0 ∷ [])
+
+pub record StationInstance : Type 0 where
+  pub accepted : Accepted costly
+  pub accepted′ : Accepted underasked
+  pub alike : AlikeButForStation costly underasked 0
+  pub truth-gains : stationGain (seen costly) (decided costly) 5 0 ≡ pos 0
+  pub underasked-gains : stationGain (seen underasked) (decided underasked) 5 0 ≡ negsuc 1
+  pub no-more : stationGain (seen underasked) (decided underasked) 5 0 ≤ℤ stationGain (seen costly) (decided costly) 5 0
+
+-- guest 2's menu in case G: station 1 for 27, from a total of 28 on, since guest 1 wins a tie
+pub record MenuInstance : Type 0 where
+  pub menu : Menu
+  pub is-menu : MenuOf caseG 1 menu
+  pub bar-is : menu .bar 0 ≡ 28
+  pub price-is : menu .price 0 ≡ 27
+
+-- case E: charges 24, payments 18, margin 6
+pub record LimitsInstance : Type 0 where
+  pub within : ClearsWithin caseE
+  pub charges-are : sum 2 (charged (seen caseE) (decided caseE)) ≡ 24
+  pub payments-are : sum 2 (paid (seen caseE) (decided caseE)) ≡ 18
+  pub margin-is : margin (seen caseE) (decided caseE) ≡ 6

@@ -1,0 +1,139 @@
+-- How the definitions read on document 01's page. Each statement is a type; its proof is a term of proofs/.
+use Prim.Native.Nat.{ℕ, suc, _+_, _*_, _-_, _≤_, _<_}
+use mathlib.Core.Bool.{true, false}
+use mathlib.Core.List.{List}
+use mathlib.Core.Logic.{_↔_}
+use mathlib.Core.Path.{_≡_}
+use lib.IntN.{pos}
+use lib.ListN.{getD, length}
+use Rattle.model.specs.Limits.{maxGuests, maxStations, maxPrice, maxAmount, maxCapacity, maxRound}
+use Rattle.model.specs.Counting.{_=?_, count}
+use Rattle.model.specs.market.Market.{Tables, bidAt, marketBy, median, cut, Screened, Queue, queue, before, rank, provisional, critical}
+use Rattle.model.specs.market.Mechanism.{Decision, charge, sold, surplus}
+use Rattle.model.specs.market.Outcome.{Results, seen, decided}
+use Rattle.model.specs.Refusals.{accepted, firstFault}
+use Rattle.model.specs.market.Faults.{Accepted, clearingFaults}
+use Rattle.model.specs.book.Book.{Book, entered}
+use Rattle.model.specs.book.Faults.{overLimit, postingFaults}
+use Rattle.model.specs.market.Gains.{guestGain, stationGain}
+
+-- 'A market'
+pub record WithinLimits (t : Tables) : Type 0 where
+  pub guests-most : length (t .amounts) ≤ maxGuests
+  pub stations-least : 1 ≤ length (t .asks)
+  pub stations-most : length (t .asks) ≤ maxStations
+  pub bays-length : length (t .bays) ≡ length (t .asks)
+  pub bids-length : length (t .bids) ≡ length (t .amounts) * length (t .asks)
+  pub width-is : t .width ≡ length (t .asks)
+  pub ask-most : (j : ℕ) → j < length (t .asks) → getD (t .asks) j 0 ≤ maxPrice
+  pub bays-least : (j : ℕ) → j < length (t .asks) → 1 ≤ getD (t .bays) j 0
+  pub bays-most : (j : ℕ) → j < length (t .asks) → getD (t .bays) j 0 ≤ maxCapacity
+  pub amount-least : (i : ℕ) → i < length (t .amounts) → 1 ≤ getD (t .amounts) i 0
+  pub amount-most : (i : ℕ) → i < length (t .amounts) → getD (t .amounts) i 0 ≤ maxAmount
+  pub bid-most : (q : ℕ) → q < length (t .bids) → getD (t .bids) q 0 ≤ maxPrice
+
+-- a market is accepted exactly within these limits
+abbrev pub AcceptedReads : Type 0
+AcceptedReads = (t : Tables) → Accepted t ↔ WithinLimits t
+
+-- a clearing call is accepted exactly where its market is and each result list is n or m long
+pub record RightLengths (t : Tables) (r : Results) : Type 0 where
+  pub stations-long : length (r .stations) ≡ length (t .amounts)
+  pub charges-long : length (r .charges) ≡ length (t .amounts)
+  pub sold-long : length (r .sold) ≡ length (t .asks)
+  pub paid-long : length (r .paid) ≡ length (t .asks)
+
+pub record CallWithinLimits (t : Tables) (r : Results) : Type 0 where
+  pub market-accepted : Accepted t
+  pub lists-fit : RightLengths t r
+
+abbrev pub CallAcceptedReads : Type 0
+CallAcceptedReads = (t : Tables) (r : Results) → (firstFault (clearingFaults t r) ≡ accepted) ↔ CallWithinLimits t r
+
+-- a posting is accepted exactly where its market is, the book has room for it, the round is next and no account is above its limit before or after
+pub record PostingWithinLimits (t : Tables) (round : ℕ) (B : Book) : Type 0 where
+  pub market-accepted : Accepted t
+  pub guests-least : length (t .amounts) ≤ length (B .guests)
+  pub guests-most : length (B .guests) ≤ maxGuests
+  pub stations-least : length (t .asks) ≤ length (B .sold)
+  pub stations-most : length (B .sold) ≤ maxStations
+  pub rounds-left : B .last < maxRound
+  pub next-round : round ≡ B .last + 1
+  pub within-before : overLimit B ≡ false
+  pub within-after : overLimit (entered t round B) ≡ false
+
+abbrev pub PostingAcceptedReads : Type 0
+PostingAcceptedReads = (t : Tables) (round : ℕ) (B : Book) → (firstFault (postingFaults t round B) ≡ accepted) ↔ PostingWithinLimits t round B
+
+-- 1. s is in rising order; it has the numbers of l, each as often
+pub record Rising (s : List ℕ) : Type 0 where
+  pub rises : (j k : ℕ) → j ≤ k → k < length s → getD s j 0 ≤ getD s k 0
+
+pub record Rearranged (s l : List ℕ) : Type 0 where
+  pub as-long : length s ≡ length l
+  pub as-often : (v : ℕ) → count (length s) (λ k. getD s k 0 =? v) ≡ count (length l) (λ k. getD l k 0 =? v)
+
+-- every list has a rising order, and the cut is the ask at its position there, whichever rule names the position
+abbrev pub RisingOrderExists : Type 0
+RisingOrderExists = (l : List ℕ) → (s : List ℕ) × Rising s × Rearranged s l
+
+abbrev pub CutReads : Type 0
+CutReads = (rule key : ℕ → ℕ) (t : Tables) (s : List ℕ) → Rising s → Rearranged s (t .asks)
+    → 1 ≤ rule (length (t .asks)) → rule (length (t .asks)) ≤ length (t .asks)
+    → cut (marketBy rule key t) ≡ getD s (rule (length (t .asks)) - 1) 0
+
+-- document 01's position is the least p with 2 p at least m + 1, and lies from 1 to m
+pub record Median (m : ℕ) : Type 0 where
+  pub reaches : m + 1 ≤ 2 * median m
+  pub least : (p : ℕ) → m + 1 ≤ 2 * p → median m ≤ p
+  pub from-one : 1 ≤ median m
+  pub to-m : median m ≤ m
+
+abbrev pub MedianReads : Type 0
+MedianReads = (m : ℕ) → 1 ≤ m → Median m
+
+-- 3. a bid of 0 is no bid: an open station's ask lies below the cut, so the cut is above 0
+abbrev pub NoBidRead : Type 0
+NoBidRead = (t : Tables) (i j : ℕ) → bidAt t i j ≡ 0 → (seen t) .candidate i j ≡ false
+
+-- 4. the ranks of a queue's candidates are 0, 1, 2 .. without gaps or repeats, in the order of `before`
+pub record RanksInOrder (Q : Queue) : Type 0 where
+  pub ordered : (k i : ℕ) → k < Q .guests → Q .candidate k ≡ true → before Q k i ≡ true → rank Q k < rank Q i
+  pub no-repeat : (k i : ℕ) → k < Q .guests → i < Q .guests → Q .candidate k ≡ true → Q .candidate i ≡ true → rank Q k ≡ rank Q i → k ≡ i
+  pub below-all : (k : ℕ) → k < Q .guests → Q .candidate k ≡ true → rank Q k < count (Q .guests) (Q .candidate)
+  pub no-gap : (r : ℕ) → r < count (Q .guests) (Q .candidate) → (k : ℕ) × (k < Q .guests) × (Q .candidate k ≡ true) × (rank Q k ≡ r)
+
+abbrev pub RanksRead : Type 0
+RanksRead = (t : Tables) (j : ℕ) → RanksInOrder (queue (seen t) j)
+
+-- 5. the critical total is that of the candidate whose rank is the capacity, and 0 exactly where no such candidate stands
+pub record CriticalIsFirstOut (Q : Queue) : Type 0 where
+  pub first-out : (k : ℕ) → k < Q .guests → Q .candidate k ≡ true → rank Q k ≡ Q .capacity → critical Q ≡ Q .total k
+  pub zero-if-none : count (Q .guests) (Q .candidate) ≤ Q .capacity → critical Q ≡ 0
+  pub none-if-zero : critical Q ≡ 0 → count (Q .guests) (Q .candidate) ≤ Q .capacity
+
+abbrev pub CriticalReads : Type 0
+CriticalReads = (t : Tables) → Accepted t → (j : ℕ) → CriticalIsFirstOut (queue (seen t) j)
+
+-- 7. guest i is assigned exactly where it holds a place, at the lowest-numbered station of greatest surplus
+pub record AssignedToBest (S : Screened) (D : Decision) (i : ℕ) : Type 0 where
+  pub nowhere : D .assigned i ≡ 0 → (j : ℕ) → j < S .stations → provisional (queue S j) i ≡ false
+  pub somewhere : (j : ℕ) → D .assigned i ≡ suc j → (j < S .stations) × (provisional (queue S j) i ≡ true)
+  pub greatest : (j k : ℕ) → D .assigned i ≡ suc j → k < S .stations → provisional (queue S k) i ≡ true → surplus S i k ≤ surplus S i j
+  pub lowest : (j k : ℕ) → D .assigned i ≡ suc j → k < j → provisional (queue S k) i ≡ true → surplus S i k < surplus S i j
+
+abbrev pub AssignmentReads : Type 0
+AssignmentReads = (t : Tables) (i : ℕ) → AssignedToBest (seen t) (decided t) i
+
+-- 7. less than no gain cannot occur: where a place is held the charge is at most the total, so that the surplus is their difference
+abbrev pub NoLoss : Type 0
+NoLoss = (t : Tables) (i j : ℕ) → i < length (t .amounts) → provisional (queue (seen t) j) i ≡ true
+    → surplus (seen t) i j + charge (seen t) (decided t) i j ≡ (seen t) .total i j
+
+-- 'Gain': 0 for whoever isn't assigned or sells nothing
+pub record Gainless (S : Screened) (D : Decision) : Type 0 where
+  pub guest-gainless : (w : ℕ → ℕ) (i : ℕ) → D .assigned i ≡ 0 → guestGain S D w i ≡ pos 0
+  pub station-gainless : (cost j : ℕ) → sold S D j ≡ 0 → stationGain S D cost j ≡ pos 0
+
+abbrev pub GainlessRead : Type 0
+GainlessRead = (S : Screened) (D : Decision) → Gainless S D

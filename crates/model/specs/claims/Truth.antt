@@ -1,0 +1,91 @@
+-- Demand 3, first two sentences. Each statement is a type; its proof is a term of proofs/.
+use Prim.Native.Nat.{ℕ, suc, _+_, _*_, _-_, _≤_, _<_}
+use mathlib.Core.Bool.{Bool}
+use mathlib.Core.Logic.{_↔_}
+use mathlib.Core.Path.{_≡_}
+use lib.IntN.{subℕ}
+use lib.ListN.{getD, length}
+use lib.Signed.{_≤ℤ_}
+use Rattle.model.specs.Counting.{_≤?_, _=?_, _and_, only, sum}
+use Rattle.model.specs.market.Market.{Tables, bidAt, marketBy, byNumber, market, opens, Screened, screen}
+use Rattle.model.specs.market.Mechanism.{at, charged, served, sold, paid, margin, best, truthful}
+use Rattle.model.specs.market.Outcome.{seen, decided}
+use Rattle.model.specs.market.Faults.{Accepted}
+use Rattle.model.specs.market.Gains.{guestGain, stationGain}
+
+-- t and t′ are alike but for guest i's bids
+pub record AlikeButForGuest (t t′ : Tables) (i : ℕ) : Type 0 where
+  pub same-asks : t′ .asks ≡ t .asks
+  pub same-bays : t′ .bays ≡ t .bays
+  pub same-amounts : t′ .amounts ≡ t .amounts
+  pub same-bids : (k j : ℕ) → k < length (t .amounts) → j < length (t .asks) → (k ≡ i → ⊥) → bidAt t′ k j ≡ bidAt t k j
+
+-- t and t′ are alike but for station j's ask
+pub record AlikeButForStation (t t′ : Tables) (j : ℕ) : Type 0 where
+  pub same-count : length (t′ .asks) ≡ length (t .asks)
+  pub same-asks : (k : ℕ) → k < length (t .asks) → (k ≡ j → ⊥) → getD (t′ .asks) k 0 ≡ getD (t .asks) k 0
+  pub same-bays : t′ .bays ≡ t .bays
+  pub same-amounts : t′ .amounts ≡ t .amounts
+  pub same-bids : t′ .bids ≡ t .bids
+
+-- what the mechanism sees under another rule for the position of the cut
+abbrev pub seenBy : (rule : ℕ → ℕ) → Tables → Screened
+seenBy rule t = screen (marketBy rule byNumber t)
+
+-- where t carries guest i's worths, i gains no more in t′
+abbrev pub GuestTruthfulBy : (rule : ℕ → ℕ) → Type 0
+GuestTruthfulBy rule = (t t′ : Tables) (i : ℕ) → Accepted t → Accepted t′ → i < length (t .amounts) → AlikeButForGuest t t′ i
+    → guestGain (seenBy rule t′) (truthful (seenBy rule t′)) (bidAt t i) i ≤ℤ guestGain (seenBy rule t) (truthful (seenBy rule t)) (bidAt t i) i
+
+-- where t carries station j's cost, j gains no more in t′
+abbrev pub StationTruthfulBy : (rule : ℕ → ℕ) → Type 0
+StationTruthfulBy rule = (t t′ : Tables) (j : ℕ) → Accepted t → Accepted t′ → j < length (t .asks) → AlikeButForStation t t′ j
+    → stationGain (seenBy rule t′) (truthful (seenBy rule t′)) (getD (t .asks) j 0) j ≤ℤ stationGain (seenBy rule t) (truthful (seenBy rule t)) (getD (t .asks) j 0) j
+
+-- at any position of the cut that depends on the number of stations alone, document 01's among them
+abbrev pub GuestTruthful : Type 0
+GuestTruthful = (rule : ℕ → ℕ) → GuestTruthfulBy rule
+
+abbrev pub StationTruthful : Type 0
+StationTruthful = (rule : ℕ → ℕ) → StationTruthfulBy rule
+
+-- signed gains and sums without subtraction say the same
+abbrev pub SignedReads : Type 0
+SignedReads = (a b c d : ℕ) → (subℕ a b ≤ℤ subℕ c d) ↔ (a + d ≤ c + b)
+
+-- what a guest chooses from: stations on offer, each with the least total that is admitted and the charge
+pub record Menu : Type 0 where
+  pub offered : ℕ → Bool
+  pub bar : ℕ → ℕ
+  pub price : ℕ → ℕ
+
+-- of the m stations, the best admitted one for a guest of these totals
+unfoldable pub choice : (m : ℕ) → Menu → (total : ℕ → ℕ) → ℕ
+choice m U total = best m (λ j. U .offered j and U .bar j ≤? total j) (λ j. total j - U .price j)
+
+-- U is guest i's menu in t: the open stations, each price at the bar or one below; whatever row i states, it is assigned its choice and charged the price
+pub record MenuOf (t : Tables) (i : ℕ) (U : Menu) : Type 0 where
+  pub opens-offer : (j : ℕ) → j < length (t .asks) → U .offered j ≡ opens (market t) j
+  pub priced-below : (j : ℕ) → U .price j ≤ U .bar j
+  pub priced-near : (j : ℕ) → U .bar j ≤ U .price j + 1
+  pub assigns : (t′ : Tables) → Accepted t′ → AlikeButForGuest t t′ i
+      → (decided t′) .assigned i ≡ choice (length (t .asks)) U ((seen t′) .total i)
+  pub charges : (t′ : Tables) → Accepted t′ → AlikeButForGuest t t′ i
+      → charged (seen t′) (decided t′) i ≡ at (U .price) (choice (length (t .asks)) U ((seen t′) .total i))
+
+abbrev pub GuestMenu : Type 0
+GuestMenu = (t : Tables) (i : ℕ) → Accepted t → i < length (t .amounts) → (U : Menu) × MenuOf t i U
+
+-- the limits of every clearing
+pub record ClearsWithin (t : Tables) : Type 0 where
+  pub charge-within-bid : (i j : ℕ) → i < length (t .amounts) → (decided t) .assigned i ≡ suc j
+      → charged (seen t) (decided t) i ≤ bidAt t i j * getD (t .amounts) i 0
+  pub unassigned-free : (i : ℕ) → (decided t) .assigned i ≡ 0 → charged (seen t) (decided t) i ≡ 0
+  pub payment-covers-ask : (j : ℕ) → getD (t .asks) j 0 * sold (seen t) (decided t) j ≤ paid (seen t) (decided t) j
+  pub sold-as-assigned : (j : ℕ) → sold (seen t) (decided t) j ≡ sum (length (t .amounts)) (λ i. only ((decided t) .assigned i =? suc j) (getD (t .amounts) i 0))
+  pub within-bays : (j : ℕ) → served (seen t) (decided t) j ≤ getD (t .bays) j 0
+  pub balanced : sum (length (t .amounts)) (charged (seen t) (decided t)) ≡ sum (length (t .asks)) (paid (seen t) (decided t)) + margin (seen t) (decided t)
+  pub covered : sum (length (t .asks)) (paid (seen t) (decided t)) ≤ sum (length (t .amounts)) (charged (seen t) (decided t))
+
+abbrev pub ClearingLimits : Type 0
+ClearingLimits = (t : Tables) → Accepted t → ClearsWithin t

@@ -1,0 +1,5 @@
+pub mod Faults
+pub mod Gains
+pub mod Market
+pub mod Mechanism
+pub mod Outcome

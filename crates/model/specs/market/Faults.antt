@@ -1,0 +1,58 @@
+-- The faults of a market and of a clearing call, each a table in the order of document 01, 'Refusals by place'.
+use Prim.Native.Nat.{ℕ, _*_}
+use mathlib.Core.Bool.{Bool, not}
+use mathlib.Core.List.{List, [], _∷_}
+use mathlib.Core.Path.{_≡_}
+use lib.ListN.{length}
+use Rattle.model.specs.Limits.{maxGuests, maxStations, maxPrice, maxAmount, maxCapacity}
+use Rattle.model.specs.declared.refusal.Refusal.the-variants.{CountsOutOfRange, LengthsDiffer, AskOutOfRange, BaysOutOfRange, AmountOutOfRange, BidOutOfRange, LentLengths}
+use Rattle.model.specs.Counting.{_<?_, _=?_, _or_, any}
+use Rattle.model.specs.Refusals.{Row, _gives_, Verdict, accepted, firstFault}
+use Rattle.model.specs.market.Market.{Tables}
+use Rattle.model.specs.market.Mechanism.{sold, paid}
+use Rattle.model.specs.market.Outcome.{Results}
+
+unfoldable pub outside : (low high : ℕ) → ℕ → Bool
+outside low high x = x <? low or high <? x
+
+-- counts, and lengths of the market's tables
+unfoldable pub counts : (n m : ℕ) → Row
+counts n m = (maxGuests <? n or m =? 0 or maxStations <? m) gives CountsOutOfRange
+
+unfoldable pub lengths : (n m bays bids width : ℕ) → Row
+lengths n m bays bids width = (not (bays =? m) or not (bids =? n * m) or not (width =? m)) gives LengthsDiffer
+
+-- result lists
+unfoldable pub lent : (n m stations charges sold paid : ℕ) → Row
+lent n m stations charges sold paid = (not (stations =? n) or not (charges =? n) or not (sold =? m) or not (paid =? m)) gives LentLengths
+
+-- all asks, then all bays, then all amounts, then all bids
+unfoldable pub values : Tables → List Row
+values t =
+    (any (t .asks) (outside 0 maxPrice) gives AskOutOfRange)
+    ∷ (any (t .bays) (outside 1 maxCapacity) gives BaysOutOfRange)
+    ∷ (any (t .amounts) (outside 1 maxAmount) gives AmountOutOfRange)
+    ∷ (any (t .bids) (outside 0 maxPrice) gives BidOutOfRange)
+    ∷ []
+
+-- the clearing's rows, the one on result lists aside
+unfoldable pub marketFaults : Tables → List Row
+marketFaults t =
+    counts (length (t .amounts)) (length (t .asks))
+    ∷ lengths (length (t .amounts)) (length (t .asks)) (length (t .bays)) (length (t .bids)) (t .width)
+    ∷ values t
+
+-- an accepted market
+unfoldable pub verdict : Tables → Verdict
+verdict t = firstFault (marketFaults t)
+
+abbrev pub Accepted : Tables → Type 0
+Accepted t = verdict t ≡ accepted
+
+-- a clearing call, with the result lists that it is lent
+unfoldable pub clearingFaults : Tables → Results → List Row
+clearingFaults t r =
+    counts (length (t .amounts)) (length (t .asks))
+    ∷ lengths (length (t .amounts)) (length (t .asks)) (length (t .bays)) (length (t .bids)) (t .width)
+    ∷ lent (length (t .amounts)) (length (t .asks)) (length (r .stations)) (length (r .charges)) (length (r .sold)) (length (r .paid))
+    ∷ values t

@@ -1,0 +1,127 @@
+-- A market, and what a mechanism sees of it once the cut is known. Document 01, 'A market' and 'Clearing' 1 to 5.
+-- Guests and stations count from 0 here. Nothing is sorted: a rank is a count of those before.
+use Prim.Native.Nat.{ℕ, _+_, _*_, _/_}
+use mathlib.Core.Bool.{Bool, not}
+use mathlib.Core.List.{List}
+use lib.ListN.{getD, length}
+use Rattle.model.specs.Counting.{_<?_, _≤?_, _=?_, _and_, _or_, only, greatest, count}
+
+-- a market as it is lent: four tables of any lengths and values, and the row width of the bid table
+pub record Tables : Type 0 where
+  pub asks : List ℕ
+  pub bays : List ℕ
+  pub amounts : List ℕ
+  pub bids : List ℕ
+  pub width : ℕ
+
+abbrev pub tables : (asks bays amounts bids : List ℕ) (width : ℕ) → Tables
+tables asks bays amounts bids width = record { asks = asks; bays = bays; amounts = amounts; bids = bids; width = width }
+
+-- rows as wide as there are stations
+abbrev pub regular : (asks bays amounts bids : List ℕ) → Tables
+regular asks bays amounts bids = tables asks bays amounts bids (length asks)
+
+-- guest i's bid at station j: bids stand row after row
+unfoldable pub bidAt : Tables → ℕ → ℕ → ℕ
+bidAt t i j = getD (t .bids) (i * length (t .asks) + j) 0
+
+-- a market as numbers. `position` is that of the cut, from 1; of equal totals the lower `key` stands first
+pub record Market : Type 0 where
+  pub guests : ℕ
+  pub stations : ℕ
+  pub position : ℕ
+  pub ask : ℕ → ℕ
+  pub capacity : ℕ → ℕ
+  pub amount : ℕ → ℕ
+  pub bid : ℕ → ℕ → ℕ
+  pub key : ℕ → ℕ
+
+-- the market that tables state, by a rule for the position of the cut, which sees the number of stations alone, and a key for ties
+unfoldable pub marketBy : (rule key : ℕ → ℕ) → Tables → Market
+marketBy rule key t = record {
+  guests = length (t .amounts);
+  stations = length (t .asks);
+  position = rule (length (t .asks));
+  ask = λ j. getD (t .asks) j 0;
+  capacity = λ j. getD (t .bays) j 0;
+  amount = λ i. getD (t .amounts) i 0;
+  bid = bidAt t;
+  key = key;
+}
+
+-- ceil((m + 1) / 2)
+unfoldable pub median : ℕ → ℕ
+median m = (m + 1 + 1) / 2
+
+-- the guest's number
+unfoldable pub byNumber : ℕ → ℕ
+byNumber i = i
+
+-- document 01's market
+unfoldable pub market : Tables → Market
+market t = marketBy median byNumber t
+
+-- 1. the cut: the greatest ask that fewer than `position` asks lie below (`CutReads`: the ask at that position in rising order)
+unfoldable pub cut : Market → ℕ
+cut M = greatest (M .stations) (λ j. only (count (M .stations) (λ k. M .ask k <? M .ask j) <? M .position) (M .ask j))
+
+-- 2. an open station
+unfoldable pub opens : Market → ℕ → Bool
+opens M j = M .ask j <? cut M
+
+-- what a mechanism sees of a market: candidates and totals, and no ask
+pub record Screened : Type 0 where
+  pub guests : ℕ
+  pub stations : ℕ
+  pub cut : ℕ
+  pub capacity : ℕ → ℕ
+  pub amount : ℕ → ℕ
+  pub key : ℕ → ℕ
+  pub candidate : ℕ → ℕ → Bool
+  pub total : ℕ → ℕ → ℕ
+
+-- 3. guest i is a candidate at station j; 4. its total there
+unfoldable pub screen : Market → Screened
+screen M = record {
+  guests = M .guests;
+  stations = M .stations;
+  cut = cut M;
+  capacity = M .capacity;
+  amount = M .amount;
+  key = M .key;
+  candidate = λ i j. opens M j and cut M ≤? M .bid i j;
+  total = λ i j. M .bid i j * M .amount i;
+}
+
+-- the candidates of one station
+pub record Queue : Type 0 where
+  pub guests : ℕ
+  pub capacity : ℕ
+  pub candidate : ℕ → Bool
+  pub total : ℕ → ℕ
+  pub key : ℕ → ℕ
+
+unfoldable pub queue : Screened → ℕ → Queue
+queue S j = record {
+  guests = S .guests;
+  capacity = S .capacity j;
+  candidate = λ i. S .candidate i j;
+  total = λ i. S .total i j;
+  key = S .key;
+}
+
+-- 4. k stands before i: by a greater total, or by the lower key at an equal total
+unfoldable pub before : Queue → ℕ → ℕ → Bool
+before Q k i = Q .total i <? Q .total k or (Q .total i =? Q .total k and Q .key k <? Q .key i)
+
+-- how many candidates stand before i
+unfoldable pub rank : Queue → ℕ → ℕ
+rank Q i = count (Q .guests) (λ k. Q .candidate k and before Q k i)
+
+-- 4. i is a provisional winner (document 01: holds a place)
+unfoldable pub provisional : Queue → ℕ → Bool
+provisional Q i = Q .candidate i and rank Q i <? Q .capacity
+
+-- 5. the critical total (document 01: the floor): the greatest total of a candidate without a place, 0 for none
+unfoldable pub critical : Queue → ℕ
+critical Q = greatest (Q .guests) (λ k. only (Q .candidate k and not (rank Q k <? Q .capacity)) (Q .total k))

@@ -1,0 +1,47 @@
+-- The clearing of lent tables, as lists and numbers. Document 01, end of 'Clearing'.
+use Prim.Native.Nat.{ℕ}
+use mathlib.Core.List.{List}
+use Rattle.model.specs.Counting.{list}
+use Rattle.model.specs.market.Market.{Tables, market, Screened, screen}
+use Rattle.model.specs.market.Mechanism.{Decision, charged, sold, paid, margin, truthful}
+
+-- the result lists: each guest's station (0 for none) and charge, each station's kWh sold and payment
+pub record Results : Type 0 where
+  pub stations : List ℕ
+  pub charges : List ℕ
+  pub sold : List ℕ
+  pub paid : List ℕ
+
+pub record Outcome : Type 0 where
+  pub cut : ℕ
+  pub margin : ℕ
+  pub results : Results
+
+abbrev pub results : (stations charges sold paid : List ℕ) → Results
+results stations charges sold paid = record { stations = stations; charges = charges; sold = sold; paid = paid }
+
+abbrev pub outcomeOf : (cut margin : ℕ) (stations charges sold paid : List ℕ) → Outcome
+outcomeOf cut margin stations charges sold paid = record { cut = cut; margin = margin; results = results stations charges sold paid }
+
+-- what a decision comes to
+unfoldable pub settle : Screened → Decision → Outcome
+settle S D = record {
+  cut = S .cut;
+  margin = margin S D;
+  results = record {
+    stations = list (S .guests) (D .assigned);
+    charges = list (S .guests) (charged S D);
+    sold = list (S .stations) (sold S D);
+    paid = list (S .stations) (paid S D);
+  };
+}
+
+-- what document 01's mechanism sees and decides, and its outcome
+unfoldable pub seen : Tables → Screened
+seen t = screen (market t)
+
+unfoldable pub decided : Tables → Decision
+decided t = truthful (seen t)
+
+unfoldable pub outcome : Tables → Outcome
+outcome t = settle (seen t) (decided t)

@@ -1,0 +1,81 @@
+-- The sheet that states a market, said without reading: its bytes from the first to the last. Document 01, 'The sheet'.
+use Prim.Native.Nat.{ℕ, zero, suc, _+_, _*_, _/_, _%_, _^_, _≤_, _<_}
+use mathlib.Core.Bool.{Bool, true, false}
+use mathlib.Core.List.{List, [], _∷_, _++_}
+use mathlib.Core.Path.{_≡_}
+use lib.ListN.{length, getD}
+use Rattle.model.specs.Limits.{maxGuests, maxStations}
+use Rattle.model.specs.Counting.{only, joined}
+use Rattle.model.specs.market.Market.{Tables, bidAt}
+use Rattle.model.specs.sheet.Fields.{mapWidth}
+use Rattle.model.specs.sheet.Content.{tables, readSheet}
+
+-- x in k bytes, lowest byte first
+unfoldable pub bytesOf : (k x : ℕ) → List ℕ
+bytesOf zero x = []
+bytesOf (suc k) x = x % 256 ∷ bytesOf k (x / 256)
+
+-- the map whose m bits, lowest first, are b 0, .., b (m - 1)
+unfoldable pub pack : (m : ℕ) → (ℕ → Bool) → ℕ
+pack zero b = 0
+pack (suc m) b = only (b 0) 1 + 2 * pack m (λ j. b (suc j))
+
+unfoldable pub station : Tables → ℕ → List ℕ
+station t j = bytesOf 4 (getD (t .asks) j 0) ++ bytesOf 2 (getD (t .bays) j 0)
+
+-- a bid has a field where its bit is set
+unfoldable pub stated : Bool → ℕ → List ℕ
+stated true x = bytesOf 4 x
+stated false x = []
+
+unfoldable pub row : Tables → (ℕ → ℕ → Bool) → ℕ → List ℕ
+row t set i = bytesOf 2 (getD (t .amounts) i 0)
+    ++ (bytesOf (mapWidth (length (t .asks))) (pack (length (t .asks)) (set i))
+    ++ joined (length (t .asks)) (λ j. stated (set i j) (bidAt t i j)))
+
+-- the sheet of t with the bits `set`
+unfoldable pub layout : Tables → (ℕ → ℕ → Bool) → List ℕ
+layout t set = bytesOf 2 (length (t .amounts))
+    ++ (bytesOf 2 (length (t .asks))
+    ++ (joined (length (t .asks)) (station t)
+    ++ joined (length (t .amounts)) (row t set)))
+
+-- the counts are within their limits, the tables as long as they say, and each number fits its field
+pub record Fitting (t : Tables) : Type 0 where
+  pub few : length (t .amounts) ≤ maxGuests
+  pub some : 1 ≤ length (t .asks)
+  pub narrow : length (t .asks) ≤ maxStations
+  pub width-is : t .width ≡ length (t .asks)
+  pub bays-long : length (t .bays) ≡ length (t .asks)
+  pub bids-long : length (t .bids) ≡ length (t .amounts) * length (t .asks)
+  pub ask-fits : (j : ℕ) → j < length (t .asks) → getD (t .asks) j 0 < 256 ^ 4
+  pub bays-fit : (j : ℕ) → j < length (t .asks) → getD (t .bays) j 0 < 256 ^ 2
+  pub amount-fits : (i : ℕ) → i < length (t .amounts) → getD (t .amounts) i 0 < 256 ^ 2
+  pub bid-fits : (i j : ℕ) → i < length (t .amounts) → j < length (t .asks) → bidAt t i j < 256 ^ 4
+
+-- s states t: it is t's layout with some choice of set bits, among which is each bid that is not 0
+pub record States (s : List ℕ) (t : Tables) : Type 0 where
+  pub fitting : Fitting t
+  pub set : ℕ → ℕ → Bool
+  pub covers : (i j : ℕ) → i < length (t .amounts) → j < length (t .asks) → set i j ≡ false → bidAt t i j ≡ 0
+  pub is : s ≡ layout t set
+
+abbrev pub Bytes : List ℕ → Type 0
+Bytes s = (k : ℕ) → getD s k 0 < 256
+
+-- ---- what is proved
+
+-- bytes are read as t exactly where they state t
+abbrev pub ReadsExactlyWhatIsStated : Type 0
+ReadsExactlyWhatIsStated = (s : List ℕ) (t : Tables) → Bytes s → (readSheet s ≡ tables t → States s t) × (States s t → readSheet s ≡ tables t)
+
+-- two markets never share a sheet
+abbrev pub StatesOneMarket : Type 0
+StatesOneMarket = (s : List ℕ) (t u : Tables) → States s t → States s u → t ≡ u
+
+-- no sheet is longer: 4 bytes, 40 stations of 6, and 200 rows of 2 + 5 + 40 * 4
+abbrev pub maxSheet : ℕ
+maxSheet = 33_644
+
+abbrev pub SheetsAreShort : Type 0
+SheetsAreShort = (s : List ℕ) (t : Tables) → States s t → length s ≤ maxSheet

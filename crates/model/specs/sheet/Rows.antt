@@ -1,0 +1,53 @@
+-- Where the fields of each station and of each guest's row stand in a sheet, what they hold, and a row's faults. Document 01, 'The sheet' and the reader's rows of 'Refusals by place'.
+-- Guests and stations count from 0 here.
+use Prim.Native.Nat.{ℕ, zero, suc, _+_, _*_, _/_, _^_}
+use mathlib.Core.List.{List, [], _∷_}
+use lib.ListN.{length}
+use Rattle.model.specs.declared.refusal.Refusal.the-variants.{SheetEnds, StrayBit}
+use Rattle.model.specs.Counting.{_<?_, only, count, joined}
+use Rattle.model.specs.Refusals.{Row, _gives_}
+use Rattle.model.specs.sheet.Fields.{number, mapWidth, hasBit}
+
+-- of the row that starts at p: its bit map, where its bids start, where the next row starts
+unfoldable pub mapAt : List ℕ → (m p : ℕ) → ℕ
+mapAt s m p = number s (p + 2) (mapWidth m)
+
+unfoldable pub bidsAt : (m p : ℕ) → ℕ
+bidsAt m p = p + 2 + mapWidth m
+
+unfoldable pub nextAt : List ℕ → (m p : ℕ) → ℕ
+nextAt s m p = bidsAt m p + 4 * count m (hasBit (mapAt s m p))
+
+-- where the row of guest i starts
+unfoldable pub rowAt : List ℕ → (m i : ℕ) → ℕ
+rowAt s m zero = 4 + 6 * m
+rowAt s m (suc i) = nextAt s m (rowAt s m i)
+
+unfoldable pub askOf : List ℕ → ℕ → ℕ
+askOf s j = number s (4 + 6 * j) 4
+
+unfoldable pub baysOf : List ℕ → ℕ → ℕ
+baysOf s j = number s (8 + 6 * j) 2
+
+unfoldable pub amountOf : List ℕ → (m i : ℕ) → ℕ
+amountOf s m i = number s (rowAt s m i) 2
+
+-- the bid for station j in a row with this map, whose bids start at q: a field for each set bit, 0 for a clear one
+unfoldable pub bidBy : List ℕ → (map q j : ℕ) → ℕ
+bidBy s map q j = only (hasBit map j) (number s (q + 4 * count j (hasBit map)) 4)
+
+unfoldable pub bidOf : List ℕ → (m i j : ℕ) → ℕ
+bidOf s m i = bidBy s (mapAt s m (rowAt s m i)) (bidsAt m (rowAt s m i))
+
+-- ---- faults, in the order of the table. The bids of a guest have no other fault between them and share a row
+
+unfoldable pub rowFaults : List ℕ → (m p : ℕ) → List Row
+rowFaults s m p =
+    (length s <? p + 2 gives SheetEnds)
+    ∷ (length s <? bidsAt m p gives SheetEnds)
+    ∷ (0 <? mapAt s m p / 2 ^ m gives StrayBit)
+    ∷ (length s <? nextAt s m p gives SheetEnds)
+    ∷ []
+
+unfoldable pub rowsFaults : List ℕ → (m n : ℕ) → List Row
+rowsFaults s m n = joined n (λ i. rowFaults s m (rowAt s m i))

@@ -1,0 +1,6 @@
+pub mod Decimal
+pub mod Lines
+pub mod MarketText
+pub mod Printed
+pub mod Text
+pub mod Writing

@@ -1,0 +1,13 @@
+-- What the clearing program prints of a sheet. Document 01, end of 'Cases'. A text is a list of bytes.
+use Prim.Native.Nat.{ℕ}
+use mathlib.Core.List.{List}
+use Rattle.model.specs.text.Text.{refusalText}
+use Rattle.model.specs.sheet.Content.{Content, fault, tables, readSheet}
+use Rattle.model.specs.text.MarketText.{marketTextOf}
+
+unfoldable pub sheetText : Content → List ℕ
+sheetText (fault r) = refusalText r
+sheetText (tables t) = marketTextOf t
+
+unfoldable pub printed : (sheet : List ℕ) → List ℕ
+printed s = sheetText (readSheet s)

@@ -1,0 +1,18 @@
+// The answers of the entry points.
+use crate::refusal::Refusal;
+
+// What a sheet comes to: the counts of the market read, or the refusal.
+pub enum Reading {
+    Read { guests: usize, stations: usize },
+    Refused(Refusal),
+}
+
+pub enum Clearing {
+    Cleared { cut: u32, margin: u64 },
+    Refused(Refusal),
+}
+
+pub enum Reply {
+    Posted,
+    Refused(Refusal),
+}

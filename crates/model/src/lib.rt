@@ -1,0 +1,6 @@
+// All that is believed of the bay market, and the theorems about it: definitions and statements in specs/, proofs in proofs/.
+// Here stand the types that they cite.
+pub mod account;
+pub mod answers;
+pub mod limits;
+pub mod refusal;

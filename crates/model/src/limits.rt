@@ -1,0 +1,42 @@
+// The limits of the bay market.
+ghost use mathlib.Core.Path.{_≡_};
+ghost use Rattle.model.specs.Limits.{limits as limitsOf};
+
+pub const MAX_GUESTS: usize = 200;
+
+pub const MAX_STATIONS: usize = 40;
+
+pub const MAX_PRICE: u32 = 1_000_000;
+
+pub const MAX_AMOUNT: u16 = 1_000;
+
+pub const MAX_CAPACITY: u16 = 200;
+
+pub const MAX_ACCOUNT: u64 = 1_000_000_000_000_000;
+
+pub const MAX_ROUND: u32 = 4_294_967_295;
+
+pub struct Limits {
+    pub guests: usize,
+    pub stations: usize,
+    pub price: u32,
+    pub amount: u16,
+    pub capacity: u16,
+    pub account: u64,
+    pub round: u32,
+}
+
+// The constants, proved to be the limits that specs/ has.
+pub fn stated_limits() -> Limits
+    ensures { λ r. ⌜ r ≡ limitsOf ⌝ }
+{
+    Limits {
+        guests: MAX_GUESTS,
+        stations: MAX_STATIONS,
+        price: MAX_PRICE,
+        amount: MAX_AMOUNT,
+        capacity: MAX_CAPACITY,
+        account: MAX_ACCOUNT,
+        round: MAX_ROUND,
+    }
+}

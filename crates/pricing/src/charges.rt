@@ -1,0 +1,62 @@
+// The least charges, and the charges of those who chose a station.
+use crate::money::Mills;
+use crate::money::UnitPrice;
+ghost use Prim.Native.Nat.{ℕ, _+_, _*_, _-_, _<_, _≤_, max};
+ghost use mathlib.Core.Path.{_≡_};
+ghost use lib.ListN.{length, getD};
+ghost use Rattle.model.specs.Limits.{maxPrice, maxAmount};
+ghost use Rattle.model.specs.Counting.{_<?_, only, list};
+ghost use Rattle.pricing.specs.Charges.{leastAt, Chargeable, Charged};
+
+fn least_charge(cut: UnitPrice, amount: u16) -> u32
+    requires { ⌜ (cut .0 ≤ maxPrice) × (amount ≤ maxAmount) ⌝ }
+    ensures { λ r. ⌜ r ≡ cut .0 * amount ⌝ }
+{
+    cut.times(amount as u32).narrow()
+}
+
+// Cut times amount for each guest. For `clearing`, once the market is found good.
+pub fn least_charges(amounts: &[u16], cut: UnitPrice, least: &mut [u32])
+    requires { ⌜ (length (now least) ≡ length (now amounts)) × (cut .0 ≤ maxPrice) ⌝ }
+    requires { ⌜ ((k : ℕ) → k < length (now amounts) → getD (now amounts) k 0 ≤ maxAmount) ⌝ }
+    ensures { λ _. ⌜ now (least .exit) ≡ list (length (now (amounts .entry))) (leastAt (now (amounts .entry)) (cut .0)) ⌝ }
+{
+    let mut i = 0;
+    while i < amounts.len() {
+        least[i] = least_charge(cut, amounts[i]);
+        i += 1;
+    }
+}
+
+// The charge at a station by its number and critical total; nothing at number 0, which is none.
+fn charge_at(station: u32, least: u32, critical: u32) -> u32
+    ensures { λ r. ⌜ r ≡ only (0 <? station) (max least critical) ⌝ }
+{
+    if 0 < station {
+        Mills::wide(least).larger(Mills::wide(critical)).narrow()
+    } else {
+        0
+    }
+}
+
+// Each guest's station and charge, from the station chosen and the critical total of each station number. For
+// `assignment`, where all have chosen one of the stations or none.
+pub fn charge_guests(
+    chosen: &[u32],
+    least: &[u32],
+    criticals: &[u32],
+    stations: &mut [u16],
+    charges: &mut [u32],
+)
+    requires { ⌜ Chargeable (now chosen) (now least) (now criticals) (now stations) (now charges) ⌝ }
+    ensures { λ _. ⌜ Charged (now (chosen .entry)) (now (least .entry)) (now (criticals .entry)) (now (stations .exit)) (now (charges .exit)) ⌝ }
+{
+    let mut i = 0;
+    while i < chosen.len() {
+        let s = chosen[i];
+        let critical = criticals[s as usize];
+        stations[i] = s as u16;
+        charges[i] = charge_at(s, least[i], critical);
+        i += 1;
+    }
+}

@@ -1,0 +1,6 @@
+// What is paid for a bay: the cut, charges, sales and the margin.
+pub mod charges;
+pub mod cut;
+pub mod margin;
+pub mod money;
+pub mod sales;

@@ -1,0 +1,29 @@
+// What the house keeps: the sum of the charges above the least.
+use crate::money::Mills;
+ghost use Prim.Native.Nat.{_-_, _<_, _≤_};
+ghost use mathlib.Core.Path.{_≡_};
+ghost use lib.ListN.{length, getD};
+ghost use Rattle.model.specs.Limits.{maxGuests};
+ghost use Rattle.model.specs.Counting.{sum};
+
+fn excess(charge: u32, least: u32) -> Mills
+    ensures { λ r. ⌜ r .0 ≡ charge - least ⌝ }
+{
+    let other = Mills::wide(least);
+    Mills::wide(charge).larger(other).less(other)
+}
+
+// What the charges exceed the least charges by, in all: whoever is charged nothing adds nothing. For `clearing`, which has a
+// charge and a least charge for each of at most 200 guests: that is what it requires.
+pub fn margin(charges: &[u32], least: &[u32]) -> Mills
+    requires { ⌜ (length (now least) ≡ length (now charges)) × (length (now charges) ≤ maxGuests) ⌝ }
+    ensures { λ r. ⌜ r .0 ≡ sum (length (now (charges .entry))) (λ i. getD (now (charges .entry)) i 0 - getD (now (least .entry)) i 0) ⌝ }
+{
+    let mut r = Mills(0);
+    let mut i = 0;
+    while i < charges.len() {
+        r = r.plus(excess(charges[i], least[i]));
+        i += 1;
+    }
+    r
+}

@@ -1,2 +1,0 @@
-pub mod MarketText
-pub mod Prints

@@ -1,0 +1,83 @@
+use Prim.Native.Nat.{_≤_, _-_}
+use native.Mathlib.Omega.{arith}
+use lib.ListN.{length}
+use borrow.Author.Needs.{needs}
+use Rattle.model.specs.Counting.{joined}
+use Rattle.report.specs.Wrote.{Wrote}
+use Rattle.report.proofs.text.Writing.{wrote-none}
+use Rattle.model.specs.text.Lines.{guestLines}
+use Rattle.report.proofs.lines.Lines.{wrote-joined, wrote-lines, guest-lines-end}
+use Rattle.report.proofs.lines.guest_lines.Statement.{statement}
+use Rattle.report.proofs.lines.guest_lines.Tie as tie
+
+abbrev Inv-loop : tie.InvT-loop
+Inv-loop out₀ at stations charges p₀ k₀ out p k = (k ≤ length stations) × Wrote out₀ at (guestLines stations charges k) out p
+
+abbrev μ-loop : tie.MeasureT-loop
+μ-loop out₀ at stations charges p₀ k₀ out p k = length stations - k
+
+loop-holds : tie.Need-loop-holds Inv-loop μ-loop
+unfolding guestLines joined
+loop-holds c = (search needs, wrote-none _ _)
+
+mul-station : tie.Need-mul-station Inv-loop μ-loop
+mul-station c = search needs
+
+shared-slice-read-station : tie.Need-shared-slice-read-station Inv-loop μ-loop
+shared-slice-read-station c = search needs
+
+cast-station : tie.Need-cast-station Inv-loop μ-loop
+cast-station c = omega (arith, c .shared-slice-known3 .given (c .before .before .loop .k))
+
+mul-charge : tie.Need-mul-charge Inv-loop μ-loop
+mul-charge c = search needs
+
+shared-slice-read-charge : tie.Need-shared-slice-read-charge Inv-loop μ-loop
+shared-slice-read-charge c = search needs
+
+cast-charge : tie.Need-cast-charge Inv-loop μ-loop
+cast-charge c = omega (arith, c .shared-slice-known4 .given (c .before .before .before .loop .k))
+
+add-guest-line : tie.Need-add-guest-line Inv-loop μ-loop
+add-guest-line c = search needs
+
+guest-line-requires : tie.Need-guest-line-requires Inv-loop μ-loop
+guest-line-requires c κs = omega (arith, guest-lines-end _ _ _ (c .before .before .before .before .loop .inv .1), c .before .before .before .before .before .before .before .before .pre)
+
+add-k : tie.Need-add-k Inv-loop μ-loop
+add-k c = search needs
+
+loop-less : tie.Need-loop-less Inv-loop μ-loop
+loop-less c = search needs
+
+loop-again : tie.Need-loop-again Inv-loop μ-loop
+unfolding guestLines
+loop-again c = (omega arith, wrote-joined _ _ (c .before .before .before .before .before .before .before .loop .inv .1) (c .before .before .guest-line .ensures))
+
+same-length : tie.Need-same-length Inv-loop μ-loop
+same-length c = c .before .loop .inv .1 .same
+
+returns : tie.Need-returns Inv-loop μ-loop
+unfolding guestLines
+returns c = wrote-lines _ (c .before .loop .inv .1) (c .before .loop .inv .0) (c .loop-test .left)
+
+pub guest-lines-spec : {M : Type 1} → statement M
+guest-lines-spec =
+    tie.close
+    (tie.spec
+    Inv-loop
+    μ-loop
+    loop-holds
+    mul-station
+    shared-slice-read-station
+    cast-station
+    mul-charge
+    shared-slice-read-charge
+    cast-charge
+    add-guest-line
+    guest-line-requires
+    add-k
+    loop-less
+    loop-again
+    same-length
+    returns)

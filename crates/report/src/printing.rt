@@ -1,0 +1,81 @@
+// The text of a market's clearing or refusal, as bytes in a lent buffer.
+use crate::page;
+use model::answers::Clearing;
+ghost use Prim.Native.Nat.{_≤_};
+ghost use mathlib.Core.Path.{_≡_};
+ghost use lib.ListN.{length};
+ghost use Rattle.model.specs.Limits.{maxGuests, maxStations};
+ghost use Rattle.model.specs.market.Market.{tables};
+ghost use Rattle.model.specs.text.MarketText.{marketTextOf};
+ghost use Rattle.model.specs.contracts.Prints.{Prints};
+
+// The text of a market, by way of lent result lists.
+fn print_cleared(
+    asks: &[u32],
+    bays: &[u16],
+    amounts: &[u16],
+    bids: &[u32],
+    stations: &mut [u16],
+    charges: &mut [u32],
+    sold: &mut [u32],
+    paid: &mut [u64],
+    out: &mut [u8],
+) -> usize
+    requires { ⌜ (length (now amounts) ≤ maxGuests) × (length (now asks) ≤ maxStations) ⌝ }
+    requires { ⌜ (length (now stations) ≡ length (now amounts)) × (length (now charges) ≡ length (now amounts)) × (length (now sold) ≡ length (now asks)) × (length (now paid) ≡ length (now asks)) ⌝ }
+    ensures { λ r. ⌜ Prints (marketTextOf (tables (now (asks .entry)) (now (bays .entry)) (now (amounts .entry)) (now (bids .entry)) (length (now (asks .entry))))) (now (out .entry)) r (now (out .exit)) ⌝ }
+{
+    let answer = clearing::clear(
+        asks,
+        bays,
+        amounts,
+        bids,
+        asks.len(),
+        stations,
+        charges,
+        sold,
+        paid,
+    );
+    match answer {
+        Clearing::Refused(refusal) => page::refusal_text(refusal, out),
+        Clearing::Cleared { cut, margin } => page::clearing_text(
+            cut,
+            margin,
+            stations,
+            charges,
+            sold,
+            paid,
+            out,
+        ),
+    }
+}
+
+// For `print_clearing`, whose market was read from a sheet and so has counts within the limits, which is what it requires.
+pub fn print_market(
+    asks: &[u32],
+    bays: &[u16],
+    amounts: &[u16],
+    bids: &[u32],
+    out: &mut [u8],
+) -> usize
+    requires { ⌜ (length (now amounts) ≤ maxGuests) × (length (now asks) ≤ maxStations) ⌝ }
+    ensures { λ r. ⌜ Prints (marketTextOf (tables (now (asks .entry)) (now (bays .entry)) (now (amounts .entry)) (now (bids .entry)) (length (now (asks .entry))))) (now (out .entry)) r (now (out .exit)) ⌝ }
+{
+    let n = amounts.len();
+    let m = asks.len();
+    let mut stations = [0u16; 200];
+    let mut charges = [0u32; 200];
+    let mut sold = [0u32; 40];
+    let mut paid = [0u64; 40];
+    print_cleared(
+        asks,
+        bays,
+        amounts,
+        bids,
+        &mut stations[..n],
+        &mut charges[..n],
+        &mut sold[..m],
+        &mut paid[..m],
+        out,
+    )
+}

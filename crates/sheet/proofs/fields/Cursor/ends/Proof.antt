@@ -1,0 +1,15 @@
+-- What is left of the sheet is short of k exactly where k more bytes end past it.
+use native.Mathlib.Omega.{arith}
+use borrow.Author.Needs.{needs}
+use Rattle.model.proofs.sheet.Fields.{ends-test}
+use Rattle.sheet.proofs.fields.Cursor.ends.Statement.{statement}
+use Rattle.sheet.proofs.fields.Cursor.ends.Tie as tie
+
+sub-result : tie.Need-sub-result
+sub-result c = search needs
+
+returns : tie.Need-returns
+returns c = ends-test _ _ _ (omega arith)
+
+pub ends-spec : {M : Type 1} → statement M
+ends-spec = tie.close (tie.spec sub-result returns)

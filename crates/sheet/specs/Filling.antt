@@ -1,0 +1,34 @@
+-- What the functions of the filling pass promise. Nothing that `sheet::read` promises depends on this file.
+use Prim.Native.Nat.{ℕ, _+_, _*_}
+use mathlib.Core.Bool.{Bool}
+use mathlib.Core.List.{List, _++_}
+use mathlib.Core.Path.{_≡_}
+use lib.ListN.{take}
+use Rattle.model.specs.Counting.{only, list, joined}
+use Rattle.model.specs.sheet.Fields.{number}
+use Rattle.model.specs.sheet.Rows.{rowAt, askOf, baysOf, amountOf, bidOf}
+use Rattle.sheet.specs.declared.fields.Cursor.{Cursor}
+use Rattle.model.specs.sheet.Over.{over}
+
+-- the bid at p is x, where it has a field
+pub record BidTaken (s : List ℕ) (p : ℕ) (set : Bool) (x : ℕ) (to : Cursor) : Type 0 where
+  pub value : x ≡ only set (number s p 4)
+  pub place : to .at ≡ p + 4 * only set 1
+
+-- l with f 0, .., f (m - 1) at the places from base on
+unfoldable pub placed : (base m : ℕ) → (ℕ → ℕ) → List ℕ → List ℕ
+placed base m f l = over (take base l ++ list m f) l
+
+-- a row's bids are in the table, and q is the place after them
+pub record RowFilled (q base m : ℕ) (f : ℕ → ℕ) (bids : List ℕ) (to : Cursor) (bids′ : List ℕ) : Type 0 where
+  pub place : to .at ≡ q
+  pub bids-are : bids′ ≡ placed base m f bids
+
+pub record StationsFilled (s : List ℕ) (m : ℕ) (asks bays : List ℕ) (to : Cursor) (asks′ bays′ : List ℕ) : Type 0 where
+  pub place : to .at ≡ rowAt s m 0
+  pub asks-are : asks′ ≡ over (list m (askOf s)) asks
+  pub bays-are : bays′ ≡ over (list m (baysOf s)) bays
+
+pub record RowsFilled (s : List ℕ) (n m : ℕ) (amounts bids amounts′ bids′ : List ℕ) : Type 0 where
+  pub amounts-are : amounts′ ≡ over (list n (amountOf s m)) amounts
+  pub bids-are : bids′ ≡ over (joined n (λ i. list m (bidOf s m i))) bids

@@ -1,0 +1,11 @@
+-- What taking a field promises. Nothing that `sheet::read` promises depends on this file.
+use Prim.Native.Nat.{ℕ, _+_}
+use mathlib.Core.List.{List}
+use mathlib.Core.Path.{_≡_}
+use Rattle.model.specs.sheet.Fields.{number}
+use Rattle.sheet.specs.declared.fields.Cursor.{Cursor}
+
+-- the field of k bytes at p is x, and `to` is the place after it
+pub record Taken (s : List ℕ) (p k x : ℕ) (to : Cursor) : Type 0 where
+  pub value : x ≡ number s p k
+  pub place : to .at ≡ p + k

@@ -1,0 +1,131 @@
+// The fields of a sheet: numbers of 2 and of 4 bytes and bit maps, each with the place after it. For `passes`
+// and `checking`, which ask `ends` before they take a field, and for `filling`, whose sheet has no fault: that is what is required here.
+ghost use Prim.Native.Nat.{_+_, _*_, _^_, _<_, _≤_};
+ghost use mathlib.Core.Path.{_≡_};
+ghost use lib.ListN.{length};
+ghost use Rattle.model.specs.Limits.{maxStations};
+ghost use Rattle.model.specs.Counting.{_<?_, only, count};
+ghost use Rattle.model.specs.sheet.Fields.{number, mapWidth, hasBit};
+ghost use Rattle.sheet.specs.Taken.{Taken};
+
+// The place reached in a sheet.
+pub struct Cursor {
+    pub at: usize,
+}
+
+// What the cursor takes, with the place after it.
+pub struct Short {
+    pub value: u16,
+    pub next: Cursor,
+}
+
+pub struct Long {
+    pub value: u32,
+    pub next: Cursor,
+}
+
+pub struct Map {
+    pub bits: u64,
+    pub next: Cursor,
+}
+
+// A byte, wide enough to be added up.
+fn wide(x: u8) -> u64
+    ensures { λ r. ⌜ (r ≡ x) × (r < 256) ⌝ }
+{
+    x as u64
+}
+
+// The number that the k bytes from at hold, lowest byte first.
+fn number(s: &[u8], at: usize, k: usize) -> u64
+    requires { ⌜ (k ≤ 5) × (at + k ≤ length (now s)) ⌝ }
+    ensures { λ r. ⌜ r ≡ number (now (s .entry)) at k ⌝ }
+{
+    let mut x: u64 = 0;
+    let mut left = k;
+    while 0 < left {
+        left -= 1;
+        x = x * 256 + wide(s[at + left]);
+    }
+    x
+}
+
+impl Cursor {
+    // Whether the sheet ends inside the next k bytes.
+    pub fn ends(self, s: &[u8], k: usize) -> bool
+        requires { ⌜ self .at ≤ length (now s) ⌝ }
+        ensures { λ r. ⌜ r ≡ (length (now (s .entry)) <? self .at + k) ⌝ }
+    {
+        s.len() - self.at < k
+    }
+
+    // Past k bytes.
+    pub fn skip(self, k: usize) -> Cursor
+        requires { ⌜ self .at + k < 2 ^ 64 ⌝ }
+        ensures { λ r. ⌜ r .at ≡ self .at + k ⌝ }
+    {
+        Cursor { at: self.at + k }
+    }
+
+    // A field of 2 bytes.
+    pub fn two(self, s: &[u8]) -> Short
+        requires { ⌜ self .at + 2 ≤ length (now s) ⌝ }
+        ensures { λ r. ⌜ Taken (now (s .entry)) (self .at) 2 (r .value) (r .next) ⌝ }
+    {
+        let at = self.at;
+        Short {
+            value: (wide(s[at]) + 256 * wide(s[at + 1])) as u16,
+            next: self.skip(2),
+        }
+    }
+
+    // A field of 4 bytes.
+    pub fn four(self, s: &[u8]) -> Long
+        requires { ⌜ self .at + 4 ≤ length (now s) ⌝ }
+        ensures { λ r. ⌜ Taken (now (s .entry)) (self .at) 4 (r .value) (r .next) ⌝ }
+    {
+        let low = self.two(s);
+        let high = low.next.two(s);
+        let next = high.next;
+        Long {
+            value: low.value as u32 + 65_536 * (high.value as u32),
+            next,
+        }
+    }
+
+    // A bit map.
+    pub fn map(self, s: &[u8], stations: usize) -> Map
+        requires { ⌜ (stations ≤ maxStations) × (self .at + mapWidth stations ≤ length (now s)) ⌝ }
+        ensures { λ r. ⌜ Taken (now (s .entry)) (self .at) (mapWidth stations) (r .bits) (r .next) ⌝ }
+    {
+        let at = self.at;
+        let k = map_width(stations);
+        Map {
+            bits: number(s, at, k),
+            next: self.skip(k),
+        }
+    }
+}
+
+// The bytes of a bit map.
+pub fn map_width(stations: usize) -> usize
+    requires { ⌜ stations ≤ maxStations ⌝ }
+    ensures { λ r. ⌜ r ≡ mapWidth stations ⌝ }
+{
+    (stations + 7) / 8
+}
+
+// A station's bit of a map, the first station being 0. It is a number: bits follow no pattern, and a branch on them would be slow.
+pub fn bit(bits: u64, station: usize) -> usize
+    requires { ⌜ station < 64 ⌝ }
+    ensures { λ r. ⌜ r ≡ only (hasBit bits station) 1 ⌝ }
+{
+    ((bits >> station) % 2) as usize
+}
+
+// How many bits of a map are set.
+pub fn count_bits(bits: u64) -> usize
+    ensures { λ r. ⌜ r ≡ count 64 (hasBit bits) ⌝ }
+{
+    u64::count_ones(bits) as usize
+}

@@ -1,0 +1,130 @@
+// The filling pass of the reader: the sheet has no fault, and its fields are written into the lent tables.
+use crate::fields;
+use crate::fields::Cursor;
+use crate::fields::Long;
+ghost use Prim.Native.Nat.{_+_, _*_, _^_, _<_, _≤_};
+ghost use mathlib.Core.Path.{_≡_};
+ghost use lib.ListN.{length};
+ghost use Rattle.model.specs.Limits.{maxStations};
+ghost use Rattle.model.specs.Counting.{only, count};
+ghost use Rattle.model.specs.Refusals.{accepted, firstFault};
+ghost use Rattle.model.specs.sheet.Fields.{number, hasBit};
+ghost use Rattle.model.specs.sheet.Rows.{rowAt, bidBy, rowsFaults};
+ghost use Rattle.sheet.specs.Filling.{BidTaken, StationsFilled, RowFilled, RowsFilled};
+
+// The asks and bays of all stations. For `read`, whose check has found no fault: that is what it and `fill_rows` require.
+pub fn fill_stations(
+    s: &[u8],
+    c: Cursor,
+    stations: usize,
+    asks: &mut [u32],
+    bays: &mut [u16],
+) -> Cursor
+    requires { ⌜ (c .at ≡ 4) × (4 + 6 * stations ≤ length (now s)) × (stations ≤ length (now asks)) × (stations ≤ length (now bays)) ⌝ }
+    ensures { λ r. ⌜ StationsFilled (now (s .entry)) stations (now (asks .entry)) (now (bays .entry)) r (now (asks .exit)) (now (bays .exit)) ⌝ }
+{
+    let mut d = c;
+    let mut j = 0;
+    while j < stations {
+        let ask = d.four(s);
+        let bay = ask.next.two(s);
+        asks[j] = ask.value;
+        bays[j] = bay.value;
+        d = bay.next;
+        j += 1;
+    }
+    d
+}
+
+// The bid of a station by its row's map, with c where its field stands if it has one; if not, the sheet's first bytes are read in its place.
+fn take_bid(s: &[u8], c: Cursor, bits: u64, station: usize) -> Long
+    requires { ⌜ (station < 64) × (c .at + 4 * only (hasBit bits station) 1 ≤ length (now s)) × (4 ≤ length (now s)) ⌝ }
+    ensures { λ r. ⌜ BidTaken (now (s .entry)) (c .at) (hasBit bits station) (r .value) (r .next) ⌝ }
+{
+    let set = fields::bit(bits, station);
+    let from = Cursor { at: c.at * set };
+    let field = from.four(s);
+    Long {
+        value: field.value * (set as u32),
+        next: c.skip(4 * set),
+    }
+}
+
+// The bids of a row whose bits are set for some stations, to the places from base on.
+fn fill_some(
+    s: &[u8],
+    c: Cursor,
+    bits: u64,
+    stations: usize,
+    base: usize,
+    bids: &mut [u32],
+) -> Cursor
+    requires { ⌜ (stations ≤ maxStations) × (c .at + 4 * count stations (hasBit bits) ≤ length (now s)) × (base + stations ≤ length (now bids)) × (4 ≤ length (now s)) ⌝ }
+    ensures { λ r. ⌜ RowFilled (c .at + 4 * count stations (hasBit bits)) base stations (bidBy (now (s .entry)) bits (c .at)) (now (bids .entry)) r (now (bids .exit)) ⌝ }
+{
+    let mut d = c;
+    let mut j = 0;
+    while j < stations {
+        let bid = take_bid(s, d, bits, j);
+        bids[base + j] = bid.value;
+        d = bid.next;
+        j += 1;
+    }
+    d
+}
+
+// The same where the bits of all stations are set.
+fn fill_all(s: &[u8], c: Cursor, stations: usize, base: usize, bids: &mut [u32]) -> Cursor
+    requires { ⌜ (c .at + 4 * stations ≤ length (now s)) × (base + stations ≤ length (now bids)) ⌝ }
+    ensures { λ r. ⌜ RowFilled (c .at + 4 * stations) base stations (λ j. number (now (s .entry)) (c .at + 4 * j) 4) (now (bids .entry)) r (now (bids .exit)) ⌝ }
+{
+    let mut d = c;
+    let mut j = 0;
+    while j < stations {
+        let field = d.four(s);
+        bids[base + j] = field.value;
+        d = field.next;
+        j += 1;
+    }
+    d
+}
+
+fn fill_row(
+    s: &[u8],
+    c: Cursor,
+    bits: u64,
+    stations: usize,
+    base: usize,
+    bids: &mut [u32],
+) -> Cursor
+    requires { ⌜ (stations ≤ maxStations) × (bits < 2 ^ stations) × (c .at + 4 * count stations (hasBit bits) ≤ length (now s)) × (base + stations ≤ length (now bids)) × (4 ≤ length (now s)) ⌝ }
+    ensures { λ r. ⌜ RowFilled (c .at + 4 * count stations (hasBit bits)) base stations (bidBy (now (s .entry)) bits (c .at)) (now (bids .entry)) r (now (bids .exit)) ⌝ }
+{
+    if fields::count_bits(bits) == stations {
+        return fill_all(s, c, stations, base, bids);
+    }
+    fill_some(s, c, bits, stations, base, bids)
+}
+
+// The amounts and bids of all guests. Required as in `fill_stations`.
+pub fn fill_rows(
+    s: &[u8],
+    c: Cursor,
+    guests: usize,
+    stations: usize,
+    amounts: &mut [u16],
+    bids: &mut [u32],
+)
+    requires { ⌜ (stations ≤ maxStations) × (c .at ≡ rowAt (now s) stations 0) × (firstFault (rowsFaults (now s) stations guests) ≡ accepted) × (guests ≤ length (now amounts)) × (guests * stations ≤ length (now bids)) × (4 ≤ length (now s)) ⌝ }
+    ensures { λ _. ⌜ RowsFilled (now (s .entry)) guests stations (now (amounts .entry)) (now (bids .entry)) (now (amounts .exit)) (now (bids .exit)) ⌝ }
+{
+    let mut d = c;
+    let mut i = 0;
+    while i < guests {
+        let amount = d.two(s);
+        let map = amount.next.map(s, stations);
+        amounts[i] = amount.value;
+        d = fill_row(s, map.next, map.bits, stations, i * stations, bids);
+        i += 1;
+    }
+}
