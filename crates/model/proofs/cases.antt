@@ -2,4 +2,5 @@ pub mod Cases
 pub mod Example
 pub mod Instances
 pub mod Sheets
+pub mod Texts
 pub mod Worked

@@ -1,3 +1,4 @@
 pub mod Cases
 pub mod Instances
 pub mod Sheets
+pub mod Texts

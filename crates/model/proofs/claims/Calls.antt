@@ -8,7 +8,7 @@ use Rattle.model.specs.Counting.{_=?_, only, sum}
 use Rattle.model.specs.Refusals.{Verdict, accepted, refused, firstFault}
 use Rattle.model.specs.market.Market.{Tables, bidAt, marketBy, median, market, screen}
 use Rattle.model.specs.market.Mechanism.{at, charged, obtained, served, sold, paid, margin}
-use Rattle.model.specs.market.Outcome.{settle, seen, decided, outcome}
+use Rattle.model.specs.market.Outcome.{Results, settle, seen, decided, outcome}
 use Rattle.model.specs.market.Faults.{Accepted, clearingFaults}
 use Rattle.model.specs.market.Gains.{guestGain, stationGain}
 use Rattle.model.specs.claims.Truth.{ClearsWithin}
@@ -16,9 +16,18 @@ use Rattle.model.proofs.Counting.{sum-cong, count-cong, getD-list}
 use Rattle.model.proofs.market.Acceptance.{accepted-reads}
 use Rattle.model.proofs.claims.Truth.{guest-truthful, station-truthful, clearing-limits}
 use Rattle.model.specs.contracts.Clears.{answerTo, resultsOf}
-use Rattle.model.specs.claims.Calls.{ClearedCall, guestGainIn, stationGainIn, GuestTruthfulCalls, StationTruthfulCalls, CallWithin, CallLimits}
-use Rattle.model.specs.declared.answers.Clearing.the-variants.{Cleared}
+use Rattle.model.specs.claims.Calls.{RefusedLeaves, ClearedCall, guestGainIn, stationGainIn, GuestTruthfulCalls, StationTruthfulCalls, CallWithin, CallLimits}
+use Rattle.model.specs.declared.answers.Clearing.the-variants.{Cleared, Refused}
+use Rattle.model.specs.declared.refusal.Refusal.{Refusal}
 use Rattle.model.proofs.contracts.Accepts.{accepts}
+
+pub refused-leaves : RefusedLeaves
+unfolding answerTo resultsOf
+refused-leaves t entry exit r c = go (firstFault (clearingFaults t entry)) (c .answered) (c .left)
+  where
+    go : (v : Verdict) → Refused r ≡ answerTo v (outcome t) → exit ≡ resultsOf v (outcome t) entry → exit ≡ entry
+    go accepted e l = absurd (let z : _≡_ {A = ℕ} 0 1 = cc in omega arith)
+    go (refused x) e l = l
 
 module _ (t : Tables) (k : ClearedCall t) where
   no-fault : firstFault (clearingFaults t (k .entry)) ≡ accepted

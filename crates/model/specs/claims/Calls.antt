@@ -1,4 +1,4 @@
--- Demand 3, first two sentences, over calls of `clear`: from the tables, the answer and the result lists at exit alone.
+-- Demand 3, first two sentences, and of demand 1 that a refusal writes nothing, over calls of `clear`: from the tables, the answer and the result lists at exit alone.
 -- Each statement is a type; its proof is a term of proofs/.
 use Prim.Native.Nat.{ℕ, suc, _+_, _*_, _≤_, _<_}
 use mathlib.Core.Path.{_≡_}
@@ -11,7 +11,12 @@ use Rattle.model.specs.market.Mechanism.{at}
 use Rattle.model.specs.market.Outcome.{Results}
 use Rattle.model.specs.claims.Truth.{AlikeButForGuest, AlikeButForStation}
 use Rattle.model.specs.contracts.Clears.{Clears}
-use Rattle.model.specs.declared.answers.Clearing.the-variants.{Cleared}
+use Rattle.model.specs.declared.answers.Clearing.the-variants.{Cleared, Refused}
+use Rattle.model.specs.declared.refusal.Refusal.{Refusal}
+
+-- a refused call leaves the result lists as they were
+abbrev pub RefusedLeaves : Type 0
+RefusedLeaves = (t : Tables) (entry exit : Results) (r : Refusal) → Clears t entry (Refused r) exit → exit ≡ entry
 
 -- a call that was answered as cleared, whatever its result lists held before
 pub record ClearedCall (t : Tables) : Type 0 where

@@ -1,0 +1,30 @@
+-- What is printed of case E and of a market that is refused, byte by byte.
+use Prim.Native.Nat.{ℕ}
+use mathlib.Core.List.{List, [], _∷_}
+use mathlib.Core.Path.{_≡_}
+use Rattle.model.specs.cases.Cases.{caseE, single}
+use Rattle.model.specs.text.MarketText.{marketTextOf}
+
+-- cut 6
+-- guest 1 station 1 charge 24
+-- guest 2 station 0 charge 0
+-- station 1 sold 3 paid 18
+-- station 2 sold 0 paid 0
+-- margin 6
+unfoldable pub textE : List ℕ
+textE =
+    99 ∷ 117 ∷ 116 ∷ 32 ∷ 54 ∷ 10
+    ∷ 103 ∷ 117 ∷ 101 ∷ 115 ∷ 116 ∷ 32 ∷ 49 ∷ 32 ∷ 115 ∷ 116 ∷ 97 ∷ 116 ∷ 105 ∷ 111 ∷ 110 ∷ 32 ∷ 49 ∷ 32 ∷ 99 ∷ 104 ∷ 97 ∷ 114 ∷ 103 ∷ 101 ∷ 32 ∷ 50 ∷ 52 ∷ 10
+    ∷ 103 ∷ 117 ∷ 101 ∷ 115 ∷ 116 ∷ 32 ∷ 50 ∷ 32 ∷ 115 ∷ 116 ∷ 97 ∷ 116 ∷ 105 ∷ 111 ∷ 110 ∷ 32 ∷ 48 ∷ 32 ∷ 99 ∷ 104 ∷ 97 ∷ 114 ∷ 103 ∷ 101 ∷ 32 ∷ 48 ∷ 10
+    ∷ 115 ∷ 116 ∷ 97 ∷ 116 ∷ 105 ∷ 111 ∷ 110 ∷ 32 ∷ 49 ∷ 32 ∷ 115 ∷ 111 ∷ 108 ∷ 100 ∷ 32 ∷ 51 ∷ 32 ∷ 112 ∷ 97 ∷ 105 ∷ 100 ∷ 32 ∷ 49 ∷ 56 ∷ 10
+    ∷ 115 ∷ 116 ∷ 97 ∷ 116 ∷ 105 ∷ 111 ∷ 110 ∷ 32 ∷ 50 ∷ 32 ∷ 115 ∷ 111 ∷ 108 ∷ 100 ∷ 32 ∷ 48 ∷ 32 ∷ 112 ∷ 97 ∷ 105 ∷ 100 ∷ 32 ∷ 48 ∷ 10
+    ∷ 109 ∷ 97 ∷ 114 ∷ 103 ∷ 105 ∷ 110 ∷ 32 ∷ 54 ∷ 10
+    ∷ []
+
+-- refused 9
+unfoldable pub textNine : List ℕ
+textNine = 114 ∷ 101 ∷ 102 ∷ 117 ∷ 115 ∷ 101 ∷ 100 ∷ 32 ∷ 57 ∷ 10 ∷ []
+
+pub record TextsHold : Type 0 where
+  pub case-e : marketTextOf caseE ≡ textE
+  pub bid-too-high : marketTextOf (single 1 1 1 1_000_001) ≡ textNine
