@@ -26,7 +26,8 @@ stationBy S j i = best j (λ k. provisional (queue S k) i) (surplus S i)
 unfoldable pub gainBy : Screened → (j i : ℕ) → ℕ
 gainBy S j i = at (λ k. surplus S i k + 1) (stationBy S j i)
 
--- after the first j stations: the choices and gains of n guests, and the critical total of each of these stations at its number
+-- after the first j stations: the choices and gains of n guests, and the critical total of each of these
+-- stations at its number
 pub record After (S : Screened) (n j : ℕ) (chosen gains criticals : List ℕ) : Type 0 where
   pub chosen-are : chosen ≡ list n (stationBy S j)
   pub gains-are : gains ≡ list n (gainBy S j)

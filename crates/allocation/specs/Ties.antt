@@ -9,7 +9,8 @@ use Rattle.model.specs.Counting.{_<?_, _=?_, count}
 unfoldable pub ties : List ℕ → ℕ → ℕ → ℕ
 ties l t i = count i (λ k. getD l k 0 =? t)
 
--- of those at t, the ones below e are those with fewer than b before them: a above t, and the ones at t of a lower index; at 0 there is none
+-- of those at t, the ones below e are those with fewer than b before them: a above t, and the ones at t of a lower
+-- index; at 0 there is none
 pub record TieBound (l : List ℕ) (t a b e : ℕ) : Type 0 where
   pub within : e ≤ length l
   pub none : t ≡ 0 → e ≡ 0

@@ -44,7 +44,9 @@ pub cut-low : (t : Tables) (c : ℕ) → WithinLimits t → c ≡ medianAsk (t .
 unfolding medianAsk eligible
 cut-low t c w e = rw e (greatest-le (length (t .asks)) _ maxPrice (λ k l. only-le _ _ _ (λ _. w .ask-most k l)))
 
-pub at-cut : (t : Tables) {c : ℕ} {least : List ℕ} → WithinLimits t → c ≡ medianAsk (t .asks) → least ≡ list (length (t .amounts)) (leastAt (t .amounts) c) → AtCut t c least
+pub at-cut :
+    (t : Tables) {c : ℕ} {least : List ℕ} → WithinLimits t → c ≡ medianAsk (t .asks)
+    → least ≡ list (length (t .amounts)) (leastAt (t .amounts) c) → AtCut t c least
 at-cut t w e l = record { within = w; is-cut = e ∙ cut-is t; cut-low = cut-low t _ w e; least-are = l }
 
 module _ (t : Tables) {stations charges : List ℕ} (a : Assigned t stations charges) where
@@ -69,23 +71,35 @@ module _ (t : Tables) {stations charges : List ℕ} (a : Assigned t stations cha
 
   kwh-is : (j : ℕ) → kwhAt stations (t .amounts) (j + 1) ≡ sold (seen t) (decided t) j
   unfolding kwhAt sold seen screen market marketBy
-  kwh-is j = sum-cong (length (t .amounts)) _ _ (λ k l. ap₂ (λ x y. only (x =? y) (getD (t .amounts) k 0)) (station-is k l) (add-one j))
+  kwh-is j =
+      sum-cong (length (t .amounts)) _ _
+      (λ k l. ap₂ (λ x y. only (x =? y) (getD (t .amounts) k 0)) (station-is k l) (add-one j))
 
   module _ {c : ℕ} {least : List ℕ} (A : AtCut t c least) where
     -- whoever is not assigned is charged nothing, and adds nothing
     margin-is : sum (length (t .amounts)) (λ i. getD charges i 0 - getD least i 0) ≡ margin (seen t) (decided t)
     unfolding margin charged at seen screen market marketBy
-    margin-is = sum-cong (length (t .amounts)) _ _ (λ k l. ap₂ _-_ (charge-is k l) (element _ _ (A .least-are) k l ∙ ap (λ x. x * getD (t .amounts) k 0) (A .is-cut)) ∙ go k ((decided t) .assigned k))
+    margin-is =
+        sum-cong (length (t .amounts)) _ _ (λ k l. ap₂ _-_ (charge-is k l)
+        (element _ _ (A .least-are) k l ∙ ap (λ x. x * getD (t .amounts) k 0) (A .is-cut))
+        ∙ go k ((decided t) .assigned k))
       where
-        go : (k r : ℕ) → at (charge (seen t) (decided t) k) r - cut (market t) * getD (t .amounts) k 0 ≡ at (λ j. charge (seen t) (decided t) k j - cut (market t) * getD (t .amounts) k 0) r
+        go :
+            (k r : ℕ)
+            → at (charge (seen t) (decided t) k) r - cut (market t) * getD (t .amounts) k 0
+            ≡ at (λ j. charge (seen t) (decided t) k j - cut (market t) * getD (t .amounts) k 0) r
         go k zero = omega arith
         go k (suc j) = refl
 
-    pub settles : {m x : ℕ} {sales payments : List ℕ} → m ≡ length (t .asks) → PaidOut (kwhAt stations (t .amounts)) c m sales payments
-        → x ≡ sum (length charges) (λ i. getD charges i 0 - getD least i 0) → Settles t (clearings.Cleared c x) (results stations charges sales payments)
+    pub settles :
+        {m x : ℕ} {sales payments : List ℕ} → m ≡ length (t .asks)
+        → PaidOut (kwhAt stations (t .amounts)) c m sales payments
+        → x ≡ sum (length charges) (λ i. getD charges i 0 - getD least i 0)
+        → Settles t (clearings.Cleared c x) (results stations charges sales payments)
     unfolding outcome settle paid seen screen market marketBy
     settles em p e = record {
-      answered = ap₂ clearings.Cleared (A .is-cut) (e ∙ ap (λ n. sum n (λ i. getD charges i 0 - getD least i 0)) charges-count ∙ margin-is);
+      answered = ap₂ clearings.Cleared (A .is-cut)
+          (e ∙ ap (λ n. sum n (λ i. getD charges i 0 - getD least i 0)) charges-count ∙ margin-is);
       left = λ i. record {
         stations = a .stations-are i;
         charges = a .charges-are i;
@@ -106,25 +120,36 @@ unfolding asVerdict
 is-refused accepted e = absurd (let z : _≡_ {A = ℕ} 0 1 = cc in omega arith)
 is-refused (refused r) e = cc
 
-pub refused-clears : (t : Tables) (r : Results) {x : Refusal} → verdicts.Refused x ≡ asVerdict (firstFault (clearingFaults t r)) → Clears t r (clearings.Refused x) r
+pub refused-clears :
+    (t : Tables) (r : Results) {x : Refusal} → verdicts.Refused x ≡ asVerdict (firstFault (clearingFaults t r))
+    → Clears t r (clearings.Refused x) r
 unfolding answerTo resultsOf
 refused-clears t r e = let v = is-refused _ (sym e) in record { answered = rw v refl; left = rw v refl }
 
 -- the row width is the number of stations
-width-of : (asks bays amounts bids : List ℕ) (width : ℕ) → WithinLimits (tables asks bays amounts bids width) → tables asks bays amounts bids width ≡ regular asks bays amounts bids
+width-of :
+    (asks bays amounts bids : List ℕ) (width : ℕ) → WithinLimits (tables asks bays amounts bids width)
+    → tables asks bays amounts bids width ≡ regular asks bays amounts bids
 width-of asks bays amounts bids width w = ap (tables asks bays amounts bids) (w .width-is)
 
 pub clear-accepts : (asks bays amounts bids : List ℕ) (width : ℕ) (r : Results)
-    → verdicts.Accepted ≡ asVerdict (firstFault (clearingFaults (tables asks bays amounts bids width) r)) → Accepts (regular asks bays amounts bids) r
+    → verdicts.Accepted ≡ asVerdict (firstFault (clearingFaults (tables asks bays amounts bids width) r))
+    → Accepts (regular asks bays amounts bids) r
 clear-accepts asks bays amounts bids width r e =
     let a = accepts _ r (is-accepted _ (sym e)) in
     subst (λ t. Accepts t r) (width-of asks bays amounts bids width (a .within)) a
 
-pub clear-settled : (asks bays amounts bids : List ℕ) (width : ℕ) (r : Results) {answer : Clearing} {exit : Results} → let t = tables asks bays amounts bids width in
-    verdicts.Accepted ≡ asVerdict (firstFault (clearingFaults t r)) → Settles (regular asks bays amounts bids) answer exit → Clears t r answer exit
+pub clear-settled :
+    (asks bays amounts bids : List ℕ) (width : ℕ) (r : Results) {answer : Clearing} {exit : Results}
+    → let t = tables asks bays amounts bids width in
+    verdicts.Accepted ≡ asVerdict (firstFault (clearingFaults t r))
+    → Settles (regular asks bays amounts bids) answer exit → Clears t r answer exit
 unfolding answerTo resultsOf
 clear-settled asks bays amounts bids width r e s =
     let t = tables asks bays amounts bids width in
     let v = is-accepted _ (sym e) in
     let o = ap outcome (sym (width-of asks bays amounts bids width (accepts t r v .within))) in
-    record { answered = rw v (s .answered ∙ ap (λ o. clearings.Cleared (o .cut) (o .margin)) o); left = rw v (s .left ∙ ap (λ o. o .results) o) }
+    record {
+      answered = rw v (s .answered ∙ ap (λ o. clearings.Cleared (o .cut) (o .margin)) o);
+      left = rw v (s .left ∙ ap (λ o. o .results) o);
+    }

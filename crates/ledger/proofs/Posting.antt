@@ -44,11 +44,15 @@ use Rattle.ledger.proofs.planning.Planning.{replied}
 
 -- nothing is added past the end of adds, nor by zeros
 zeros-at : (n k : ℕ) → _≡_ {A = ℕ} (getD (replicate n 0) k 0) 0
-zeros-at n k = ⊎-elim (λ (l : k < n). getD-replicate {A = ℕ} n k 0 0 l) (λ (l : n ≤ k). List·getD-eq-default (replicate n 0) 0 (rw length-replicate l)) (lt-or-le k n)
+zeros-at n k =
+    ⊎-elim (λ (l : k < n). getD-replicate {A = ℕ} n k 0 0 l)
+    (λ (l : n ≤ k). List·getD-eq-default (replicate n 0) 0 (rw length-replicate l)) (lt-or-le k n)
 
 -- a list of accounts no longer than what is added
 module _ (n : ℕ) (f : ℕ → ℕ) (xs : List ℕ) (size : ℕ) (small : length xs ≤ size) where
-  added-at : (k : ℕ) → k < length xs → getD xs k 0 + getD (list size (λ k. only (k <? n) (f k))) k 0 ≡ getD xs k 0 + only (k <? n) (f k)
+  added-at :
+      (k : ℕ) → k < length xs
+      → getD xs k 0 + getD (list size (λ k. only (k <? n) (f k))) k 0 ≡ getD xs k 0 + only (k <? n) (f k)
   added-at k l = ap (λ x. getD xs k 0 + x) (getD-list size _ k (omega arith))
 
   plus-raised : plus xs (list size (λ k. only (k <? n) (f k))) ≡ raised n f xs
@@ -57,17 +61,25 @@ module _ (n : ℕ) (f : ℕ → ℕ) (xs : List ℕ) (size : ℕ) (small : lengt
 
   exceeding-raised : exceeding xs (list size (λ k. only (k <? n) (f k))) ≡ any (raised n f xs) (λ x. maxAccount <? x)
   unfolding exceeding any
-  exceeding-raised = rw length-raised (some-cong (length xs) _ _ (λ k l. ap (λ x. maxAccount <? x) (added-at k l ∙ sym (getD-raised n f xs k l))))
+  exceeding-raised =
+      rw length-raised
+      (some-cong (length xs) _ _ (λ k l. ap (λ x. maxAccount <? x) (added-at k l ∙ sym (getD-raised n f xs k l))))
 
 -- what is above the limit before is above it after
-over-raised : (n : ℕ) (f : ℕ → ℕ) (xs : List ℕ) → any xs (λ x. maxAccount <? x) ≡ true → any (raised n f xs) (λ x. maxAccount <? x) ≡ true
+over-raised :
+    (n : ℕ) (f : ℕ → ℕ) (xs : List ℕ) → any xs (λ x. maxAccount <? x) ≡ true
+    → any (raised n f xs) (λ x. maxAccount <? x) ≡ true
 unfolding any
-over-raised n f xs e = rw length-raised (some-mono (length xs) _ _ (λ k l p. is-lt _ _ (omega (arith, getD-raised n f xs k l, lt-yes maxAccount (getD xs k 0) p))) e)
+over-raised n f xs e =
+    rw length-raised (some-mono (length xs) _ _
+    (λ k l p. is-lt _ _ (omega (arith, getD-raised n f xs k l, lt-yes maxAccount (getD xs k 0) p))) e)
 
 -- ---- the verdict
 
 -- only what is above the limit after counts
-over-after : (p : Posting) (B : Book) → (overLimit B or overLimit (entered (p .tables) (p .round) B)) ≡ overLimit (entered (p .tables) (p .round) B)
+over-after :
+    (p : Posting) (B : Book)
+    → (overLimit B or overLimit (entered (p .tables) (p .round) B)) ≡ overLimit (entered (p .tables) (p .round) B)
 unfolding overLimit entered
 over-after p B = same-test _ _
     (λ e. ⊎-elim
@@ -153,13 +165,19 @@ module _ (p : Posting) (L : LentBook) where
     paid-size = rw length-paid (z .1)
 
     -- the code's tests, in the code's order
-    room-is : let r = adding p in (exceedingTo r (length (L .stations)) (L .stations) or exceeding (L .guests) (r .charges) or maxAccount <? L .house + r .margin) ≡ after-limit
+    room-is :
+        let r = adding p in
+        (exceedingTo r (length (L .stations)) (L .stations) or exceeding (L .guests) (r .charges) or maxAccount <?
+        L .house + r .margin) ≡ after-limit
     unfolding adding posted toGuest toSold toPaid toHouse overLimit entered after-limit plain
     room-is = rw (
       exceeding-is,
-      exceeding-raised (length (p .tables .asks)) (sold (seen (p .tables)) (decided (p .tables))) (soldOf (L .stations)) maxStations sold-size,
-      exceeding-raised (length (p .tables .asks)) (paid (seen (p .tables)) (decided (p .tables))) (paidOf (L .stations)) maxStations paid-size,
-      exceeding-raised (length (p .tables .amounts)) (charged (seen (p .tables)) (decided (p .tables))) (L .guests) maxGuests (z .0),
+      exceeding-raised (length (p .tables .asks)) (sold (seen (p .tables)) (decided (p .tables)))
+          (soldOf (L .stations)) maxStations sold-size,
+      exceeding-raised (length (p .tables .asks)) (paid (seen (p .tables)) (decided (p .tables)))
+          (paidOf (L .stations)) maxStations paid-size,
+      exceeding-raised (length (p .tables .amounts)) (charged (seen (p .tables)) (decided (p .tables)))
+          (L .guests) maxGuests (z .0),
     )
         (or-rotate _ _ _ _ ∙ sym (over-after p B))
 
@@ -167,9 +185,15 @@ module _ (p : Posting) (L : LentBook) where
         × (plus (soldOf (L .stations)) ((adding p) .sold) ≡ (entered (p .tables) (p .round) B) .sold)
         × (plus (paidOf (L .stations)) ((adding p) .paid) ≡ (entered (p .tables) (p .round) B) .paid)
     unfolding adding posted toGuest toSold toPaid entered plain
-    plus-adding = (plus-raised _ _ (L .guests) maxGuests (z .0), plus-raised _ _ (soldOf (L .stations)) maxStations sold-size, plus-raised _ _ (paidOf (L .stations)) maxStations paid-size)
+    plus-adding = (
+      plus-raised _ _ (L .guests) maxGuests (z .0),
+      plus-raised _ _ (soldOf (L .stations)) maxStations sold-size,
+      plus-raised _ _ (paidOf (L .stations)) maxStations paid-size,
+    )
 
-  room-left : answer B p ≡ accepted → (z : (length (L .guests) ≤ maxGuests) × (length (L .stations) ≤ maxStations)) → exceedingTo (adding p) (length (L .stations)) (L .stations) ≡ false
+  room-left :
+      answer B p ≡ accepted → (z : (length (L .guests) ≤ maxGuests) × (length (L .stations) ≤ maxStations))
+      → exceedingTo (adding p) (length (L .stations)) (L .stations) ≡ false
   unfolding answer late outOfTurn
   room-left e z =
       let (_, e0) = no-faults early (late after-limit) (sym (ap firstFault in-turn) ∙ e) in
@@ -183,12 +207,14 @@ module _ (p : Posting) (L : LentBook) where
   planned-is = same-round _ (p .tables) (p .round)
 
   -- the code's verdict on it is the plain book's
-  module _ (r : Round) (full : Bool) (er : r ≡ planned (p .tables) (length (L .guests)) (length (L .stations))) (ef : full ≡ exceedingTo r (length (L .stations)) (L .stations)) where
+  module _ (r : Round) (full : Bool) (er : r ≡ planned (p .tables) (length (L .guests)) (length (L .stations)))
+      (ef : full ≡ exceedingTo r (length (L .stations)) (L .stations)) where
     ruled-is : ruled r full (p .round) (L .guests) (L .house) (L .last) ≡ answer B p
     unfolding ruled followed late roundBy
     ruled-is = go (firstFault early) refl
       where
-        go : (v : Verdict) → firstFault early ≡ v → ruled r full (p .round) (L .guests) (L .house) (L .last) ≡ answer B p
+        go :
+            (v : Verdict) → firstFault early ≡ v → ruled r full (p .round) (L .guests) (L .house) (L .last) ≡ answer B p
         go (refused x) e =
             let k : r ≡ roundBy (refused x) p = er ∙ planned-is ∙ ap (λ v. roundBy v p) e in
             rw (answer-is, e, k, replied) refl
@@ -198,13 +224,17 @@ module _ (p : Posting) (L : LentBook) where
 
     -- what settling and the loop over the stations leave is the plain book's step
     module _ (s : Round) (guests′ : List ℕ) (stations′ : List StationAccount) (house′ last′ : ℕ)
-        (t : Settled (ruled r full (p .round) (L .guests) (L .house) (L .last)) r (p .round) (L .guests) (L .house) (L .last) s guests′ house′ last′)
+        (t : Settled (ruled r full (p .round) (L .guests) (L .house) (L .last)) r (p .round) (L .guests) (L .house)
+        (L .last) s guests′ house′ last′)
         (es : stations′ ≡ creditedTo s (length (L .stations)) (L .stations)) where
       abbrev exit : LentBook
       exit = book guests′ stations′ house′ last′
 
       -- the round that is added, and the book at exit, by the verdict
-      left-by : (v : Verdict) → answer B p ≡ v → Settled v r (p .round) (L .guests) (L .house) (L .last) s guests′ house′ last′ → (s ≡ roundBy v p) × (plain exit ≡ settled v B p)
+      left-by :
+          (v : Verdict) → answer B p ≡ v
+          → Settled v r (p .round) (L .guests) (L .house) (L .last) s guests′ house′ last′
+          → (s ≡ roundBy v p) × (plain exit ≡ settled v B p)
       unfolding keptRound chosen roundBy settled plain entered adding posted refusing toHouse
       left-by accepted e h =
           let f = early-accepted e in
@@ -212,19 +242,33 @@ module _ (p : Posting) (L : LentBook) where
           let k : r ≡ adding p = er ∙ planned-is ∙ ap (λ v. roundBy v p) f in
           let q : s ≡ adding p = h .round-is ∙ k in
           let o = room-left e z in
-          let stations-are : stations′ ≡ creditedTo (adding p) (length (L .stations)) (L .stations) = es ∙ ap (λ r. creditedTo r (length (L .stations)) (L .stations)) q in
+          let stations-are : stations′ ≡ creditedTo (adding p) (length (L .stations)) (L .stations) = es
+          ∙ ap (λ r. creditedTo r (length (L .stations)) (L .stations)) q in
           let guests-are = h .guests-are ∙ ap (λ r. plus (L .guests) (r .charges)) k ∙ plus-adding z .0 in
           let sold-is = ap soldOf stations-are ∙ sold-credited (adding p) (L .stations) o ∙ plus-adding z .1 in
           let paid-is = ap paidOf stations-are ∙ paid-credited (adding p) (L .stations) o ∙ plus-adding z .2 in
-          let house-is = h .house-is ∙ ap (λ r. L .house + r .margin) k in
-          (q, λ x. record { guests = guests-are x; sold = sold-is x; paid = paid-is x; house = house-is x; last = h .last-is x })
+          let house-is = h .house-is ∙ ap (λ r. L .house + r .margin) k in (
+            q,
+            λ x. record
+                { guests = guests-are x; sold = sold-is x; paid = paid-is x; house = house-is x; last = h .last-is x },
+          )
       left-by (refused x) e h =
-          let stations-are : stations′ ≡ L .stations = es ∙ ap (λ r. creditedTo r (length (L .stations)) (L .stations)) (h .round-is)
-          ∙ credited-nothing (refusing x) (L .stations) (zeros-at maxStations) (zeros-at maxStations) in
-          (h .round-is, λ y. record { guests = h .guests-are y; sold = soldOf (stations-are y); paid = paidOf (stations-are y); house = h .house-is y; last = h .last-is y })
+          let stations-are : stations′
+          ≡ L .stations = es ∙ ap (λ r. creditedTo r (length (L .stations)) (L .stations)) (h .round-is)
+          ∙ credited-nothing (refusing x) (L .stations) (zeros-at maxStations) (zeros-at maxStations) in (
+            h .round-is,
+            λ y. record {
+              guests = h .guests-are y;
+              sold = soldOf (stations-are y);
+              paid = paidOf (stations-are y);
+              house = h .house-is y;
+              last = h .last-is y;
+            },
+          )
 
       pub posts : Posted L p (verdictOf (s .reply)) exit
       unfolding after
       posts =
-          let (q, left) = left-by (answer B p) refl (subst (λ v. Settled v r (p .round) (L .guests) (L .house) (L .last) s guests′ house′ last′) ruled-is t) in
+          let (q, left) = left-by (answer B p) refl (subst
+          (λ v. Settled v r (p .round) (L .guests) (L .house) (L .last) s guests′ house′ last′) ruled-is t) in
           record { answered = ap (λ r. verdictOf (r .reply)) q ∙ replied (answer B p) p; left = left }

@@ -14,7 +14,9 @@ use Rattle.model.specs.book.Posting.{Posting, posting, toGuest, toSold, toPaid,
 
 -- the round that adds what p's market clears to
 unfoldable pub adding : Posting → Round
-adding p = posted (list maxGuests (λ i. toGuest i p)) (list maxStations (λ j. toSold j p)) (list maxStations (λ j. toPaid j p)) (toHouse p)
+adding p =
+    posted (list maxGuests (λ i. toGuest i p)) (list maxStations (λ j. toSold j p))
+    (list maxStations (λ j. toPaid j p)) (toHouse p)
 
 unfoldable pub roundBy : Verdict → Posting → Round
 roundBy accepted p = adding p
@@ -22,7 +24,8 @@ roundBy (refused r) p = refusing r
 
 -- posting's rows up to the one on the book's size, and the round that they leave of a market; its number comes later
 unfoldable pub earlyFaults : Tables → (guests stations : ℕ) → List Row
-earlyFaults t guests stations = marketFaults t ++ (bookSize (length (t .amounts)) (length (t .asks)) guests stations ∷ [])
+earlyFaults t guests stations =
+    marketFaults t ++ (bookSize (length (t .amounts)) (length (t .asks)) guests stations ∷ [])
 
 unfoldable pub planned : Tables → (guests stations : ℕ) → Round
 planned t guests stations = roundBy (firstFault (earlyFaults t guests stations)) (posting t 0)

@@ -19,4 +19,5 @@ refusing r = record {
 
 -- a posted round of these lists
 unfoldable pub posted : (charges sold paid : List ℕ) (margin : ℕ) → Round
-posted charges sold paid margin = record { reply = reply.Posted; charges = charges; sold = sold; paid = paid; margin = margin }
+posted charges sold paid margin =
+    record { reply = reply.Posted; charges = charges; sold = sold; paid = paid; margin = margin }

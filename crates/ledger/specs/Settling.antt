@@ -22,7 +22,8 @@ followed (refused x) rows = refused x
 -- the verdict on round r and its number, where `full` says that some station's account has no room
 unfoldable pub ruled : Round → (full : Bool) (round : ℕ) (guests : List ℕ) (house last : ℕ) → Verdict
 ruled r full round guests house last = followed (verdictOf (r .reply))
-    (outOfTurn round last ∷ ((full or exceeding guests (r .charges) or maxAccount <? house + r .margin) gives AccountOverLimit) ∷ [])
+    (outOfTurn round last
+    ∷ ((full or exceeding guests (r .charges) or maxAccount <? house + r .margin) gives AccountOverLimit) ∷ [])
 
 -- what is kept of r by a verdict, and of two values of a lent place
 unfoldable pub keptRound : Verdict → Round → Round
@@ -33,8 +34,10 @@ unfoldable pub chosen {ℓ} : {A : Type ℓ} → Verdict → A → A → A
 chosen accepted new old = new
 chosen (refused x) new old = old
 
--- what settling leaves: the round to add to the stations' accounts, the guests' accounts, the house's and the last round
-pub record Settled (v : Verdict) (r : Round) (round : ℕ) (guests : List ℕ) (house last : ℕ) (r′ : Round) (guests′ : List ℕ) (house′ last′ : ℕ) : Type 0 where
+-- what settling leaves: the round to add to the stations' accounts, the guests' accounts, the
+-- house's and the last round
+pub record Settled (v : Verdict) (r : Round) (round : ℕ) (guests : List ℕ) (house last : ℕ) (r′ : Round)
+    (guests′ : List ℕ) (house′ last′ : ℕ) : Type 0 where
   pub round-is : r′ ≡ keptRound v r
   pub guests-are : guests′ ≡ chosen v (plus guests (r .charges)) guests
   pub house-is : house′ ≡ chosen v (house + r .margin) house

@@ -9,7 +9,8 @@ use native.Mathlib.Numerals.{add-one}
 use native.Mathlib.Omega.{arith}
 use lib.ListN.{getD, length}
 use Rattle.model.specs.Counting.{_<?_, _or_, only, sum, greatest, count, some, any, list, _and_}
-use Rattle.model.proofs.Tests.{decide, clash, only-le, le-only, only-yes, only-no, is-lt, not-lt, lt-or-le, or-cases, or-left, or-right, or-no, neither, and-true, and-false}
+use Rattle.model.proofs.Tests.{decide, clash, only-le, le-only, only-yes, only-no, is-lt, not-lt, lt-or-le}
+use Rattle.model.proofs.Tests.{or-cases, or-left, or-right, or-no, neither, and-true, and-false}
 
 -- what holds below n + 1 holds below n, and at n
 pub up : {n k : ℕ} → k < n → k < suc n
@@ -78,20 +79,25 @@ sum-swap (suc n) m f = ap (λ x. x + sum m (f n)) (sum-swap n m f) ∙ sym (sum-
 
 pub count-mono : (n : ℕ) (f g : ℕ → Bool) → ((k : ℕ) → k < n → f k ≡ true → g k ≡ true) → count n f ≤ count n g
 unfolding count
-count-mono n f g h = sum-mono n (λ k. only (f k) 1) (λ k. only (g k) 1) (λ k l. only-le (f k) 1 _ (λ e. le-only (g k) 1 (h k l e)))
+count-mono n f g h =
+    sum-mono n (λ k. only (f k) 1) (λ k. only (g k) 1) (λ k l. only-le (f k) 1 _ (λ e. le-only (g k) 1 (h k l e)))
 
 pub count-strict : (n : ℕ) (f g : ℕ → Bool) → ((k : ℕ) → k < n → f k ≡ true → g k ≡ true)
     → (i : ℕ) → i < n → f i ≡ false → g i ≡ true → count n f < count n g
 unfolding count only
 count-strict n f g h i l p q =
-    sum-strict n (λ k. only (f k) 1) (λ k. only (g k) 1) (λ k l. only-le (f k) 1 _ (λ e. le-only (g k) 1 (h k l e))) i l (rw (p, q) (omega arith))
+    sum-strict n (λ k. only (f k) 1) (λ k. only (g k) 1) (λ k l. only-le (f k) 1 _ (λ e. le-only (g k) 1 (h k l e))) i
+    l (rw (p, q) (omega arith))
 
 -- f is within g or h
-pub count-or : (n : ℕ) (f g h : ℕ → Bool) → ((k : ℕ) → k < n → f k ≡ true → (g k ≡ true) ⊎ (h k ≡ true)) → count n f ≤ count n g + count n h
+pub count-or :
+    (n : ℕ) (f g h : ℕ → Bool) → ((k : ℕ) → k < n → f k ≡ true → (g k ≡ true) ⊎ (h k ≡ true))
+    → count n f ≤ count n g + count n h
 unfolding count
 count-or n f g h c =
     let s : sum n (λ k. only (f k) 1) ≤ sum n (λ k. only (g k) 1 + only (h k) 1) =
-    sum-mono n _ _ (λ k l. only-le (f k) 1 _ (λ e. ⊎-elim (λ p. omega (arith, le-only (g k) 1 p)) (λ p. omega (arith, le-only (h k) 1 p)) (c k l e))) in
+    sum-mono n _ _ (λ k l. only-le (f k) 1 _
+    (λ e. ⊎-elim (λ p. omega (arith, le-only (g k) 1 p)) (λ p. omega (arith, le-only (h k) 1 p)) (c k l e))) in
     omega (arith, sum-add n (λ k. only (g k) 1) (λ k. only (h k) 1))
 
 pub count-cong : (n : ℕ) (f g : ℕ → Bool) → ((k : ℕ) → k < n → f k ≡ g k) → count n f ≡ count n g
@@ -165,8 +171,13 @@ pub count-first : (f : ℕ → Bool) (n i : ℕ) → i ≤ n → count n (λ k. 
 unfolding count sum
 count-first f zero i l = let e : i ≡ 0 = omega arith in rw e refl
 count-first f (suc n) i l = ⊎-elim
-    (λ (e : i ≡ suc n). rw e (count-cong (suc n) _ _ (λ k lk. ap (λ b. f k and b) (is-lt k (suc n) lk) ∙ and-true (f k))))
-    (λ (q : i < suc n). omega (arith, count-first f n i (le-of-suc-le-suc q), only-no (f n and n <? i) 1 (ap (λ b. f n and b) (not-lt n i (le-of-suc-le-suc q)) ∙ and-false (f n))))
+    (λ (e : i ≡ suc n). rw e
+    (count-cong (suc n) _ _ (λ k lk. ap (λ b. f k and b) (is-lt k (suc n) lk) ∙ and-true (f k))))
+    (λ (q : i < suc n). omega (
+      arith,
+      count-first f n i (le-of-suc-le-suc q),
+      only-no (f n and n <? i) 1 (ap (λ b. f n and b) (not-lt n i (le-of-suc-le-suc q)) ∙ and-false (f n)),
+    ))
     (eq-or-lt-of-le l)
 
 -- ---- the greatest
@@ -196,7 +207,8 @@ search-below (suc n) f = ⊎-elim
     (λ e. inl (e .0, up (e .1), e .2))
     (λ h. ⊎-elim
     (λ (e : f n ≡ true). inl (n, here, e))
-    (λ (e : f n ≡ false). inr (λ k l. ⊎-elim (λ (q : k ≡ n). rw q e) (λ q. h k q) (eq-or-lt-of-le (le-of-suc-le-suc l))))
+    (λ (e : f n ≡ false). inr
+    (λ k l. ⊎-elim (λ (q : k ≡ n). rw q e) (λ q. h k q) (eq-or-lt-of-le (le-of-suc-le-suc l))))
     (decide (f n)))
     (search-below n f)
 
@@ -243,7 +255,8 @@ unfolding some
 some-cong zero f g h = refl
 some-cong (suc n) f g h = ap₂ _or_ (some-cong n f g (λ k l. h k (up l))) (h n here)
 
-pub some-mono : (n : ℕ) (f g : ℕ → Bool) → ((k : ℕ) → k < n → f k ≡ true → g k ≡ true) → some n f ≡ true → some n g ≡ true
+pub some-mono :
+    (n : ℕ) (f g : ℕ → Bool) → ((k : ℕ) → k < n → f k ≡ true → g k ≡ true) → some n f ≡ true → some n g ≡ true
 unfolding some
 some-mono zero f g h e = e
 some-mono (suc n) f g h e = ⊎-elim
@@ -275,7 +288,8 @@ getD-list (suc n) f (suc k) l = getD-list n (λ k. f (suc k)) k (le-of-suc-le-su
 pub list-cong : (n : ℕ) (f g : ℕ → ℕ) → ((k : ℕ) → k < n → f k ≡ g k) → list n f ≡ list n g
 unfolding list
 list-cong zero f g h = refl
-list-cong (suc n) f g h = ap₂ _∷_ (h 0 (omega arith)) (list-cong n (λ k. f (suc k)) (λ k. g (suc k)) (λ k l. h (suc k) (omega arith)))
+list-cong (suc n) f g h =
+    ap₂ _∷_ (h 0 (omega arith)) (list-cong n (λ k. f (suc k)) (λ k. g (suc k)) (λ k l. h (suc k) (omega arith)))
 
 list-suc : (n : ℕ) (f : ℕ → ℕ) → list (suc n) f ≡ list n f ++ (f n ∷ [])
 unfolding list

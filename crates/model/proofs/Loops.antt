@@ -64,7 +64,8 @@ unfolding some
 scan-none f = refl
 
 pub scan-more : (xs : List ℕ) (low high i : ℕ) (b : Bool) → let x = getD xs i 0 in
-    b ≡ some i (λ k. outside low high (getD xs k 0)) → (b || (ltb x low || ltb high x)) ≡ some (i + 1) (λ k. outside low high (getD xs k 0))
+    b ≡ some i (λ k. outside low high (getD xs k 0))
+    → (b || (ltb x low || ltb high x)) ≡ some (i + 1) (λ k. outside low high (getD xs k 0))
 unfolding some outside _<?_
 scan-more xs low high i b e = rw (add-one, ← e) (or-is b _ ∙ ap (λ z. b or z) (or-is _ _))
 
@@ -75,7 +76,9 @@ scan-turn f i b c e h = rw (add-one, ← e, ← h) (or-is b c)
 pub some-end : (f : ℕ → Bool) {i n : ℕ} {b : Bool} → b ≡ some i f → i ≤ n → n ≤ i → b ≡ some n f
 some-end f e l r = e ∙ ap (λ n. some n f) (le-antisymm l r)
 
-pub scan-end : (xs : List ℕ) (f : ℕ → Bool) {i : ℕ} {b : Bool} → b ≡ some i (λ k. f (getD xs k 0)) → i ≤ length xs → length xs ≤ i → b ≡ any xs f
+pub scan-end :
+    (xs : List ℕ) (f : ℕ → Bool) {i : ℕ} {b : Bool} → b ≡ some i (λ k. f (getD xs k 0)) → i ≤ length xs
+    → length xs ≤ i → b ≡ any xs f
 unfolding any
 scan-end xs f {b = b} e l r = e ∙ ap (λ n. some n (λ k. f (getD xs k 0))) (le-antisymm l r)
 
@@ -89,16 +92,19 @@ pub record Filled (f : ℕ → ℕ) (l₀ l : List ℕ) (i : ℕ) : Type 0 where
 pub filled-none : {f : ℕ → ℕ} {l : List ℕ} → Filled f l l 0
 filled-none {f} {l} = record { same = refl; done = below-none (λ k. getD l k 0 ≡ f k); left = λ k _. refl }
 
-pub filled-more : {f : ℕ → ℕ} {l₀ l : List ℕ} {i v : ℕ} → Filled f l₀ l i → i < length l₀ → v ≡ f i → Filled f l₀ (set l i v) (i + 1)
+pub filled-more :
+    {f : ℕ → ℕ} {l₀ l : List ℕ} {i v : ℕ} → Filled f l₀ l i → i < length l₀ → v ≡ f i → Filled f l₀ (set l i v) (i + 1)
 filled-more {f} {l₀} {l} {i} {v} h b e = record {
   same = length-set l i v ∙ h .same;
-  done = below-more (λ k. getD (set l i v) k 0 ≡ f k) i (λ k a. getD-set-other l i k v 0 (omega arith) ∙ h .done k a) (getD-set-same l i v 0 (omega (arith, h .same)) ∙ e);
+  done = below-more (λ k. getD (set l i v) k 0 ≡ f k) i (λ k a. getD-set-other l i k v 0 (omega arith) ∙ h .done k a)
+      (getD-set-same l i v 0 (omega (arith, h .same)) ∙ e);
   left = λ k a. getD-set-other l i k v 0 (omega arith) ∙ h .left k (omega arith);
 }
 
 -- two lists of n with the same elements are one
 pub is-list : (n : ℕ) (f : ℕ → ℕ) (l : List ℕ) → length l ≡ n → ((k : ℕ) → k < n → getD l k 0 ≡ f k) → l ≡ list n f
-is-list n f l e h = ext-getD 0 l (list n f) (e ∙ sym (length-list n f)) (λ k a. h k (omega arith) ∙ sym (getD-list n f k (omega arith)))
+is-list n f l e h =
+    ext-getD 0 l (list n f) (e ∙ sym (length-list n f)) (λ k a. h k (omega arith) ∙ sym (getD-list n f k (omega arith)))
 
 pub long : (n : ℕ) (f : ℕ → ℕ) {l : List ℕ} → l ≡ list n f → length l ≡ n
 long n f e = ap length e ∙ length-list n f
@@ -117,7 +123,9 @@ pub zeros-long : (size n : ℕ) → n ≤ size → n ≡ length (take n (replica
 zeros-long size n h = omega (arith, length-take n (replicate {A = ℕ} size 0), length-replicate {A = ℕ} size 0)
 
 pub zeros-are : (size n : ℕ) → n ≤ size → take n (replicate {A = ℕ} size 0) ≡ list n (λ _. 0)
-zeros-are size n h = is-list n _ _ (sym (zeros-long size n h)) (λ k l. getD-take n _ k 0 l ∙ getD-replicate {A = ℕ} size k 0 0 (omega arith))
+zeros-are size n h =
+    is-list n _ _ (sym (zeros-long size n h))
+    (λ k l. getD-take n _ k 0 l ∙ getD-replicate {A = ℕ} size k 0 0 (omega arith))
 
 pub filled-list : (n : ℕ) {f : ℕ → ℕ} {l₀ l : List ℕ} {i : ℕ} → Filled f l₀ l i → length l₀ ≡ n → n ≤ i → l ≡ list n f
 filled-list n h e b = is-list n _ _ (h .same ∙ e) (λ k a. h .done k (omega arith))

@@ -11,7 +11,8 @@ pub fault-here : {b : Bool} {r : Refusal} (rows : List Row) → b ≡ true → f
 unfolding firstFault
 fault-here rows e = rw e refl
 
-pub fault-later : {b : Bool} (r : Refusal) (rows : List Row) → b ≡ false → firstFault ((b gives r) ∷ rows) ≡ firstFault rows
+pub fault-later :
+    {b : Bool} (r : Refusal) (rows : List Row) → b ≡ false → firstFault ((b gives r) ∷ rows) ≡ firstFault rows
 unfolding firstFault
 fault-later r rows e = rw e refl
 
@@ -19,7 +20,9 @@ pub fault-none : firstFault [] ≡ accepted
 unfolding firstFault
 fault-none = refl
 
-pub no-fault : (b : Bool) (r : Refusal) (rows : List Row) → firstFault ((b gives r) ∷ rows) ≡ accepted → (b ≡ false) × (firstFault rows ≡ accepted)
+pub no-fault :
+    (b : Bool) (r : Refusal) (rows : List Row) → firstFault ((b gives r) ∷ rows) ≡ accepted
+    → (b ≡ false) × (firstFault rows ≡ accepted)
 unfolding firstFault
 no-fault true r rows e = let z : _≡_ {A = ℕ} 0 1 = cc in absurd (omega arith)
 no-fault false r rows e = (refl, e)
@@ -36,12 +39,15 @@ fault-second [] ys e = refl
 fault-second ((true gives r) ∷ xs) ys e = let z : _≡_ {A = ℕ} 0 1 = cc in absurd (omega arith)
 fault-second ((false gives r) ∷ xs) ys e = fault-second xs ys e
 
-pub no-faults : (xs ys : List Row) → firstFault (xs ++ ys) ≡ accepted → (firstFault xs ≡ accepted) × (firstFault ys ≡ accepted)
+pub no-faults :
+    (xs ys : List Row) → firstFault (xs ++ ys) ≡ accepted → (firstFault xs ≡ accepted) × (firstFault ys ≡ accepted)
 unfolding firstFault
 no-faults [] ys e = (refl, e)
 no-faults ((true gives r) ∷ xs) ys e = let z : _≡_ {A = ℕ} 0 1 = cc in absurd (omega arith)
 no-faults ((false gives r) ∷ xs) ys e = no-faults xs ys e
 
-pub fault-free : {b : Bool} (r : Refusal) (rows : List Row) → b ≡ false → firstFault rows ≡ accepted → firstFault ((b gives r) ∷ rows) ≡ accepted
+pub fault-free :
+    {b : Bool} (r : Refusal) (rows : List Row) → b ≡ false → firstFault rows ≡ accepted
+    → firstFault ((b gives r) ∷ rows) ≡ accepted
 unfolding firstFault
 fault-free r rows p e = rw p e

@@ -1,4 +1,5 @@
--- The limits of document 01. The constants in src/limits.rt are proved to be these: `stated_limits` there answers `limits` here.
+-- The limits of document 01. The constants in src/limits.rt are proved to be these: `stated_limits` there
+-- answers `limits` here.
 use Prim.Native.Nat.{ℕ}
 use Rattle.model.specs.declared.limits.Limits.{Limits}
 

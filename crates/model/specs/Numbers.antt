@@ -1,7 +1,11 @@
 -- The refusals of document 01 by number.
 use Prim.Native.Nat.{ℕ}
 use Rattle.model.specs.declared.refusal.Refusal.{Refusal}
-use Rattle.model.specs.declared.refusal.Refusal.the-variants.{SheetEnds, CountsOutOfRange, StrayBit, TrailingBytes, LengthsDiffer, AskOutOfRange, BaysOutOfRange, AmountOutOfRange, BidOutOfRange, LentLengths, RoundOutOfTurn, AccountOverLimit, BookSize}
+use Rattle.model.specs.declared.refusal.Refusal.the-variants.{SheetEnds, CountsOutOfRange, StrayBit}
+use Rattle.model.specs.declared.refusal.Refusal.the-variants.{TrailingBytes, LengthsDiffer, AskOutOfRange}
+use Rattle.model.specs.declared.refusal.Refusal.the-variants.{BaysOutOfRange, AmountOutOfRange, BidOutOfRange}
+use Rattle.model.specs.declared.refusal.Refusal.the-variants.{LentLengths, RoundOutOfTurn, AccountOverLimit}
+use Rattle.model.specs.declared.refusal.Refusal.the-variants.{BookSize}
 
 abbrev pub number : Refusal → ℕ
 number SheetEnds = 1

@@ -20,7 +20,8 @@ pub record Chargeable (chosen least criticals stations charges : List ℕ) : Typ
 
 -- guest i's charge at the station chosen, 0 for none
 unfoldable pub chargedAt : (chosen least criticals : List ℕ) → ℕ → ℕ
-chargedAt chosen least criticals i = only (0 <? getD chosen i 0) (max (getD least i 0) (getD criticals (getD chosen i 0) 0))
+chargedAt chosen least criticals i =
+    only (0 <? getD chosen i 0) (max (getD least i 0) (getD criticals (getD chosen i 0) 0))
 
 pub record Charged (chosen least criticals stations charges : List ℕ) : Type 0 where
   pub stations-are : stations ≡ chosen

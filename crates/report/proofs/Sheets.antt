@@ -16,11 +16,15 @@ use Rattle.model.specs.contracts.Prints.{Prints}
 use Rattle.report.proofs.printing.Printing.{prints, length-refusal}
 use Rattle.model.specs.text.Printed.{sheetText, printed}
 
-pub prints-fault : {l l′ : List ℕ} {q : ℕ} (s : List ℕ) (x : Refusal) → readSheet s ≡ content.fault x → Wrote l 0 (refusalText x) l′ q → Prints (printed s) l q l′
+pub prints-fault :
+    {l l′ : List ℕ} {q : ℕ} (s : List ℕ) (x : Refusal) → readSheet s ≡ content.fault x → Wrote l 0 (refusalText x) l′ q
+    → Prints (printed s) l q l′
 unfolding printed sheetText
 prints-fault s x e w = rw e (prints w (length-refusal x))
 
-pub prints-sheet : {l l′ : List ℕ} {q : ℕ} (s : List ℕ) (t u : Tables) → readSheet s ≡ content.tables u → t ≡ u → Prints (marketTextOf t) l q l′ → Prints (printed s) l q l′
+pub prints-sheet :
+    {l l′ : List ℕ} {q : ℕ} (s : List ℕ) (t u : Tables) → readSheet s ≡ content.tables u → t ≡ u
+    → Prints (marketTextOf t) l q l′ → Prints (printed s) l q l′
 unfolding printed sheetText
 prints-sheet s t u e f p = rw e (rw f at p)
 
@@ -32,7 +36,9 @@ read-part-long xs ys n e h = sym (ap length e ∙ h)
 pub part-fits : (xs ys : List ℕ) (n : ℕ) → take n xs ≡ ys → length ys ≡ n → n ≤ length xs
 part-fits xs ys n e h = omega (arith, length-take n xs, read-part-long xs ys n e h)
 
-pub same-tables : {s a b c d : List ℕ} {n m : ℕ} → ReadTables s n m a b c d → tables (take m b) (take m c) (take n a) (take (n * m) d) (length (take m b)) ≡ tablesOf s
+pub same-tables :
+    {s a b c d : List ℕ} {n m : ℕ} → ReadTables s n m a b c d
+    → tables (take m b) (take m c) (take n a) (take (n * m) d) (length (take m b)) ≡ tablesOf s
 same-tables r = λ i. record {
   asks = r .asks-are i;
   bays = r .bays-are i;

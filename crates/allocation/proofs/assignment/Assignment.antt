@@ -20,10 +20,15 @@ use Rattle.pricing.specs.Charges.{Chargeable, chargedAt, Charged}
 use Rattle.allocation.specs.Stages.{AtCut, stationBy, gainBy, After}
 use Rattle.allocation.specs.Assignment.{Assigned}
 
-pub after-end : {S : Screened} {n j m : ℕ} {chosen gains criticals : List ℕ} → After S n j chosen gains criticals → j ≤ m → m ≤ j → After S n m chosen gains criticals
+pub after-end :
+    {S : Screened} {n j m : ℕ} {chosen gains criticals : List ℕ} → After S n j chosen gains criticals → j ≤ m → m ≤ j
+    → After S n m chosen gains criticals
 after-end h a b = rw (le-antisymm b a) h
 
-pub after-none : {S : Screened} {n : ℕ} → n ≤ maxGuests → After S n 0 (take n (replicate {A = ℕ} maxGuests 0)) (take n (replicate {A = ℕ} maxGuests 0)) (replicate {A = ℕ} (maxStations + 1) 0)
+pub after-none :
+    {S : Screened} {n : ℕ} → n ≤ maxGuests
+    → After S n 0 (take n (replicate {A = ℕ} maxGuests 0)) (take n (replicate {A = ℕ} maxGuests 0))
+    (replicate {A = ℕ} (maxStations + 1) 0)
 unfolding stationBy gainBy best at
 after-none {n = n} h = record {
   chosen-are = zeros-are maxGuests n h;
@@ -58,7 +63,9 @@ module _ (t : Tables) {c : ℕ} {least chosen gains criticals : List ℕ} (A : A
   choice k l = element _ _ (a .chosen-are) k l ∙ last-choice t k
 
   -- what charging asks of the choices, and what it leaves
-  pub chargeable : {stations charges : List ℕ} → length stations ≡ length (t .amounts) → length charges ≡ length (t .amounts) → Chargeable chosen least criticals stations charges
+  pub chargeable :
+      {stations charges : List ℕ} → length stations ≡ length (t .amounts) → length charges ≡ length (t .amounts)
+      → Chargeable chosen least criticals stations charges
   chargeable ls lc =
       let n = long _ _ (a .chosen-are) in
       record {
@@ -77,16 +84,20 @@ module _ (t : Tables) {c : ℕ} {least chosen gains criticals : List ℕ} (A : A
   unfolding decided truthful
   critical-at j l = ap (λ x. getD criticals x 0) (sym (add-one j)) ∙ a .criticals-are j l
 
-  charged-by : (k s : ℕ) → k < length (t .amounts) → (decided t) .assigned k ≡ s → only (0 <? s) (max (getD least k 0) (getD criticals s 0)) ≡ at (charge (seen t) (decided t) k) s
+  charged-by :
+      (k s : ℕ) → k < length (t .amounts) → (decided t) .assigned k ≡ s
+      → only (0 <? s) (max (getD least k 0) (getD criticals s 0)) ≡ at (charge (seen t) (decided t) k) s
   unfolding at charge
   charged-by k zero l e = only-no _ _ (not-lt 0 0 (le-refl 0))
-  charged-by k (suc j) l e = only-yes _ _ (is-lt 0 (suc j) (omega arith)) ∙ ap₂ max (least-here k l) (critical-at j (within t k j e))
+  charged-by k (suc j) l e =
+      only-yes _ _ (is-lt 0 (suc j) (omega arith)) ∙ ap₂ max (least-here k l) (critical-at j (within t k j e))
 
   charged-here : (k : ℕ) → k < length (t .amounts) → chargedAt chosen least criticals k ≡ charged (seen t) (decided t) k
   unfolding chargedAt charged
   charged-here k l = rw (choice k l) (charged-by k _ l refl)
 
-  pub assigned : {stations charges : List ℕ} → Charged chosen least criticals stations charges → Assigned t stations charges
+  pub assigned :
+      {stations charges : List ℕ} → Charged chosen least criticals stations charges → Assigned t stations charges
   unfolding outcome settle seen screen market marketBy
   assigned h = record {
     stations-are = h .stations-are ∙ relist _ _ _ _ (a .chosen-are) refl (λ k _. last-choice t k);

@@ -8,7 +8,8 @@ use native.Mathlib.Nat.{le-refl}
 use native.Mathlib.Omega.{arith}
 use lib.ListN.{getD, length, set}
 use Rattle.model.specs.Counting.{_<?_, _=?_, _and_, _or_, only}
-use Rattle.model.proofs.Tests.{both, first, second, and-no, or-cases, or-left, or-right, neither, only-le, only-yes, only-no, lt-yes, eq-yes, is-lt, not-lt, is-eq, not-eq, lt-or-le, eq-or-ne}
+use Rattle.model.proofs.Tests.{both, first, second, and-no, or-cases, or-left, or-right, neither, only-le, only-yes}
+use Rattle.model.proofs.Tests.{only-no, lt-yes, eq-yes, is-lt, not-lt, is-eq, not-eq, lt-or-le, eq-or-ne}
 use Rattle.model.proofs.Loops.{Filled, filled-none, filled-more, filled-list}
 use Rattle.allocation.specs.Totals.{maxTotal}
 use Rattle.allocation.specs.Offers.{picked, wonBy, gainFor, chargeAt, gainAt, taken, Offerable, Offered}
@@ -42,9 +43,11 @@ above-bar x t k e none = ⊎-elim
     minus-zero t = omega arith
 
     above-none : k < e → x ≡ t → t - 1 < x
-    above-none l q = ⊎-elim (λ (z : 0 < t). omega arith) (λ (z : t ≤ 0). absurd (omega (arith, none (omega arith)))) (lt-or-le 0 t)
+    above-none l q =
+        ⊎-elim (λ (z : 0 < t). omega arith) (λ (z : t ≤ 0). absurd (omega (arith, none (omega arith)))) (lt-or-le 0 t)
 
-pub won-is : (x t k e : ℕ) {r : ℕ} {b : Bool} → (t ≡ 0 → e ≡ 0) → r ≡ t - only (k <? e) 1 → b ≡ (r <? x) → b ≡ wonBy x t k e
+pub won-is :
+    (x t k e : ℕ) {r : ℕ} {b : Bool} → (t ≡ 0 → e ≡ 0) → r ≡ t - only (k <? e) 1 → b ≡ (r <? x) → b ≡ wonBy x t k e
 won-is x t k e none er eb = eb ∙ ap (λ r. r <? x) er ∙ above-bar x t k e none
 
 -- whoever wins can pay: its charge is at most its total
@@ -55,7 +58,8 @@ won-pays x t k e least covers none w = ⊎-elim
     (λ p.
     let q : x ≡ t = eq-yes _ _ (first _ _ p) in
     let l : k < e = lt-yes _ _ (second _ _ p) in
-    ⊎-elim (λ (z : 0 < x). omega (arith, covers z)) (λ (z : x ≤ 0). absurd (omega (arith, none (omega arith)))) (lt-or-le 0 x))
+    ⊎-elim (λ (z : 0 < x). omega (arith, covers z))
+    (λ (z : x ≤ 0). absurd (omega (arith, none (omega arith)))) (lt-or-le 0 x))
     (or-cases _ _ w)
 
 pub gain-won : (w : Bool) (total charge x : ℕ) → w ≡ true → x ≡ total - charge → x + 1 ≡ gainFor w total charge
@@ -67,20 +71,27 @@ unfolding gainFor
 gain-lost w total charge e = sym (only-no w _ e)
 
 -- the lists after the first i guests have been offered a place
-pub record Offering (totals least : List ℕ) (t e s : ℕ) (chosen₀ gains₀ : List ℕ) (i : ℕ) (chosen gains : List ℕ) : Type 0 where
+pub record Offering (totals least : List ℕ) (t e s : ℕ) (chosen₀ gains₀ : List ℕ) (i : ℕ)
+    (chosen gains : List ℕ) : Type 0 where
   pub chosen-are : Filled (taken gains₀ (gainAt totals least t e) (λ _. s) chosen₀) chosen₀ chosen i
   pub gains-are : Filled (taken gains₀ (gainAt totals least t e) (gainAt totals least t e) gains₀) gains₀ gains i
 
-pub offers-none : {totals least : List ℕ} {t e s : ℕ} {chosen gains : List ℕ} → Offering totals least t e s chosen gains 0 chosen gains
+pub offers-none :
+    {totals least : List ℕ} {t e s : ℕ} {chosen gains : List ℕ}
+    → Offering totals least t e s chosen gains 0 chosen gains
 offers-none = record { chosen-are = filled-none; gains-are = filled-none }
 
 -- the next guest's gain is as it was
-pub gain-left : {totals least : List ℕ} {t e s : ℕ} {chosen₀ gains₀ : List ℕ} {i : ℕ} {chosen gains : List ℕ} → Offerable totals least t e chosen₀ gains₀
+pub gain-left :
+    {totals least : List ℕ} {t e s : ℕ} {chosen₀ gains₀ : List ℕ} {i : ℕ} {chosen gains : List ℕ}
+    → Offerable totals least t e chosen₀ gains₀
     → Offering totals least t e s chosen₀ gains₀ i chosen gains → i < length totals → getD gains i 0 ≤ maxTotal + 1
 gain-left {i = i} o h l = rw (h .gains-are .left i (le-refl i)) (o .gains-low i (omega (arith, o .gains-long)))
 
 -- one guest more: w, c and g are what the code found, and v1 and v2 what it stored
-pub offers-more : {totals least : List ℕ} {t e s : ℕ} {chosen₀ gains₀ : List ℕ} {i : ℕ} {chosen gains : List ℕ} {w : Bool} {c g v1 v2 : ℕ}
+pub offers-more :
+    {totals least : List ℕ} {t e s : ℕ} {chosen₀ gains₀ : List ℕ} {i : ℕ} {chosen gains : List ℕ}
+    {w : Bool} {c g v1 v2 : ℕ}
     → Offerable totals least t e chosen₀ gains₀
     → Offering totals least t e s chosen₀ gains₀ i chosen gains → i < length totals
     → w ≡ wonBy (getD totals i 0) t i e → c ≡ max (getD least i 0) t → g ≡ gainFor w (getD totals i 0) c
@@ -89,12 +100,14 @@ pub offers-more : {totals least : List ℕ} {t e s : ℕ} {chosen₀ gains₀ : 
     → Offering totals least t e s chosen₀ gains₀ (i + 1) (set chosen i v1) (set gains i v2)
 unfolding taken gainAt chargeAt
 offers-more {i = i} o h l ew ec eg e1 e2 = record {
-  chosen-are = filled-more (h .chosen-are) (omega (arith, o .chosen-long)) (cc (h .gains-are .left i (le-refl i), h .chosen-are .left i (le-refl i)));
+  chosen-are = filled-more (h .chosen-are) (omega (arith, o .chosen-long))
+      (cc (h .gains-are .left i (le-refl i), h .chosen-are .left i (le-refl i)));
   gains-are = filled-more (h .gains-are) (omega (arith, o .gains-long)) (cc (h .gains-are .left i (le-refl i)));
 }
 
 pub offers-end : {totals least : List ℕ} {t e s : ℕ} {chosen₀ gains₀ : List ℕ} {i : ℕ} {chosen gains : List ℕ}
-    → Offerable totals least t e chosen₀ gains₀ → Offering totals least t e s chosen₀ gains₀ i chosen gains → length totals ≤ i
+    → Offerable totals least t e chosen₀ gains₀
+    → Offering totals least t e s chosen₀ gains₀ i chosen gains → length totals ≤ i
     → Offered totals least t e s chosen₀ gains₀ chosen gains
 offers-end o h b = record {
   chosen-are = filled-list _ (h .chosen-are) (o .chosen-long) b;

@@ -7,8 +7,10 @@ use native.Mathlib.Nat.{le-trans, le-antisymm}
 use native.Mathlib.Omega.{arith}
 use lib.ListN.{getD, length}
 use Rattle.model.specs.Counting.{_<?_, _≤?_, _and_, only, greatest, list}
-use Rattle.model.proofs.Tests.{first, second, both, clash, only-le, le-only, is-lt, not-lt, is-le, lt-yes, le-yes, lt-or-le}
-use Rattle.model.proofs.Counting.{count-mono, count-strict, count-none, length-list, getD-list, le-greatest, greatest-le, search-below, count-most}
+use Rattle.model.proofs.Tests.{first, second, both, clash, only-le, le-only, is-lt, not-lt, is-le, lt-yes, le-yes}
+use Rattle.model.proofs.Tests.{lt-or-le}
+use Rattle.model.proofs.Counting.{count-mono, count-strict, count-none, length-list, getD-list, le-greatest}
+use Rattle.model.proofs.Counting.{greatest-le, search-below, count-most}
 use Rattle.allocation.specs.Totals.{maxTotal, Totals}
 use Rattle.allocation.specs.Selection.{above, greatestUpTo, Selected}
 
@@ -26,7 +28,8 @@ above-most l t = count-most (length l) _
 
 le-up-to : (l : List ℕ) (t k : ℕ) → k < length l → getD l k 0 ≤ t → getD l k 0 ≤ greatestUpTo l t
 unfolding greatestUpTo
-le-up-to l t k lk h = le-trans (le-only _ _ (is-le _ _ h)) (le-greatest (length l) (λ k. only (getD l k 0 ≤? t) (getD l k 0)) k lk)
+le-up-to l t k lk h =
+    le-trans (le-only _ _ (is-le _ _ h)) (le-greatest (length l) (λ k. only (getD l k 0 ≤? t) (getD l k 0)) k lk)
 
 -- nothing is above the greatest of all
 pub above-greatest : (n : ℕ) (f : ℕ → ℕ) (l : List ℕ) → l ≡ list n f → above l (greatest n f) ≡ 0
@@ -37,7 +40,8 @@ above-greatest n f l e = count-none (length l) _ (λ k lk p.
 
 -- where nothing is above r, and something above 0, r is above 0
 pub greatest-positive : (l : List ℕ) (r n b : ℕ) → above l r ≡ 0 → n ≡ above l 0 → b < n → 1 ≤ r
-greatest-positive l r n b z e h = ⊎-elim (λ p. p) (λ (p : r ≤ 0). absurd (omega (arith, above-falls l r 0 p))) (lt-or-le 0 r)
+greatest-positive l r n b z e h =
+    ⊎-elim (λ p. p) (λ (p : r ≤ 0). absurd (omega (arith, above-falls l r 0 p))) (lt-or-le 0 r)
 
 up-to-le : (l : List ℕ) (t : ℕ) → greatestUpTo l t ≤ t
 unfolding greatestUpTo
@@ -56,14 +60,19 @@ above-up-to l t = le-antisymm
 -- where b elements are above t, the greatest up to t is the least with b above it
 pub up-to-selected : (l : List ℕ) (b t a : ℕ) → a ≡ above l t → a ≡ b → Selected l b (greatestUpTo l t) a
 unfolding above greatestUpTo
-up-to-selected l b t a e q = record { least-few = record { few = omega (arith, above-up-to l t); least = λ u lu. omega (arith, less u lu) }; counted = e ∙ sym (above-up-to l t) }
+up-to-selected l b t a e q =
+    record {
+      least-few = record { few = omega (arith, above-up-to l t); least = λ u lu. omega (arith, less u lu) };
+      counted = e ∙ sym (above-up-to l t);
+    }
   where
     less : (u : ℕ) → u < greatestUpTo l t → above l t < above l u
     less u lu = ⊎-elim
         (λ (k, lk, p).
         let a : u < getD l k 0 = lt-yes _ _ (first _ _ p) in
         let b : getD l k 0 ≤ t = le-yes _ _ (second _ _ p) in
-        count-strict (length l) _ _ (λ j _ q. is-lt _ _ (omega (arith, lt-yes t _ q))) k lk (not-lt _ _ b) (is-lt _ _ a))
+        count-strict (length l) _ _ (λ j _ q. is-lt _ _ (omega (arith, lt-yes t _ q))) k lk
+        (not-lt _ _ b) (is-lt _ _ a))
         (λ none. absurd (omega (
           arith,
           greatest-le (length l) _ u (λ k lk. only-le _ _ _ (λ p. ⊎-elim
@@ -75,7 +84,9 @@ up-to-selected l b t a e q = record { least-few = record { few = omega (arith, a
 
 -- the least number with few above it is no more than one with none above it
 pub selected-low : {l : List ℕ} {b t a top : ℕ} → Selected l b t a → above l top ≡ 0 → t ≤ top
-selected-low {l} {b} {t} {top = top} s z = ⊎-elim (λ (p : top < t). absurd (omega (arith, s .least-few .least top p))) (λ p. p) (lt-or-le top t)
+selected-low {l} {b} {t} {top = top} s z =
+    ⊎-elim (λ (p : top < t). absurd (omega (arith, s .least-few .least top p))) (λ p. p) (lt-or-le top t)
 
-pub greatest-low : (l : List ℕ) (t i : ℕ) → Totals l → i ≤ length l → greatest i (λ k. only (getD l k 0 ≤? t) (getD l k 0)) ≤ maxTotal
+pub greatest-low :
+    (l : List ℕ) (t i : ℕ) → Totals l → i ≤ length l → greatest i (λ k. only (getD l k 0 ≤? t) (getD l k 0)) ≤ maxTotal
 greatest-low l t i h m = greatest-le i _ maxTotal (λ k lk. only-le _ _ _ (λ _. h k (omega arith)))

@@ -27,15 +27,20 @@ pub ties-none : (l : List ℕ) (t a : ℕ) → a ≡ a + ties l t 0
 unfolding ties
 ties-none l t a = omega (arith, count-start (λ k. getD l k 0 =? t))
 
-pub ties-more : (l : List ℕ) (t a i s r : ℕ) → s ≡ a + ties l t i → r ≡ s + only (getD l i 0 =? t) 1 → r ≡ a + ties l t (i + 1)
+pub ties-more :
+    (l : List ℕ) (t a i s r : ℕ) → s ≡ a + ties l t i → r ≡ s + only (getD l i 0 =? t) 1 → r ≡ a + ties l t (i + 1)
 unfolding ties
 ties-more l t a i s r e h = omega (arith, count-step i (λ k. getD l k 0 =? t))
 
-pub room-more : (l : List ℕ) (t a b s i : ℕ) → s ≡ a + ties l t i → s < b → ((k : ℕ) → k < i → a + ties l t k < b) → (k : ℕ) → k < i + 1 → a + ties l t k < b
+pub room-more :
+    (l : List ℕ) (t a b s i : ℕ) → s ≡ a + ties l t i → s < b → ((k : ℕ) → k < i → a + ties l t k < b) → (k : ℕ)
+    → k < i + 1 → a + ties l t k < b
 room-more l t a b s i e r h = below-more (λ k. a + ties l t k < b) i h (omega arith)
 
 -- the loop stops at i: every guest passed had room, and the next has none or there is none
-pub bound-here : {l : List ℕ} {t a b s i : ℕ} → i ≤ length l → (t ≡ 0 → ⊥) → s ≡ a + ties l t i → ((k : ℕ) → k < i → a + ties l t k < b) → (b ≤ s) ⊎ (length l ≤ i) → TieBound l t a b i
+pub bound-here :
+    {l : List ℕ} {t a b s i : ℕ} → i ≤ length l → (t ≡ 0 → ⊥) → s ≡ a + ties l t i
+    → ((k : ℕ) → k < i → a + ties l t k < b) → (b ≤ s) ⊎ (length l ≤ i) → TieBound l t a b i
 bound-here {l} {t} {a} {b} {s} {i} w n e h c = record {
   within = w;
   none = λ z. absurd (n z);

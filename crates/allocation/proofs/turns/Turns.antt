@@ -12,7 +12,8 @@ use lib.Seq.{getD-set-same, getD-set-other}
 use borrow.Author.Count.{below-more}
 use Rattle.model.specs.Limits.{maxStations}
 use Rattle.model.specs.Counting.{_<?_, _≤?_, _and_, only, list}
-use Rattle.model.specs.market.Market.{Tables, bidAt, Market, marketBy, byNumber, market, cut, opens, Screened, screen, Queue, queue, provisional, critical}
+use Rattle.model.specs.market.Market.{Tables, bidAt, Market, marketBy, byNumber, market, cut, opens, Screened, screen}
+use Rattle.model.specs.market.Market.{Queue, queue, provisional, critical}
 use Rattle.model.specs.market.Mechanism.{at, better, best, surplus}
 use Rattle.model.specs.market.Outcome.{seen}
 use Rattle.model.proofs.Tests.{clash, first, and-no, only-le, le-yes, le-no, is-lt, not-lt, lt-or-le, only-cong}
@@ -32,7 +33,9 @@ use Rattle.allocation.proofs.turns.Winners.{Shows, critical-is, provisi
 
 -- ---- one guest's choice: gains are kept as one more, so that 0 is no station
 
-take-at : (f : ℕ → ℕ) (h : Bool) (g : ℕ → ℕ) (j r : ℕ) → picked (at (λ k. g k + 1) r <? only h (g j + 1)) (f j) (at f r) ≡ at f (better h g j r)
+take-at :
+    (f : ℕ → ℕ) (h : Bool) (g : ℕ → ℕ) (j r : ℕ)
+    → picked (at (λ k. g k + 1) r <? only h (g j + 1)) (f j) (at f r) ≡ at f (better h g j r)
 unfolding at better only picked
 take-at f false g j r = rw (not-lt (at (λ k. g k + 1) r) 0 (omega arith)) refl
 take-at f true g j zero = rw (is-lt 0 (g j + 1) (omega arith)) refl
@@ -41,7 +44,10 @@ take-at f true g j (suc k) = ⊎-elim
     (λ (l : g j ≤ g k). rw (not-lt (g k) (g j) l, not-lt (g k + 1) (g j + 1) (omega arith)) refl)
     (lt-or-le (g k) (g j))
 
-take-gain : (h : Bool) (g : ℕ → ℕ) (j r : ℕ) → picked (at (λ k. g k + 1) r <? only h (g j + 1)) (only h (g j + 1)) (at (λ k. g k + 1) r) ≡ at (λ k. g k + 1) (better h g j r)
+take-gain :
+    (h : Bool) (g : ℕ → ℕ) (j r : ℕ)
+    → picked (at (λ k. g k + 1) r <? only h (g j + 1)) (only h (g j + 1)) (at (λ k. g k + 1) r)
+    ≡ at (λ k. g k + 1) (better h g j r)
 unfolding better only picked
 take-gain true g j r = take-at (λ k. g k + 1) true g j r
 take-gain false g j r = rw (not-lt (at (λ k. g k + 1) r) 0 (omega arith)) refl
@@ -51,16 +57,21 @@ unfolding at
 at-suc zero = refl
 at-suc (suc r) = refl
 
-station-step : (S : Screened) (j i : ℕ) → stationBy S (j + 1) i ≡ better (provisional (queue S j) i) (surplus S i) j (stationBy S j i)
+station-step :
+    (S : Screened) (j i : ℕ)
+    → stationBy S (j + 1) i ≡ better (provisional (queue S j) i) (surplus S i) j (stationBy S j i)
 unfolding stationBy best
 station-step S j i = rw add-one refl
 
 -- ---- the lists after a station
 
 -- the critical totals with one more, at number j + 1
-set-critical : {n j v : ℕ} {S : Screened} {chosen gains criticals : List ℕ} → After S n j chosen gains criticals → j < maxStations → v ≡ critical (queue S j)
+set-critical :
+    {n j v : ℕ} {S : Screened} {chosen gains criticals : List ℕ} → After S n j chosen gains criticals → j < maxStations
+    → v ≡ critical (queue S j)
     → (k : ℕ) → k < j + 1 → getD (set criticals (j + 1) v) (k + 1) 0 ≡ critical (queue S k)
-set-critical {n} {j} {v} {S} {criticals = criticals} h l e = below-more (λ k. getD (set criticals (j + 1) v) (k + 1) 0 ≡ critical (queue S k)) j
+set-critical {n} {j} {v} {S} {criticals = criticals} h l e =
+    below-more (λ k. getD (set criticals (j + 1) v) (k + 1) 0 ≡ critical (queue S k)) j
     (λ k a. getD-set-other criticals (j + 1) (k + 1) v 0 (omega arith) ∙ h .criticals-are k a)
     (getD-set-same criticals (j + 1) v 0 (omega (arith, h .criticals-long)) ∙ e)
 
@@ -76,23 +87,37 @@ module _ (S : Screened) (n j : ℕ) (totals least : List ℕ) (t e s : ℕ) (cho
     (h : After S n j chosen₀ gains₀ criticals) where
   chosen-step : (k : ℕ) → k < n → taken gains₀ (gainAt totals least t e) (λ _. s) chosen₀ k ≡ stationBy S (j + 1) k
   unfolding taken gainBy
-  chosen-step k lk = rw (es ∙ add-one j, element n (stationBy S j) (h .chosen-are) k lk ∙ sym (at-suc _), gain-is k lk, element _ _ (h .gains-are) k lk, station-step S j k)
+  chosen-step k lk =
+      rw (
+        es ∙ add-one j,
+        element n (stationBy S j) (h .chosen-are) k lk ∙ sym (at-suc _),
+        gain-is k lk,
+        element _ _ (h .gains-are) k lk,
+        station-step S j k,
+      )
       (take-at suc (provisional (queue S j) k) (surplus S k) j (stationBy S j k) ∙ at-suc _)
 
-  gain-step : (k : ℕ) → k < n → taken gains₀ (gainAt totals least t e) (gainAt totals least t e) gains₀ k ≡ gainBy S (j + 1) k
+  gain-step :
+      (k : ℕ) → k < n → taken gains₀ (gainAt totals least t e) (gainAt totals least t e) gains₀ k ≡ gainBy S (j + 1) k
   unfolding taken gainBy
-  gain-step k lk = rw (gain-is k lk, element n (gainBy S j) (h .gains-are) k lk, station-step S j k) (take-gain (provisional (queue S j) k) (surplus S k) j (stationBy S j k))
+  gain-step k lk =
+      rw (gain-is k lk, element n (gainBy S j) (h .gains-are) k lk, station-step S j k)
+      (take-gain (provisional (queue S j) k) (surplus S k) j (stationBy S j k))
 
   -- a gain is the new one or the old one
-  gain-stays-low : (k : ℕ) → k < n → taken gains₀ (gainAt totals least t e) (gainAt totals least t e) gains₀ k ≤ maxTotal + 1
+  gain-stays-low :
+      (k : ℕ) → k < n → taken gains₀ (gainAt totals least t e) (gainAt totals least t e) gains₀ k ≤ maxTotal + 1
   unfolding taken gainAt
   gain-stays-low k lk = picked-le _ _ _ _ (gain-low _ _ _ (totals-low k (omega arith)) refl) (h .gains-low k lk)
 
-  after-offers : {chosen gains : List ℕ} → Offered totals least t e s chosen₀ gains₀ chosen gains → After S n (j + 1) chosen gains (set criticals s t)
+  after-offers :
+      {chosen gains : List ℕ} → Offered totals least t e s chosen₀ gains₀ chosen gains
+      → After S n (j + 1) chosen gains (set criticals s t)
   after-offers o = record {
     chosen-are = relist _ n _ _ (o .chosen-are) as-long chosen-step;
     gains-are = relist _ n _ _ (o .gains-are) as-long gain-step;
-    gains-low = λ k lk. rw (element _ _ (relist _ n _ _ (o .gains-are) as-long (λ _ _. refl)) k lk) (gain-stays-low k lk);
+    gains-low =
+        λ k lk. rw (element _ _ (relist _ n _ _ (o .gains-are) as-long (λ _ _. refl)) k lk) (gain-stays-low k lk);
     criticals-long = length-set criticals s t ∙ h .criticals-long;
     criticals-are = rw es (set-critical h few critical-is);
     criticals-left = λ k l. getD-set-other criticals s (k + 1) t 0 (omega arith) ∙ h .criticals-left k (omega arith);
@@ -105,27 +130,35 @@ closed M j i h = and-no _ _ (and-no _ _ (not-lt _ _ h))
 
 stays : (M : Market) (j i : ℕ) → cut M ≤ M .ask j → stationBy (screen M) j i ≡ stationBy (screen M) (j + 1) i
 unfolding better
-stays M j i h = sym (station-step (screen M) j i ∙ ap (λ b. better b (surplus (screen M) i) j (stationBy (screen M) j i)) (closed M j i h))
+stays M j i h =
+    sym (station-step (screen M) j i
+    ∙ ap (λ b. better b (surplus (screen M) i) j (stationBy (screen M) j i)) (closed M j i h))
 
 -- and its critical total is 0
 closed-critical : (M : Market) (j : ℕ) → cut M ≤ M .ask j → 0 ≡ critical (queue (screen M) j)
 unfolding critical queue screen opens
-closed-critical M j h = le-antisymm (omega arith) (greatest-le (M .guests) _ 0 (λ k _. only-le _ _ _ (λ p. absurd (clash (first _ _ p) (and-no _ _ (not-lt _ _ h))))))
+closed-critical M j h =
+    le-antisymm (omega arith)
+    (greatest-le (M .guests) _ 0 (λ k _. only-le _ _ _ (λ p. absurd (clash (first _ _ p) (and-no _ _ (not-lt _ _ h))))))
 
-pub after-closed : (M : Market) (n j : ℕ) {chosen gains criticals : List ℕ} → cut M ≤ M .ask j → After (screen M) n j chosen gains criticals → After (screen M) n (j + 1) chosen gains criticals
+pub after-closed :
+    (M : Market) (n j : ℕ) {chosen gains criticals : List ℕ} → cut M ≤ M .ask j
+    → After (screen M) n j chosen gains criticals → After (screen M) n (j + 1) chosen gains criticals
 unfolding gainBy
 after-closed M n j {criticals = criticals} h a = record {
   chosen-are = a .chosen-are ∙ list-cong n _ _ (λ k lk. stays M j k h);
   gains-low = a .gains-low;
   gains-are = a .gains-are ∙ list-cong n _ _ (λ k lk. ap (at (λ i. surplus (screen M) k i + 1)) (stays M j k h));
   criticals-long = a .criticals-long;
-  criticals-are = below-more (λ k. getD criticals (k + 1) 0 ≡ critical (queue (screen M) k)) j (a .criticals-are) (a .criticals-left j (le-refl j) ∙ closed-critical M j h);
+  criticals-are = below-more (λ k. getD criticals (k + 1) 0 ≡ critical (queue (screen M) k)) j (a .criticals-are)
+      (a .criticals-left j (le-refl j) ∙ closed-critical M j h);
   criticals-left = λ k l. a .criticals-left k (omega arith);
 }
 
 -- ---- the queue of an open station, and the totals that the code gathers
 
-module _ (t : Tables) (c : ℕ) (least : List ℕ) (A : AtCut t c least) (j : ℕ) (lj : j < length (t .asks)) (op : getD (t .asks) j 0 < c) where
+module _ (t : Tables) (c : ℕ) (least : List ℕ) (A : AtCut t c least) (j : ℕ) (lj : j < length (t .asks))
+    (op : getD (t .asks) j 0 < c) where
   abbrev Q : Queue
   Q = queue (seen t) j
 
@@ -133,7 +166,8 @@ module _ (t : Tables) (c : ℕ) (least : List ℕ) (A : AtCut t c least) (j : �
   unfolding queue seen screen market marketBy opens _and_
   candidate-is k = rw (← A .is-cut, is-lt _ _ op) refl
 
-  module _ (totals : List ℕ) (gathered : totals ≡ list (length (t .amounts)) (totalAt (t .bids) (t .amounts) (length (t .asks)) j c)) where
+  module _ (totals : List ℕ)
+      (gathered : totals ≡ list (length (t .amounts)) (totalAt (t .bids) (t .amounts) (length (t .asks)) j c)) where
     shows : Shows Q totals
     unfolding queue seen screen market marketBy bidAt byNumber
     shows = record {
@@ -152,10 +186,12 @@ module _ (t : Tables) (c : ℕ) (least : List ℕ) (A : AtCut t c least) (j : �
     all-low k lk =
         let l : k < length (t .amounts) = omega (arith, long _ _ gathered) in
         rw (element _ _ gathered k l) (total-low _ _ c
-        (A .within .bid-most _ (omega (arith, A .within .bids-length, in-table (length (t .amounts)) (length (t .asks)) k j l lj)))
+        (A .within .bid-most _
+        (omega (arith, A .within .bids-length, in-table (length (t .amounts)) (length (t .asks)) k j l lj)))
         (A .within .amount-most k l))
 
-    module _ (f b e : ℕ) (eb : b ≡ getD (t .bays) j 0) (few : LeastFew totals b f) (tied : TieBound totals f (above totals f) b e) where
+    module _ (f b e : ℕ) (eb : b ≡ getD (t .bays) j 0) (few : LeastFew totals b f)
+        (tied : TieBound totals f (above totals f) b e) where
       capacity-is : Q .capacity ≡ b
       unfolding queue seen screen market marketBy
       capacity-is = sym eb
@@ -167,30 +203,40 @@ module _ (t : Tables) (c : ℕ) (least : List ℕ) (A : AtCut t c least) (j : �
       unfolding queue seen screen market marketBy
       won-here k lk = provisional-is Q totals shows k f e lk (rw capacity-is few) (rw capacity-is tied)
 
-      charge-here : (k : ℕ) → k < length (t .amounts) → chargeAt least f k ≡ max ((seen t) .cut * (seen t) .amount k) (critical Q)
+      charge-here :
+          (k : ℕ) → k < length (t .amounts) → chargeAt least f k ≡ max ((seen t) .cut * (seen t) .amount k) (critical Q)
       unfolding chargeAt seen screen market marketBy
-      charge-here k lk = ap₂ max (element _ _ (A .least-are) k lk ∙ ap (λ x. x * getD (t .amounts) k 0) (A .is-cut)) critical-here
+      charge-here k lk =
+          ap₂ max (element _ _ (A .least-are) k lk ∙ ap (λ x. x * getD (t .amounts) k 0) (A .is-cut)) critical-here
 
       total-here : (k : ℕ) → k < length (t .amounts) → provisional Q k ≡ true → getD totals k 0 ≡ (seen t) .total k j
       unfolding queue seen screen market marketBy
       total-here k lk p = shows .some k lk (provisional-candidate Q k p)
 
-      surplus-here : (k : ℕ) → k < length (t .amounts) → provisional Q k ≡ true → getD totals k 0 - chargeAt least f k ≡ surplus (seen t) k j
+      surplus-here :
+          (k : ℕ) → k < length (t .amounts) → provisional Q k ≡ true
+          → getD totals k 0 - chargeAt least f k ≡ surplus (seen t) k j
       unfolding surplus
       surplus-here k lk p = ap₂ _-_ (total-here k lk p) (charge-here k lk)
 
-      gain-here : (k : ℕ) → k < length (t .amounts) → gainAt totals least f e k ≡ only (provisional Q k) (surplus (seen t) k j + 1)
+      gain-here :
+          (k : ℕ) → k < length (t .amounts)
+          → gainAt totals least f e k ≡ only (provisional Q k) (surplus (seen t) k j + 1)
       unfolding gainAt gainFor
       gain-here k lk = rw (won-here k lk) (only-cong _ _ _ (λ p. ap (λ x. x + 1) (surplus-here k lk p)))
 
       pub turned : (s : ℕ) {chosen₀ gains₀ criticals chosen gains : List ℕ} → s ≡ j + 1
-          → After (seen t) (length (t .amounts)) j chosen₀ gains₀ criticals → Offered totals least f e s chosen₀ gains₀ chosen gains
+          → After (seen t) (length (t .amounts)) j chosen₀ gains₀ criticals
+          → Offered totals least f e s chosen₀ gains₀ chosen gains
           → After (seen t) (length (t .amounts)) (j + 1) chosen gains (set criticals s f)
-      turned s es h o = after-offers (seen t) (length (t .amounts)) j totals least f e s _ _ _ (long _ _ gathered) es (omega (arith, A .within .stations-most)) gain-here critical-here all-low h o
+      turned s es h o =
+          after-offers (seen t) (length (t .amounts)) j totals least f e s _ _ _ (long _ _ gathered) es
+          (omega (arith, A .within .stations-most)) gain-here critical-here all-low h o
 
 -- the turn of a station that is not open
 pub shut : (t : Tables) (c j : ℕ) {least chosen gains criticals : List ℕ} → AtCut t c least → c ≤ getD (t .asks) j 0
-    → After (seen t) (length (t .amounts)) j chosen gains criticals → After (seen t) (length (t .amounts)) (j + 1) chosen gains criticals
+    → After (seen t) (length (t .amounts)) j chosen gains criticals
+    → After (seen t) (length (t .amounts)) (j + 1) chosen gains criticals
 unfolding seen market marketBy
 shut t c j A h a = after-closed (market t) (length (t .amounts)) j (omega (arith, A .is-cut)) a
 
@@ -201,8 +247,11 @@ total-covers bid amount cut p = ⊎-elim
     (λ (a : cut ≤ bid). omega (arith, total-yes bid amount cut a, mul-le-mul-right amount a))
     (lt-or-le bid cut)
 
-pub offerable : (t : Tables) (c j : ℕ) {f a b e : ℕ} {least totals chosen gains criticals : List ℕ} (A : AtCut t c least) → j < length (t .asks)
-    → totals ≡ list (length (t .amounts)) (totalAt (t .bids) (t .amounts) (length (t .asks)) j c) → Totals totals → f ≤ maxTotal → TieBound totals f a b e
+pub offerable :
+    (t : Tables) (c j : ℕ) {f a b e : ℕ} {least totals chosen gains criticals : List ℕ}
+    (A : AtCut t c least) → j < length (t .asks)
+    → totals ≡ list (length (t .amounts)) (totalAt (t .bids) (t .amounts) (length (t .asks)) j c) → Totals totals
+    → f ≤ maxTotal → TieBound totals f a b e
     → After (seen t) (length (t .amounts)) j chosen gains criticals → Offerable totals least f e chosen gains
 offerable t c j {least = least} {totals} A lj g low fl tied a =
     let n : length totals ≡ length (t .amounts) = long _ _ g in
@@ -230,7 +279,9 @@ module _ {n : ℕ} {f : ℕ → ℕ} {totals : List ℕ} {top : ℕ} (g : Gather
 
   module _ (low : Totals totals) where
     pub top-low : top ≤ maxTotal
-    top-low = rw (g .greatest-is) (greatest-le n f maxTotal (λ k lk. omega (arith, element _ _ (g .totals-are) k lk, low k (omega (arith, long _ _ (g .totals-are))))))
+    top-low =
+        rw (g .greatest-is) (greatest-le n f maxTotal
+        (λ k lk. omega (arith, element _ _ (g .totals-are) k lk, low k (omega (arith, long _ _ (g .totals-are))))))
 
     pub critical-low : {b t a : ℕ} → Selected totals b t a → t ≤ maxTotal
     critical-low s = omega (arith, selected-low {top = top} s none-above, top-low)

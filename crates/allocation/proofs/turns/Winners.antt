@@ -1,4 +1,5 @@
--- The fast tests against a station's queue: the critical total by counting, and who is a provisional winner by the critical total.
+-- The fast tests against a station's queue: the critical total by counting, and who is a provisional winner
+-- by the critical total.
 use Prim.Native.Nat.{ℕ, _+_, _≤_, _<_}
 use mathlib.Core.Bool.{Bool, true, false}
 use mathlib.Core.List.{List}
@@ -10,14 +11,16 @@ use lib.ListN.{getD, length}
 use Rattle.model.specs.Counting.{_<?_, _=?_, _and_, _or_, only, count}
 use Rattle.model.specs.market.Market.{Queue, before, rank, provisional, critical}
 use Rattle.model.specs.claims.Readings.{CriticalIsFirstOut}
-use Rattle.model.proofs.Tests.{decide, both, first, second, and-false, lt-yes, is-lt, not-lt, is-eq, not-eq, lt-or-le, eq-or-ne}
+use Rattle.model.proofs.Tests.{decide, both, first, second, and-false, lt-yes, is-lt, not-lt, is-eq, not-eq, lt-or-le}
+use Rattle.model.proofs.Tests.{eq-or-ne}
 use Rattle.model.proofs.Counting.{sum-cong, sum-add, count-mono, count-strict, count-first}
 use Rattle.model.proofs.market.Queues.{Distinct, is-before, before-self, rank-taken, critical-is-first-out, before-le}
 use Rattle.allocation.specs.Ties.{ties, TieBound}
 use Rattle.allocation.specs.Selection.{above, LeastFew}
 use Rattle.allocation.specs.Offers.{wonBy}
 
--- xs are the queue's totals, 0 for whoever is no candidate; a candidate's total is above 0; keys are the guests' numbers
+-- xs are the queue's totals, 0 for whoever is no candidate; a candidate's total is above 0; keys
+-- are the guests' numbers
 pub record Shows (Q : Queue) (xs : List ℕ) : Type 0 where
   pub long : length xs ≡ Q .guests
   pub some : (k : ℕ) → k < Q .guests → Q .candidate k ≡ true → getD xs k 0 ≡ Q .total k
@@ -43,7 +46,8 @@ module _ (Q : Queue) (xs : List ℕ) (S : Shows Q xs) where
   distinct k i lk li e = sym (S .number k) ∙ e ∙ S .number i
 
   is-candidate : (k : ℕ) → k < Q .guests → 0 < getD xs k 0 → Q .candidate k ≡ true
-  is-candidate k lk p = ⊎-elim (λ e. e) (λ (e : Q .candidate k ≡ false). absurd (omega (arith, S .none k lk e))) (decide (Q .candidate k))
+  is-candidate k lk p =
+      ⊎-elim (λ e. e) (λ (e : Q .candidate k ≡ false). absurd (omega (arith, S .none k lk e))) (decide (Q .candidate k))
 
   counted : (u : ℕ) → above xs u ≡ count (Q .guests) (λ k. u <? getD xs k 0)
   unfolding above
@@ -54,7 +58,8 @@ module _ (Q : Queue) (xs : List ℕ) (S : Shows Q xs) where
   unfolding rank
   over-rank i u li c l = rw (counted u) (count-strict (Q .guests) _ _
       (λ k lk p. is-lt _ _ (omega (arith, before-le Q k i (second _ _ p), S .some k lk (first _ _ p))))
-      i li (ap (λ x. Q .candidate i and x) (before-self Q i) ∙ and-false (Q .candidate i)) (is-lt _ _ (omega (arith, S .some i li c))))
+      i li (ap (λ x. Q .candidate i and x) (before-self Q i) ∙ and-false (Q .candidate i))
+      (is-lt _ _ (omega (arith, S .some i li c))))
 
   -- whoever is above i's total stands before i
   under-rank : (i : ℕ) → above xs (Q .total i) ≤ rank Q i
@@ -67,7 +72,8 @@ module _ (Q : Queue) (xs : List ℕ) (S : Shows Q xs) where
   candidates : above xs 0 ≡ count (Q .guests) (Q .candidate)
   candidates = le-antisymm
       (rw (counted 0) (count-mono (Q .guests) _ _ (λ k lk p. is-candidate k lk (lt-yes _ _ p))))
-      (rw (counted 0) (count-mono (Q .guests) _ _ (λ k lk c. is-lt _ _ (omega (arith, S .some k lk c, S .real k lk c)))))
+      (rw (counted 0)
+      (count-mono (Q .guests) _ _ (λ k lk c. is-lt _ _ (omega (arith, S .some k lk c, S .real k lk c)))))
 
   -- the critical total is the least number with no more totals above it than the capacity
   pub critical-is : (t : ℕ) → LeastFew xs (Q .capacity) t → t ≡ critical Q
@@ -84,8 +90,10 @@ module _ (Q : Queue) (xs : List ℕ) (S : Shows Q xs) where
 
       go : ((k : ℕ) × (k < Q .guests) × (Q .candidate k ≡ true) × (rank Q k ≡ Q .capacity)) → t ≡ critical Q
       go (k, lk, c, r) = le-antisymm
-          (⊎-elim (λ (l : Q .total k < t). absurd (omega (arith, few .least (Q .total k) l, under-rank k))) (λ l. l) (lt-or-le (Q .total k) t))
-          (⊎-elim (λ (l : t < Q .total k). absurd (omega (arith, few .few, over-rank k t lk c l))) (λ l. l) (lt-or-le t (Q .total k)))
+          (⊎-elim (λ (l : Q .total k < t). absurd (omega (arith, few .least (Q .total k) l, under-rank k))) (λ l. l)
+          (lt-or-le (Q .total k) t))
+          (⊎-elim (λ (l : t < Q .total k). absurd (omega (arith, few .few, over-rank k t lk c l)))
+          (λ l. l) (lt-or-le t (Q .total k)))
           ∙ sym (reads .first-out k lk c r)
 
   -- at t above 0, the rank is the count above t and the count of those at t with a lower number
@@ -93,20 +101,31 @@ module _ (Q : Queue) (xs : List ℕ) (S : Shows Q xs) where
   unfolding rank before ties count
   rank-tied i t li p e = rw (counted t, e)
       (sum-cong (Q .guests) _ (λ k. only (t <? getD xs k 0) 1 + only (getD xs k 0 =? t and k <? i) 1)
-      (λ k lk. rw (S .number k, S .number i) (one (Q .candidate k) (getD xs k 0) (Q .total k) t k i p (S .some k lk) (S .none k lk)))
-      ∙ sum-add (Q .guests) _ _ ∙ ap (λ x. count (Q .guests) (λ k. t <? getD xs k 0) + x) (count-first (λ k. getD xs k 0 =? t) (Q .guests) i (omega arith)))
+      (λ k lk. rw (S .number k, S .number i)
+      (one (Q .candidate k) (getD xs k 0) (Q .total k) t k i p (S .some k lk) (S .none k lk)))
+      ∙ sum-add (Q .guests) _ _
+      ∙ ap (λ x. count (Q .guests) (λ k. t <? getD xs k 0) + x)
+      (count-first (λ k. getD xs k 0 =? t) (Q .guests) i (omega arith)))
 
   -- who wins, by the critical total and a bound on the numbers of those at it
-  pub provisional-is : (i t e : ℕ) → i < Q .guests → LeastFew xs (Q .capacity) t → TieBound xs t (above xs t) (Q .capacity) e → wonBy (getD xs i 0) t i e ≡ provisional Q i
+  pub provisional-is :
+      (i t e : ℕ) → i < Q .guests → LeastFew xs (Q .capacity) t → TieBound xs t (above xs t) (Q .capacity) e
+      → wonBy (getD xs i 0) t i e ≡ provisional Q i
   unfolding provisional wonBy _and_ _or_
   provisional-is i t e li few tied = ⊎-elim
       (λ (c : Q .candidate i ≡ true). rw (S .some i li c, c) (⊎-elim
-      (λ (l : t < Q .total i). rw (is-lt t (Q .total i) l, is-lt (rank Q i) (Q .capacity) (omega (arith, few .few, over-rank i t li c l))) refl)
+      (λ (l : t < Q .total i). rw
+      (is-lt t (Q .total i) l, is-lt (rank Q i) (Q .capacity) (omega (arith, few .few, over-rank i t li c l))) refl)
       (λ (l : Q .total i ≤ t). ⊎-elim
       (λ (q : Q .total i ≡ t).
       let p : 0 < t = omega (arith, S .real i li c) in
-      rw (not-lt t (Q .total i) l, is-eq (Q .total i) t q, rank-tied i t li p q) (tied .bound p i (omega (arith, S .long))))
-      (λ (q : Q .total i < t). rw (not-lt t (Q .total i) l, not-eq (Q .total i) t (omega arith), not-lt (rank Q i) (Q .capacity) (omega (arith, few .least (Q .total i) q, under-rank i))) refl)
+      rw (not-lt t (Q .total i) l, is-eq (Q .total i) t q, rank-tied i t li p q)
+      (tied .bound p i (omega (arith, S .long))))
+      (λ (q : Q .total i < t). rw (
+        not-lt t (Q .total i) l,
+        not-eq (Q .total i) t (omega arith),
+        not-lt (rank Q i) (Q .capacity) (omega (arith, few .least (Q .total i) q, under-rank i)),
+      ) refl)
       (eq-or-lt-of-le l))
       (lt-or-le t (Q .total i))))
       (λ (c : Q .candidate i ≡ false). rw (S .none i li c, c, not-lt t 0 (omega arith)) (⊎-elim

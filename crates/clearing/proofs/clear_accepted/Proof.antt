@@ -7,28 +7,20 @@ use Rattle.clearing.proofs.clear_accepted.Statement.{statement}
 use Rattle.clearing.proofs.clear_accepted.Tie as tie
 
 array-borrow-prefix-least : tie.Need-array-borrow-prefix-least
-array-borrow-prefix-least c = omega (arith, c .before .before .before .before .before .before .before .before .pre .0 .guests-most)
+array-borrow-prefix-least c =
+    let entry = c .before .before .before .before .before .before .before .before in
+    omega (arith, entry .pre .0 .guests-most)
 
 slice-aggregate-clear-with-room : tie.Need-slice-aggregate-clear-with-room
-slice-aggregate-clear-with-room c = zeros-long maxGuests _ (c .before .before .before .before .before .before .before .before .before .pre .0 .guests-most)
+slice-aggregate-clear-with-room c =
+    let entry = c .before .before .before .before .before .before .before .before .before in
+    zeros-long maxGuests _ (entry .pre .0 .guests-most)
 
 clear-with-room-requires : tie.Need-clear-with-room-requires
-clear-with-room-requires c κs = (c .before .before .before .before .before .before .before .before .before .before .before .before .before .pre .0, (c .before .before .before .before .before .before .before .before .before .before .before .before .before .pre .1, sym (zeros-long maxGuests _ (c .before .before .before .before .before .before .before .before .before .before .before .before .before .pre .0 .guests-most))))
-
-same-length : tie.Need-same-length
-same-length c = search needs
-
-same-length-2 : tie.Need-same-length-2
-same-length-2 c = search needs
-
-same-length-3 : tie.Need-same-length-3
-same-length-3 c = search needs
-
-same-length-4 : tie.Need-same-length-4
-same-length-4 c = search needs
-
-returns : tie.Need-returns
-returns c = search needs
+clear-with-room-requires c κs =
+    let entry = c .before .before .before .before .before .before .before .before .before .before
+    .before .before .before in
+    (entry .pre .0, (entry .pre .1, sym (zeros-long maxGuests _ (entry .pre .0 .guests-most))))
 
 pub clear-accepted-spec : {M : Type 1} → statement M
 clear-accepted-spec =
@@ -37,8 +29,4 @@ clear-accepted-spec =
     array-borrow-prefix-least
     slice-aggregate-clear-with-room
     clear-with-room-requires
-    same-length
-    same-length-2
-    same-length-3
-    same-length-4
-    returns)
+    (λ c. search needs) (λ c. search needs) (λ c. search needs) (λ c. search needs) (λ c. search needs))

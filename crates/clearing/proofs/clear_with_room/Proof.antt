@@ -7,63 +7,71 @@ use Rattle.clearing.proofs.Answers.{cut-low, at-cut, stations-count, ch
 use Rattle.clearing.proofs.clear_with_room.Statement.{statement}
 use Rattle.clearing.proofs.clear_with_room.Tie as tie
 
-cut-requires : tie.Need-cut-requires
-cut-requires c κs = search needs
+abbrev entry-before-cut : tie.After-cut → tie.Start
+entry-before-cut p = p .before .before .before .before .before .before .before .before .before .before
 
 least-charges-requires : tie.Need-least-charges-requires
-least-charges-requires c κs = ((c .before .before .before .before .before .before .before .before .before .before .before .pre .1 .1, cut-low (regular _ _ _ _) _ (c .before .before .before .before .before .before .before .before .before .before .before .pre .0) (c .before .cut .ensures)), c .before .before .before .before .before .before .before .before .before .before .before .pre .0 .amount-most)
+least-charges-requires c κs =
+    let entry = entry-before-cut (c .before) in (
+      (entry .pre .1 .1, cut-low (regular _ _ _ _) _ (entry .pre .0) (c .before .cut .ensures)),
+      entry .pre .0 .amount-most,
+    )
 
 assign-all-requires : tie.Need-assign-all-requires
 assign-all-requires c κs =
-    let start = c .before .before .before .before .before .before .before .before .before .before .before .before .before .before .before .before .before in
-    (at-cut (regular _ _ _ _) (start .pre .0) (c .before .before .before .before .before .before .before .cut .ensures) (c .before .before .before .before .before .least-charges .ensures), (start .pre .1 .0 .stations-long, start .pre .1 .0 .charges-long))
+    let at-least-charges = c .before .before .before .before .before in
+    let at-cut′ = at-least-charges .before .before in
+    let entry = entry-before-cut at-cut′ in (
+      at-cut (regular _ _ _ _) (entry .pre .0) (at-cut′ .cut .ensures) (at-least-charges .least-charges .ensures),
+      (entry .pre .1 .0 .stations-long, entry .pre .1 .0 .charges-long),
+    )
 
 sell-requires : tie.Need-sell-requires
 sell-requires c κs =
-    let start = c .before .before .before .before .before .before .before .before .before .before .before .before .before .before .before .before .before .before .before .before .before .before .before .before .before in
-    let done = c .before .before .before .before .before .before .before .assign-all .ensures in (
-      (stations-count (regular _ _ _ _) done, start .pre .0 .guests-most),
+    let at-assign-all = c .before .before .before .before .before .before .before in
+    let entry = entry-before-cut (at-assign-all .before .before .before .before .before .before .before .before) in
+    let done = at-assign-all .assign-all .ensures in (
+      (stations-count (regular _ _ _ _) done, entry .pre .0 .guests-most),
       (
-        start .pre .0 .amount-most,
-        (stations-low (regular _ _ _ _) done (start .pre .0), (omega (arith, start .pre .1 .0 .sold-long, start .pre .0 .stations-most), start .pre .1 .0 .paid-long ∙ sym (start .pre .1 .0 .sold-long))),
+        entry .pre .0 .amount-most,
+        (
+          stations-low (regular _ _ _ _) done (entry .pre .0),
+          (
+            omega (arith, entry .pre .1 .0 .sold-long, entry .pre .0 .stations-most),
+            entry .pre .1 .0 .paid-long ∙ sym (entry .pre .1 .0 .sold-long),
+          ),
+        ),
       ),
     )
 
 margin-requires : tie.Need-margin-requires
 margin-requires c κs =
-    let many = charges-count (regular _ _ _ _) (c .before .before .before .before .before .before .before .before .before .before .before .before .before .before .assign-all .ensures) in
-    (long _ _ (c .before .before .before .before .before .before .before .before .before .before .before .before .before .before .before .before .before .before .before .before .least-charges .ensures) ∙ sym many, omega (arith, many, c .before .before .before .before .before .before .before .before .before .before .before .before .before .before .before .before .before .before .before .before .before .before .before .before .before .before .before .before .before .before .before .before .pre .0 .guests-most))
-
-same-length : tie.Need-same-length
-same-length c = search needs
-
-same-length-2 : tie.Need-same-length-2
-same-length-2 c = search needs
-
-same-length-3 : tie.Need-same-length-3
-same-length-3 c = search needs
-
-same-length-4 : tie.Need-same-length-4
-same-length-4 c = search needs
-
-same-length-5 : tie.Need-same-length-5
-same-length-5 c = search needs
+    let at-assign-all = c .before .before .before .before .before .before .before .before .before .before .before
+    .before .before .before in
+    let at-least-charges = at-assign-all .before .before .before .before .before .before in
+    let entry = entry-before-cut (at-least-charges .before .before) in
+    let many = charges-count (regular _ _ _ _) (at-assign-all .assign-all .ensures) in
+    (long _ _ (at-least-charges .least-charges .ensures) ∙ sym many, omega (arith, many, entry .pre .0 .guests-most))
 
 returns : tie.Need-returns
-returns c = settles (regular _ _ _ _) (c .before .before .before .before .before .before .before .before .before .before .before .before .before .before .before .assign-all .ensures) (at-cut (regular _ _ _ _) (c .before .before .before .before .before .before .before .before .before .before .before .before .before .before .before .before .before .before .before .before .before .before .before .before .before .before .before .before .before .before .before .before .before .pre .0) (c .before .before .before .before .before .before .before .before .before .before .before .before .before .before .before .before .before .before .before .before .before .before .before .cut .ensures) (c .before .before .before .before .before .before .before .before .before .before .before .before .before .before .before .before .before .before .before .before .before .least-charges .ensures)) (c .before .before .before .before .before .before .before .before .before .before .before .before .before .before .before .before .before .before .before .before .before .before .before .before .before .before .before .before .before .before .before .before .before .pre .1 .0 .sold-long) (c .before .before .before .before .before .before .before .sell .ensures) (c .margin .ensures)
+returns c =
+    let at-sell = c .before .before .before .before .before .before .before in
+    let at-assign-all = at-sell .before .before .before .before .before .before .before .before in
+    let at-least-charges = at-assign-all .before .before .before .before .before .before in
+    let at-cut′ = at-least-charges .before .before in
+    let entry = entry-before-cut at-cut′ in
+    settles (regular _ _ _ _) (at-assign-all .assign-all .ensures)
+    (at-cut (regular _ _ _ _) (entry .pre .0) (at-cut′ .cut .ensures) (at-least-charges .least-charges .ensures))
+    (entry .pre .1 .0 .sold-long) (at-sell .sell .ensures) (c .margin .ensures)
 
 pub clear-with-room-spec : {M : Type 1} → statement M
 clear-with-room-spec =
     tie.close
     (tie.spec
-    cut-requires
+    (λ c κs. search needs)
     least-charges-requires
     assign-all-requires
     sell-requires
     margin-requires
-    same-length
-    same-length-2
-    same-length-3
-    same-length-4
-    same-length-5
+    (λ c. search needs) (λ c. search needs) (λ c. search needs) (λ c. search needs) (λ c. search needs)
     returns)

@@ -17,7 +17,9 @@ positive (suc n) f = omega arith
 
 pub row-none : (xs : List ℕ) (m i : ℕ) → i ≡ 0 → [] ≡ rowOf xs m i
 unfolding rowOf shown
-row-none xs m i e = ap (λ b. shown b (take m (drop ((i - 1) * m) xs))) (sym (and-no (1 ≤? i) (i * m ≤? length xs) (not-le 1 i (omega arith))))
+row-none xs m i e =
+    ap (λ b. shown b (take m (drop ((i - 1) * m) xs)))
+    (sym (and-no (1 ≤? i) (i * m ≤? length xs) (not-le 1 i (omega arith))))
 
 shown-none : (b : Bool) → [] ≡ shown b []
 unfolding shown
@@ -32,7 +34,8 @@ pub row-past : (xs : List ℕ) (m i : ℕ) → (m ≡ 0 → ⊥) → length xs /
 unfolding rowOf shown
 row-past xs m i p l =
     let past : length xs < i * m = div-lt-iff-lt-mul (positive m p) .0 l in
-    ap (λ b. shown b (take m (drop ((i - 1) * m) xs))) (sym (ap (λ b. (1 ≤? i) and b) (not-le (i * m) (length xs) past) ∙ and-false _))
+    ap (λ b. shown b (take m (drop ((i - 1) * m) xs)))
+    (sym (ap (λ b. (1 ≤? i) and b) (not-le (i * m) (length xs) past) ∙ and-false _))
 
 -- the numbers of a row that lies in the table
 pub record Inside (n m i : ℕ) : Type 0 where
@@ -49,4 +52,6 @@ inside n m i h p l =
 
 pub row-in : (xs : List ℕ) (m i : ℕ) → (i ≡ 0 → ⊥) → i * m ≤ length xs → take m (drop ((i - 1) * m) xs) ≡ rowOf xs m i
 unfolding rowOf shown
-row-in xs m i h l = ap (λ b. shown b (take m (drop ((i - 1) * m) xs))) (sym (both (is-le 1 i (positive i h)) (is-le (i * m) (length xs) l)))
+row-in xs m i h l =
+    ap (λ b. shown b (take m (drop ((i - 1) * m) xs)))
+    (sym (both (is-le 1 i (positive i h)) (is-le (i * m) (length xs) l)))

@@ -5,7 +5,8 @@ use mathlib.Core.List.{List, _++_}
 use mathlib.Core.Logic.{⊎-elim}
 use mathlib.Core.Path.{_≡_, sym, ap, _∙_}
 use native.Mathlib.Omega.{arith}
-use lib.ListN.{getD, length, drop, replicate, length-replicate, length-append, length-drop, getD-replicate, List·getD-append}
+use lib.ListN.{getD, length, drop, replicate, length-replicate, length-append, length-drop, getD-replicate}
+use lib.ListN.{List·getD-append}
 use lib.Seq.{getD-append-add, getD-drop}
 use Rattle.model.specs.Limits.{maxGuests, maxStations}
 use Rattle.model.specs.declared.refusal.Refusal.{Refusal}
@@ -31,61 +32,90 @@ use Rattle.model.proofs.contracts.Clears.{clear-refused, clear-cleared}
 use Rattle.ledger.specs.Plans.{adding, roundBy}
 
 -- a list of n in front of an array of zeros
-filled : (size n : ℕ) (f : ℕ → ℕ) → n ≤ size → list n f ++ drop n (replicate size 0) ≡ list size (λ k. only (k <? n) (f k))
+filled :
+    (size n : ℕ) (f : ℕ → ℕ) → n ≤ size → list n f ++ drop n (replicate size 0) ≡ list size (λ k. only (k <? n) (f k))
 filled size n f h = is-list size _ _ long at
   where
     long : length (list n f ++ drop n (replicate size 0)) ≡ size
-    long = omega (arith, length-append (list n f) (drop n (replicate size 0)), length-list n f, length-drop n (replicate {A = ℕ} size 0), length-replicate {A = ℕ} size 0)
+    long =
+        omega (
+          arith,
+          length-append (list n f) (drop n (replicate size 0)),
+          length-list n f,
+          length-drop n (replicate {A = ℕ} size 0),
+          length-replicate {A = ℕ} size 0,
+        )
 
     at : (k : ℕ) → k < size → getD (list n f ++ drop n (replicate size 0)) k 0 ≡ only (k <? n) (f k)
     at k l = ⊎-elim
-        (λ (c : k < n). List·getD-append (list n f) (drop n (replicate size 0)) 0 k (omega (arith, length-list n f)) ∙ getD-list n f k c ∙ sym (only-yes _ _ (is-lt k n c)))
+        (λ (c : k < n). List·getD-append (list n f) (drop n (replicate size 0)) 0 k (omega (arith, length-list n f))
+        ∙ getD-list n f k c ∙ sym (only-yes _ _ (is-lt k n c)))
         (λ (c : n ≤ k).
         let j : k ≡ length (list n f) + (k - n) = omega (arith, length-list n f) in
         let i : n + (k - n) ≡ k = omega arith in
-        ap (λ x. getD (list n f ++ drop n (replicate size 0)) x 0) j ∙ getD-append-add (list n f) (drop n (replicate size 0)) (k - n) 0
-        ∙ getD-drop n (replicate size 0) (k - n) 0 ∙ getD-replicate {A = ℕ} size (n + (k - n)) 0 0 (omega arith) ∙ sym (only-no _ _ (not-lt k n c)))
+        ap (λ x. getD (list n f ++ drop n (replicate size 0)) x 0) j
+        ∙ getD-append-add (list n f) (drop n (replicate size 0)) (k - n) 0
+        ∙ getD-drop n (replicate size 0) (k - n) 0 ∙ getD-replicate {A = ℕ} size (n + (k - n)) 0 0 (omega arith)
+        ∙ sym (only-no _ _ (not-lt k n c)))
         (lt-or-le k n)
 
 module _ (asks bays amounts bids : List ℕ) (width : ℕ) where
   abbrev t : Tables
   t = tables asks bays amounts bids width
 
-  too-many : (maxGuests <? length amounts or length asks =? 0 or maxStations <? length asks) ≡ true → verdict t ≡ refused CountsOutOfRange
+  too-many :
+      (maxGuests <? length amounts or length asks =? 0 or maxStations <? length asks) ≡ true
+      → verdict t ≡ refused CountsOutOfRange
   unfolding verdict marketFaults counts firstFault
   too-many e = rw e
 
-  pub many-guests : (r : Round) → maxGuests < length amounts → r ≡ refusing CountsOutOfRange → r ≡ roundBy (verdict t) (posting t 0)
+  pub many-guests :
+      (r : Round) → maxGuests < length amounts → r ≡ refusing CountsOutOfRange → r ≡ roundBy (verdict t) (posting t 0)
   unfolding roundBy
   many-guests r h e = rw (too-many (or-left _ _ (or-left _ _ (is-lt _ _ h)))) e
 
-  pub many-stations : (r : Round) → maxStations < length asks → r ≡ refusing CountsOutOfRange → r ≡ roundBy (verdict t) (posting t 0)
+  pub many-stations :
+      (r : Round) → maxStations < length asks → r ≡ refusing CountsOutOfRange → r ≡ roundBy (verdict t) (posting t 0)
   unfolding roundBy
   many-stations r h e = rw (too-many (or-right _ _ (is-lt _ _ h))) e
 
   -- the outcome's lists, in arrays
-  full-round : (charges sold paid : List ℕ) (m : ℕ) → length amounts ≤ maxGuests → length asks ≤ maxStations → m ≡ (outcome t) .margin
+  full-round :
+      (charges sold paid : List ℕ) (m : ℕ) → length amounts ≤ maxGuests → length asks ≤ maxStations
+      → m ≡ (outcome t) .margin
       → charges ≡ (outcome t) .results .charges → sold ≡ (outcome t) .results .sold → paid ≡ (outcome t) .results .paid
-      → posted (charges ++ drop (length amounts) (replicate maxGuests 0)) (sold ++ drop (length asks) (replicate maxStations 0)) (paid ++ drop (length asks) (replicate maxStations 0)) m ≡ roundBy accepted (posting t 0)
+      → posted (charges ++ drop (length amounts) (replicate maxGuests 0))
+      (sold ++ drop (length asks) (replicate maxStations 0)) (paid ++ drop (length asks) (replicate maxStations 0))
+      m ≡ roundBy accepted (posting t 0)
   unfolding outcome settle posted adding roundBy toGuest toSold toPaid toHouse seen market marketBy screen
   full-round charges sold′ paid′ m n s em ec es ep = λ i. record {
     reply = reply.Posted;
-    charges = (ap (λ l. l ++ drop (length amounts) (replicate maxGuests 0)) ec ∙ filled maxGuests (length amounts) (charged (seen t) (decided t)) n) i;
-    sold = (ap (λ l. l ++ drop (length asks) (replicate maxStations 0)) es ∙ filled maxStations (length asks) (sold (seen t) (decided t)) s) i;
-    paid = (ap (λ l. l ++ drop (length asks) (replicate maxStations 0)) ep ∙ filled maxStations (length asks) (paid (seen t) (decided t)) s) i;
+    charges = (ap (λ l. l ++ drop (length amounts) (replicate maxGuests 0)) ec
+        ∙ filled maxGuests (length amounts) (charged (seen t) (decided t)) n) i;
+    sold = (ap (λ l. l ++ drop (length asks) (replicate maxStations 0)) es
+        ∙ filled maxStations (length asks) (sold (seen t) (decided t)) s) i;
+    paid = (ap (λ l. l ++ drop (length asks) (replicate maxStations 0)) ep
+        ∙ filled maxStations (length asks) (paid (seen t) (decided t)) s) i;
     margin = em i;
   }
 
   -- the call, on lists of the right lengths
   module _ (entry exit : Results) (answer : Clearing) (c : Clears t entry answer exit) (l : RightLengths t entry) where
-    pub clear-refuses : (x : Refusal) (r : Round) → answer ≡ clearing.Refused x → r ≡ refusing x → r ≡ roundBy (verdict t) (posting t 0)
+    pub clear-refuses :
+        (x : Refusal) (r : Round) → answer ≡ clearing.Refused x → r ≡ refusing x → r ≡ roundBy (verdict t) (posting t 0)
     unfolding roundBy
     clear-refuses x r q p = rw (clear-refused t entry exit answer c l x q) p
 
-    pub clear-posts : (k m : ℕ) (r : Round) → length amounts ≤ maxGuests → length asks ≤ maxStations → answer ≡ clearing.Cleared k m
-        → r ≡ posted (exit .charges ++ drop (length amounts) (replicate maxGuests 0)) (exit .sold ++ drop (length asks) (replicate maxStations 0)) (exit .paid ++ drop (length asks) (replicate maxStations 0)) m
+    pub clear-posts :
+        (k m : ℕ) (r : Round) → length amounts ≤ maxGuests → length asks ≤ maxStations → answer ≡ clearing.Cleared k m
+        → r
+        ≡ posted (exit .charges ++ drop (length amounts) (replicate maxGuests 0))
+        (exit .sold ++ drop (length asks) (replicate maxStations 0))
+        (exit .paid ++ drop (length asks) (replicate maxStations 0)) m
         → r ≡ roundBy (verdict t) (posting t 0)
     clear-posts k m r n s q p =
         let d = clear-cleared t entry exit answer c l k m q in
         let x = d .results-are in
-        p ∙ full-round (exit .charges) (exit .sold) (exit .paid) m n s (d .margin-is) (ap (λ r. r .charges) x) (ap (λ r. r .sold) x) (ap (λ r. r .paid) x) ∙ ap (λ v. roundBy v (posting t 0)) (sym (d .is-accepted))
+        p
+        ∙ full-round (exit .charges) (exit .sold) (exit .paid) m n s (d .margin-is) (ap (λ r. r .charges) x)
+        (ap (λ r. r .sold) x) (ap (λ r. r .paid) x) ∙ ap (λ v. roundBy v (posting t 0)) (sym (d .is-accepted))

@@ -43,16 +43,25 @@ module _ (t : Tables) (guests stations : ℕ) (r : Round) (e : r ≡ roundBy (ve
       let v = refused-reply x q in
       e ∙ ap (λ v. roundBy v (posting t 0)) (v ∙ sym (fault-first (marketFaults t) _ v))
 
-  planned-size : (a : Bool) → (a gives BookSize) ≡ bookSize (length (t .amounts)) (length (t .asks)) guests stations → r .reply ≡ reply.Posted
+  planned-size :
+      (a : Bool) → (a gives BookSize) ≡ bookSize (length (t .amounts)) (length (t .asks)) guests stations
+      → r .reply ≡ reply.Posted
       → planned t guests stations ≡ roundBy (firstFault ((a gives BookSize) ∷ [])) (posting t 0)
   unfolding planned earlyFaults verdict
-  planned-size a ea q = ap (λ v. roundBy v (posting t 0)) (fault-second (marketFaults t) _ (accepted-reply q) ∙ ap (λ row. firstFault (row ∷ [])) (sym ea))
+  planned-size a ea q =
+      ap (λ v. roundBy v (posting t 0))
+      (fault-second (marketFaults t) _ (accepted-reply q) ∙ ap (λ row. firstFault (row ∷ [])) (sym ea))
 
-  pub plan-size : (s : Round) (a : Bool) → (a gives BookSize) ≡ bookSize (length (t .amounts)) (length (t .asks)) guests stations → a ≡ true
+  pub plan-size :
+      (s : Round) (a : Bool)
+      → (a gives BookSize) ≡ bookSize (length (t .amounts)) (length (t .asks)) guests stations → a ≡ true
       → r .reply ≡ reply.Posted → s ≡ refusing BookSize → s ≡ planned t guests stations
   unfolding firstFault roundBy
   plan-size s a ea za q es = es ∙ sym (planned-size true (rw za at ea) q)
 
-  pub plan-fits : (a : Bool) → (a gives BookSize) ≡ bookSize (length (t .amounts)) (length (t .asks)) guests stations → a ≡ false → r .reply ≡ reply.Posted → r ≡ planned t guests stations
+  pub plan-fits :
+      (a : Bool) → (a gives BookSize) ≡ bookSize (length (t .amounts)) (length (t .asks)) guests stations → a ≡ false
+      → r .reply ≡ reply.Posted → r ≡ planned t guests stations
   unfolding firstFault
-  plan-fits a ea za q = e ∙ ap (λ v. roundBy v (posting t 0)) (accepted-reply q) ∙ sym (planned-size false (rw za at ea) q)
+  plan-fits a ea za q =
+      e ∙ ap (λ v. roundBy v (posting t 0)) (accepted-reply q) ∙ sym (planned-size false (rw za at ea) q)

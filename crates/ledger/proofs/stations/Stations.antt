@@ -36,7 +36,9 @@ unfolding some _or_
 some-or zero f g = refl
 some-or (suc n) f g = ap (λ b. b or (f n or g n)) (some-or n f g) ∙ or-swap (some n f) (some n g) (f n) (g n)
 
-pub exceeding-is : (r : Round) (l : List StationAccount) → exceedingTo r (length l) l ≡ (exceeding (soldOf l) (r .sold) or exceeding (paidOf l) (r .paid))
+pub exceeding-is :
+    (r : Round) (l : List StationAccount)
+    → exceedingTo r (length l) l ≡ (exceeding (soldOf l) (r .sold) or exceeding (paidOf l) (r .paid))
 unfolding exceedingTo exceedsWith exceeding
 exceeding-is r l = rw (length-sold, length-paid)
     (some-or (length l) _ _
@@ -46,18 +48,23 @@ exceeding-is r l = rw (length-sold, length-paid)
 
 -- the code's test of one account
 module _ (r : Round) (j : ℕ) (a : StationAccount) where
-  pub exceeds-is : (before sold paid : Bool) {x y : ℕ} → x ≡ getD (r .sold) j 0 → y ≡ getD (r .paid) j 0 → sold ≡ (maxAccount <? a .sold + x) → paid ≡ (maxAccount <? a .paid + y)
+  pub exceeds-is :
+      (before sold paid : Bool) {x y : ℕ} → x ≡ getD (r .sold) j 0 → y ≡ getD (r .paid) j 0
+      → sold ≡ (maxAccount <? a .sold + x) → paid ≡ (maxAccount <? a .paid + y)
       → (before || (sold || paid)) ≡ (before or exceedsWith r j a)
   unfolding exceedsWith
   exceeds-is before sold paid ex ey es ep = or-is before (sold || paid)
-      ∙ ap (λ b. before or b) (or-is sold paid ∙ ap₂ _or_ (es ∙ ap (λ x. maxAccount <? a .sold + x) ex) (ep ∙ ap (λ y. maxAccount <? a .paid + y) ey))
+      ∙ ap (λ b. before or b) (or-is sold paid
+      ∙ ap₂ _or_ (es ∙ ap (λ x. maxAccount <? a .sold + x) ex) (ep ∙ ap (λ y. maxAccount <? a .paid + y) ey))
 
   -- what it says, with `over` its answer
   over-is : {over : Bool} → over ≡ (false or exceedsWith r j a) → exceedsWith r j a ≡ over
   unfolding _or_
   over-is e = sym e
 
-  pub room : {over : Bool} → over ≡ (false or exceedsWith r j a) → over ≡ false → (a .sold + getD (r .sold) j 0 ≤ maxAccount) × (a .paid + getD (r .paid) j 0 ≤ maxAccount)
+  pub room :
+      {over : Bool} → over ≡ (false or exceedsWith r j a) → over ≡ false
+      → (a .sold + getD (r .sold) j 0 ≤ maxAccount) × (a .paid + getD (r .paid) j 0 ≤ maxAccount)
   unfolding exceedsWith
   room e q = let h = or-no _ _ (over-is e ∙ q) in (lt-no _ _ (h .0), lt-no _ _ (h .1))
 
@@ -65,7 +72,9 @@ module _ (r : Round) (j : ℕ) (a : StationAccount) where
   unfolding credited creditedBy
   credited-not e q = rw (over-is e ∙ q)
 
-  pub credited-yes : {over : Bool} {x y : ℕ} → over ≡ (false or exceedsWith r j a) → over ≡ false → x ≡ getD (r .sold) j 0 → y ≡ getD (r .paid) j 0 → account (a .sold + x) (a .paid + y) ≡ credited r j a
+  pub credited-yes :
+      {over : Bool} {x y : ℕ} → over ≡ (false or exceedsWith r j a) → over ≡ false → x ≡ getD (r .sold) j 0
+      → y ≡ getD (r .paid) j 0 → account (a .sold + x) (a .paid + y) ≡ credited r j a
   unfolding credited creditedBy
   credited-yes e q ex ey = rw (over-is e ∙ q, ex, ey)
 
@@ -84,7 +93,9 @@ module _ (r : Round) (l : List StationAccount) where
   unfolding creditedTo
   credited-none = refl
 
-  pub credited-more : (j : ℕ) (a : StationAccount) → a ≡ credited r j (accountAt (creditedTo r j l) j) → set (creditedTo r j l) j a ≡ creditedTo r (j + 1) l
+  pub credited-more :
+      (j : ℕ) (a : StationAccount) → a ≡ credited r j (accountAt (creditedTo r j l) j)
+      → set (creditedTo r j l) j a ≡ creditedTo r (j + 1) l
   unfolding creditedTo
   credited-more j a e = ap (λ b. set (creditedTo r j l) j b) e ∙ ap (λ n. creditedTo r n l) (sym (add-one j))
 
@@ -98,7 +109,8 @@ module _ (r : Round) (l : List StationAccount) where
   credited-beyond : (n k : ℕ) → n ≤ k → accountAt (creditedTo r n l) k ≡ accountAt l k
   unfolding creditedTo
   credited-beyond zero k h = refl
-  credited-beyond (suc n) k h = getD-set-other (creditedTo r n l) n k _ _ (omega arith) ∙ credited-beyond n k (omega arith)
+  credited-beyond (suc n) k h =
+      getD-set-other (creditedTo r n l) n k _ _ (omega arith) ∙ credited-beyond n k (omega arith)
 
   credited-at : (n k : ℕ) → n ≤ length l → k < n → accountAt (creditedTo r n l) k ≡ credited r k (accountAt l k)
   unfolding creditedTo
@@ -107,24 +119,32 @@ module _ (r : Round) (l : List StationAccount) where
       (λ (q : k < n). getD-set-other (creditedTo r n l) n k _ _ (omega arith) ∙ credited-at n k (omega arith) q)
       (λ (q : n ≤ k).
       let e : k ≡ n = omega arith in
-      rw e (getD-set-same (creditedTo r n l) n _ _ (omega (arith, credited-length n)) ∙ ap (λ a. credited r n a) (credited-beyond n n (le-refl n))))
+      rw e (getD-set-same (creditedTo r n l) n _ _ (omega (arith, credited-length n))
+      ∙ ap (λ a. credited r n a) (credited-beyond n n (le-refl n))))
       (lt-or-le k n)
 
   -- where every account has room, each has what the round adds
   module _ (e : exceedingTo r (length l) l ≡ false) where
-    sums : (k : ℕ) → k < length l → accountAt (creditedTo r (length l) l) k ≡ account (accountAt l k .sold + getD (r .sold) k 0) (accountAt l k .paid + getD (r .paid) k 0)
+    sums :
+        (k : ℕ) → k < length l
+        → accountAt (creditedTo r (length l) l) k
+        ≡ account (accountAt l k .sold + getD (r .sold) k 0) (accountAt l k .paid + getD (r .paid) k 0)
     unfolding credited creditedBy exceedingTo
-    sums k h = credited-at (length l) k (le-refl _) h ∙ ap (λ over. creditedBy over r k (accountAt l k)) (some-no (length l) _ e k h)
+    sums k h =
+        credited-at (length l) k (le-refl _) h
+        ∙ ap (λ over. creditedBy over r k (accountAt l k)) (some-no (length l) _ e k h)
 
     pub sold-credited : soldOf (creditedTo r (length l) l) ≡ plus (soldOf l) (r .sold)
     unfolding plus
     sold-credited = is-list (length (soldOf l)) _ _ (length-sold _ ∙ credited-length (length l) ∙ sym (length-sold l))
-        (λ k h. getD-sold _ k ∙ ap (λ a. a .sold) (sums k (rw length-sold at h)) ∙ ap (λ x. x + getD (r .sold) k 0) (sym (getD-sold l k)))
+        (λ k h. getD-sold _ k ∙ ap (λ a. a .sold) (sums k (rw length-sold at h))
+        ∙ ap (λ x. x + getD (r .sold) k 0) (sym (getD-sold l k)))
 
     pub paid-credited : paidOf (creditedTo r (length l) l) ≡ plus (paidOf l) (r .paid)
     unfolding plus
     paid-credited = is-list (length (paidOf l)) _ _ (length-paid _ ∙ credited-length (length l) ∙ sym (length-paid l))
-        (λ k h. getD-paid _ k ∙ ap (λ a. a .paid) (sums k (rw length-paid at h)) ∙ ap (λ x. x + getD (r .paid) k 0) (sym (getD-paid l k)))
+        (λ k h. getD-paid _ k ∙ ap (λ a. a .paid) (sums k (rw length-paid at h))
+        ∙ ap (λ x. x + getD (r .paid) k 0) (sym (getD-paid l k)))
 
   -- a round that adds nothing leaves the row as it is
   module _ (no-sales : (k : ℕ) → getD (r .sold) k 0 ≡ 0) (no-payments : (k : ℕ) → getD (r .paid) k 0 ≡ 0) where
@@ -135,4 +155,6 @@ module _ (r : Round) (l : List StationAccount) where
 
     pub credited-nothing : creditedTo r (length l) l ≡ l
     unfolding credited
-    credited-nothing = ext-getD (account 0 0) _ _ (credited-length (length l)) (λ k h. credited-at (length l) k (le-refl _) (rw credited-length at h) ∙ same-by _ k (accountAt l k))
+    credited-nothing =
+        ext-getD (account 0 0) _ _ (credited-length (length l))
+        (λ k h. credited-at (length l) k (le-refl _) (rw credited-length at h) ∙ same-by _ k (accountAt l k))

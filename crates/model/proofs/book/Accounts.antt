@@ -15,7 +15,9 @@ pub length-raised : (n : ℕ) (f : ℕ → ℕ) (xs : List ℕ) → length (rais
 unfolding raised
 length-raised n f xs = length-list (length xs) _
 
-pub getD-raised : (n : ℕ) (f : ℕ → ℕ) (xs : List ℕ) (k : ℕ) → k < length xs → getD (raised n f xs) k 0 ≡ getD xs k 0 + only (k <? n) (f k)
+pub getD-raised :
+    (n : ℕ) (f : ℕ → ℕ) (xs : List ℕ) (k : ℕ) → k < length xs
+    → getD (raised n f xs) k 0 ≡ getD xs k 0 + only (k <? n) (f k)
 unfolding raised
 getD-raised n f xs k l = getD-list (length xs) _ k l
 
@@ -26,14 +28,21 @@ sum-below n zero f l = let e : n ≡ 0 = omega arith in rw e
 sum-below n (suc m) f l = ⊎-elim
     (λ (h : m < n).
     let e : n ≡ suc m = omega arith in
-    rw e (omega (arith, sum-cong m (λ k. only (k <? suc m) (f k)) f (λ k lk. only-yes _ _ (is-lt k (suc m) (up lk))), only-yes (m <? suc m) (f m) (is-lt m (suc m) (omega arith)))))
+    rw e (omega (
+      arith,
+      sum-cong m (λ k. only (k <? suc m) (f k)) f (λ k lk. only-yes _ _ (is-lt k (suc m) (up lk))),
+      only-yes (m <? suc m) (f m) (is-lt m (suc m) (omega arith)),
+    )))
     (λ (h : n ≤ m). omega (arith, sum-below n m f h, only-no (m <? n) (f m) (not-lt m n h)))
     (lt-or-le m n)
 
-pub together-raised : (n : ℕ) (f : ℕ → ℕ) (xs : List ℕ) → n ≤ length xs → together (raised n f xs) ≡ together xs + sum n f
+pub together-raised :
+    (n : ℕ) (f : ℕ → ℕ) (xs : List ℕ) → n ≤ length xs → together (raised n f xs) ≡ together xs + sum n f
 unfolding together
-together-raised n f xs l = rw length-raised (sum-cong (length xs) _ (λ k. getD xs k 0 + only (k <? n) (f k)) (λ k q. getD-raised n f xs k q)
-    ∙ sum-add (length xs) (λ k. getD xs k 0) (λ k. only (k <? n) (f k)) ∙ ap (λ x. sum (length xs) (λ k. getD xs k 0) + x) (sum-below n (length xs) f l))
+together-raised n f xs l =
+    rw length-raised (sum-cong (length xs) _ (λ k. getD xs k 0 + only (k <? n) (f k)) (λ k q. getD-raised n f xs k q)
+    ∙ sum-add (length xs) (λ k. getD xs k 0) (λ k. only (k <? n) (f k))
+    ∙ ap (λ x. sum (length xs) (λ k. getD xs k 0) + x) (sum-below n (length xs) f l))
 
 pub together-zeros : (n : ℕ) → together (replicate n 0) ≡ 0
 unfolding together

@@ -13,7 +13,8 @@ use Rattle.model.specs.book.LentBook.{blank, plain, PlainDetermines}
 -- the records are theirs
 same-records : (l k : List StationAccount) → soldOf l ≡ soldOf k → paidOf l ≡ paidOf k → l ≡ k
 same-records l k e q = ext-getD (account 0 0) l k (sym (length-sold l) ∙ ap (λ xs. length xs) e ∙ length-sold k)
-    (λ j _. ap₂ account (sym (getD-sold l j) ∙ ap (λ xs. getD xs j 0) e ∙ getD-sold k j) (sym (getD-paid l j) ∙ ap (λ xs. getD xs j 0) q ∙ getD-paid k j))
+    (λ j _. ap₂ account (sym (getD-sold l j) ∙ ap (λ xs. getD xs j 0) e ∙ getD-sold k j)
+    (sym (getD-paid l j) ∙ ap (λ xs. getD xs j 0) q ∙ getD-paid k j))
 
 pub plain-determines : PlainDetermines
 unfolding plain
@@ -33,4 +34,5 @@ zero-paid (suc s) = ap (λ xs. 0 ∷ xs) (zero-paid s)
 
 pub plain-blank : (g s : ℕ) → plain (blank g s) ≡ empty g s
 unfolding plain blank empty
-plain-blank g s = λ x. record { guests = replicate g 0; sold = zero-sold s x; paid = zero-paid s x; house = 0; last = 0 }
+plain-blank g s =
+    λ x. record { guests = replicate g 0; sold = zero-sold s x; paid = zero-paid s x; house = 0; last = 0 }

@@ -4,7 +4,8 @@ use mathlib.Core.Path.{_≡_, refl, _∙_}
 use Rattle.model.specs.declared.refusal.Refusal.the-variants.{RoundOutOfTurn}
 use Rattle.model.specs.Counting.{_<?_, _≤?_, _=?_, _and_, _or_, only, sum, greatest, count, some, any, list}
 use Rattle.model.specs.Refusals.{accepted, refused, firstFault}
-use Rattle.model.specs.market.Market.{bidAt, marketBy, median, byNumber, market, cut, opens, screen, queue, before, rank, provisional, critical}
+use Rattle.model.specs.market.Market.{bidAt, marketBy, median, byNumber, market, cut, opens, screen, queue}
+use Rattle.model.specs.market.Market.{before, rank, provisional, critical}
 use Rattle.model.specs.market.Mechanism.{at, charge, charged, sold, paid, margin, better, best, surplus, truthful}
 use Rattle.model.specs.market.Outcome.{settle, seen, decided}
 use Rattle.model.specs.market.Faults.{outside, counts, lengths, values, marketFaults}
@@ -28,16 +29,26 @@ abbrev once : LentBook
 once = book (24 ∷ 0 ∷ []) (account 3 18 ∷ account 0 0 ∷ []) 6 1
 
 -- the plain book's answers, and its numbers after both
-plain-twice : (answers (empty 2 2) twice ≡ accepted ∷ refused RoundOutOfTurn ∷ []) × (final (empty 2 2) twice ≡ plain once)
-unfolding _<?_ _≤?_ _=?_ _and_ _or_ only sum greatest count some any list firstFault bidAt marketBy median byNumber market cut opens screen queue before rank provisional critical at charge charged sold paid margin better best surplus truthful settle seen decided outside counts lengths values marketFaults raised entered overLimit bookSize outOfTurn postingFaults pair caseE empty answer settled after answers final plain soldOf paidOf
+plain-twice :
+    (answers (empty 2 2) twice ≡ accepted ∷ refused RoundOutOfTurn ∷ []) × (final (empty 2 2) twice ≡ plain once)
+unfolding _<?_ _≤?_ _=?_ _and_ _or_ only sum greatest count some any list firstFault bidAt marketBy median byNumber
+    market cut opens screen queue before rank provisional critical at charge charged sold paid margin better best
+    surplus truthful settle seen decided outside counts lengths values marketFaults raised entered overLimit bookSize
+    outOfTurn postingFaults pair caseE empty answer settled after answers final plain soldOf paidOf
 plain-twice = (refl, refl)
 
 posted-once : Posted (blank 2 2) (posting caseE 1) accepted once
-unfolding _<?_ _≤?_ _=?_ _and_ _or_ only sum greatest count some any list firstFault bidAt marketBy median byNumber market cut opens screen queue before rank provisional critical at charge charged sold paid margin better best surplus truthful settle seen decided outside counts lengths values marketFaults raised entered overLimit bookSize outOfTurn postingFaults pair caseE empty answer settled after plain soldOf paidOf blank
+unfolding _<?_ _≤?_ _=?_ _and_ _or_ only sum greatest count some any list firstFault bidAt marketBy median byNumber
+    market cut opens screen queue before rank provisional critical at charge charged sold paid margin better best
+    surplus truthful settle seen decided outside counts lengths values marketFaults raised entered overLimit bookSize
+    outOfTurn postingFaults pair caseE empty answer settled after plain soldOf paidOf blank
 posted-once = record { answered = refl; left = refl }
 
 refused-again : Posted once (posting caseE 1) (refused RoundOutOfTurn) once
-unfolding _<?_ _≤?_ _=?_ _and_ _or_ only sum greatest count some any list firstFault bidAt marketBy median byNumber market cut opens screen queue before rank provisional critical at charge charged sold paid margin better best surplus truthful settle seen decided outside counts lengths values marketFaults raised entered overLimit bookSize outOfTurn postingFaults pair caseE empty answer settled after plain soldOf paidOf
+unfolding _<?_ _≤?_ _=?_ _and_ _or_ only sum greatest count some any list firstFault bidAt marketBy median byNumber
+    market cut opens screen queue before rank provisional critical at charge charged sold paid margin better best
+    surplus truthful settle seen decided outside counts lengths values marketFaults raised entered overLimit bookSize
+    outOfTurn postingFaults pair caseE empty answer settled after plain soldOf paidOf
 refused-again = record { answered = refl; left = refl }
 
 pub example-called : ExampleCalled

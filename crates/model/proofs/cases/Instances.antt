@@ -6,14 +6,17 @@ use lib.IntN.{pos, negsuc}
 use lib.ListN.{getD}
 use Rattle.model.specs.Counting.{_<?_, _≤?_, _=?_, _and_, _or_, only, sum, greatest, count, some, any}
 use Rattle.model.specs.Refusals.{firstFault}
-use Rattle.model.specs.market.Market.{bidAt, marketBy, median, byNumber, market, cut, opens, screen, queue, before, rank, provisional, critical}
-use Rattle.model.specs.market.Mechanism.{at, charge, charged, obtained, sold, paid, margin, better, best, surplus, truthful}
+use Rattle.model.specs.market.Market.{bidAt, marketBy, median, byNumber, market, cut, opens, screen, queue}
+use Rattle.model.specs.market.Market.{before, rank, provisional, critical}
+use Rattle.model.specs.market.Mechanism.{at, charge, charged, obtained, sold, paid, margin, better, best, surplus}
+use Rattle.model.specs.market.Mechanism.{truthful}
 use Rattle.model.specs.market.Outcome.{seen, decided}
 use Rattle.model.specs.market.Faults.{outside, counts, lengths, values, marketFaults, verdict, Accepted}
 use Rattle.model.specs.market.Gains.{guestGain, stationGain}
 use Rattle.model.specs.claims.Truth.{AlikeButForGuest, AlikeButForStation}
 use Rattle.model.specs.cases.Cases.{pair, caseE, caseG}
-use Rattle.model.specs.cases.Instances.{overbid, GuestInstance, costly, underasked, StationInstance, MenuInstance, LimitsInstance}
+use Rattle.model.specs.cases.Instances.{overbid, GuestInstance, costly, underasked, StationInstance, MenuInstance}
+use Rattle.model.specs.cases.Instances.{LimitsInstance}
 use Rattle.model.proofs.market.Pivots.{without, left-out, pivot, past, bar}
 use Rattle.model.proofs.market.Menus.{menu}
 use Rattle.model.proofs.claims.Truth.{guest-truthful, station-truthful, menu-of, clearing-limits}
@@ -36,7 +39,10 @@ pub record Numbers : Type 0 where
   pub margin-is : margin (seen caseE) (decided caseE) ≡ 6
 
 numbers : Numbers
-unfolding _<?_ _≤?_ _=?_ _and_ _or_ only sum greatest count some any firstFault bidAt marketBy median byNumber market cut opens screen queue before rank provisional critical at charge charged obtained sold paid margin better best surplus truthful seen decided outside counts lengths values marketFaults verdict guestGain stationGain pair caseE caseG overbid costly underasked without left-out pivot past bar menu
+unfolding _<?_ _≤?_ _=?_ _and_ _or_ only sum greatest count some any firstFault bidAt marketBy median byNumber market
+    cut opens screen queue before rank provisional critical at charge charged obtained sold paid margin better best
+    surplus truthful seen decided outside counts lengths values marketFaults verdict guestGain stationGain pair caseE
+    caseG overbid costly underasked without left-out pivot past bar menu
 numbers = record {
   accepted-G = refl;
   accepted-overbid = refl;
@@ -84,7 +90,8 @@ guest-instance = record {
   alike = guests-alike;
   truth-gains = numbers .G-gains;
   overbid-gains = numbers .overbid-gains;
-  no-more = guest-truthful median caseG overbid 1 (numbers .accepted-G) (numbers .accepted-overbid) second-of-two guests-alike;
+  no-more = guest-truthful median caseG overbid 1 (numbers .accepted-G) (numbers .accepted-overbid)
+      second-of-two guests-alike;
 }
 
 pub station-instance : StationInstance
@@ -95,7 +102,8 @@ station-instance = record {
   alike = stations-alike;
   truth-gains = numbers .costly-gains;
   underasked-gains = numbers .underasked-gains;
-  no-more = station-truthful median costly underasked 0 (numbers .accepted-costly) (numbers .accepted-underasked) (omega arith) stations-alike;
+  no-more = station-truthful median costly underasked 0 (numbers .accepted-costly) (numbers .accepted-underasked)
+      (omega arith) stations-alike;
 }
 
 pub menu-instance : MenuInstance

@@ -1,8 +1,10 @@
 -- The texts, by computation.
 use mathlib.Core.Path.{refl}
-use Rattle.model.specs.Counting.{_<?_, _≤?_, _=?_, _and_, _or_, only, sum, greatest, count, some, any, list, joined}
+use Rattle.model.specs.Counting.{_<?_, _≤?_, _=?_, _and_, _or_, only, sum, greatest, count, some, any, list}
+use Rattle.model.specs.Counting.{joined}
 use Rattle.model.specs.Refusals.{firstFault}
-use Rattle.model.specs.market.Market.{bidAt, marketBy, median, byNumber, market, cut, opens, screen, queue, before, rank, provisional, critical}
+use Rattle.model.specs.market.Market.{bidAt, marketBy, median, byNumber, market, cut, opens, screen, queue}
+use Rattle.model.specs.market.Market.{before, rank, provisional, critical}
 use Rattle.model.specs.market.Mechanism.{at, charge, charged, sold, paid, margin, better, best, surplus, truthful}
 use Rattle.model.specs.market.Outcome.{settle, seen, decided, outcome}
 use Rattle.model.specs.market.Faults.{outside, counts, lengths, values, marketFaults, verdict}
@@ -14,5 +16,9 @@ use Rattle.model.specs.cases.Cases.{pair, caseE, single}
 use Rattle.model.specs.cases.Texts.{textE, textNine, TextsHold}
 
 pub texts-hold : TextsHold
-unfolding _<?_ _≤?_ _=?_ _and_ _or_ only sum greatest count some any list joined firstFault bidAt marketBy median byNumber market cut opens screen queue before rank provisional critical at charge charged sold paid margin better best surplus truthful settle seen decided outcome outside counts lengths values marketFaults verdict higher digits decimal field guestLine stationLine guestLines stationLines text refusalText marketText marketTextOf pair caseE single textE textNine
+unfolding _<?_ _≤?_ _=?_ _and_ _or_ only sum greatest count some any list joined firstFault bidAt marketBy median
+    byNumber market cut opens screen queue before rank provisional critical at charge charged sold paid margin
+    better best surplus truthful settle seen decided outcome outside counts lengths values marketFaults verdict
+    higher digits decimal field guestLine stationLine guestLines stationLines text refusalText marketText
+    marketTextOf pair caseE single textE textNine
 texts-hold = record { case-e = refl; bid-too-high = refl }

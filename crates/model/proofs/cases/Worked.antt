@@ -1,4 +1,5 @@
--- The statements over calls at work, on case G of document 01: guest 2 overbids, then station 1 asks more than its cost.
+-- The statements over calls at work, on case G of document 01: guest 2 overbids, then station 1
+-- asks more than its cost.
 use Prim.Native.Nat.{ℕ, zero, suc, _<_}
 use mathlib.Core.List.{[], _∷_}
 use mathlib.Core.Path.{_≡_, refl}
@@ -8,7 +9,8 @@ use lib.IntN.{pos, negsuc}
 use lib.Signed.{_≤ℤ_}
 use Rattle.model.specs.Counting.{_<?_, _≤?_, _=?_, _and_, _or_, only, sum, greatest, count, some, any, list}
 use Rattle.model.specs.Refusals.{firstFault}
-use Rattle.model.specs.market.Market.{Tables, bidAt, marketBy, median, byNumber, market, cut, opens, screen, queue, before, rank, provisional, critical, tables}
+use Rattle.model.specs.market.Market.{Tables, bidAt, marketBy, median, byNumber, market, cut, opens, screen}
+use Rattle.model.specs.market.Market.{queue, before, rank, provisional, critical, tables}
 use Rattle.model.specs.market.Mechanism.{at, charge, charged, sold, paid, margin, better, best, surplus, truthful}
 use Rattle.model.specs.market.Outcome.{Results, settle, seen, decided, outcome, results}
 use Rattle.model.specs.market.Faults.{outside, counts, lengths, lent, values, clearingFaults}
@@ -34,15 +36,21 @@ abbrev pub overask : Tables
 overask = tables (7 ∷ 6 ∷ []) (1 ∷ 1 ∷ []) (3 ∷ 2 ∷ []) (9 ∷ 0 ∷ 10 ∷ 0 ∷ []) 2
 
 -- the three calls, by computation
-abbrev pub called : (t : Tables) (cut margin : ℕ) (exit : Results) → Clears t lists (Cleared cut margin) exit → ClearedCall t
+abbrev pub called :
+    (t : Tables) (cut margin : ℕ) (exit : Results) → Clears t lists (Cleared cut margin) exit → ClearedCall t
 called t cut margin exit c = record { entry = lists; cut = cut; margin = margin; exit = exit; call = c }
 
 pub calls : ClearedCall honest × ClearedCall overbid × ClearedCall overask
-unfolding answerTo resultsOf firstFault clearingFaults counts lengths lent values outside any some _<?_ _≤?_ _=?_ _and_ _or_ only sum greatest count list bidAt marketBy median byNumber market cut opens screen queue before rank provisional critical at charge charged sold paid margin better best surplus truthful settle seen decided outcome
+unfolding answerTo resultsOf firstFault clearingFaults counts lengths lent values outside any some _<?_ _≤?_ _=?_ _and_
+    _or_ only sum greatest count list bidAt marketBy median byNumber market cut opens screen queue before rank
+    provisional critical at charge charged sold paid margin better best surplus truthful settle seen decided outcome
 calls = (
-  called honest 6 2 (results (1 ∷ 0 ∷ []) (20 ∷ 0 ∷ []) (3 ∷ 0 ∷ []) (18 ∷ 0 ∷ [])) (record { answered = refl; left = refl }),
-  called overbid 6 15 (results (0 ∷ 1 ∷ []) (0 ∷ 27 ∷ []) (2 ∷ 0 ∷ []) (12 ∷ 0 ∷ [])) (record { answered = refl; left = refl }),
-  called overask 7 0 (results (0 ∷ 0 ∷ []) (0 ∷ 0 ∷ []) (0 ∷ 0 ∷ []) (0 ∷ 0 ∷ [])) (record { answered = refl; left = refl }),
+  called honest 6 2 (results (1 ∷ 0 ∷ []) (20 ∷ 0 ∷ []) (3 ∷ 0 ∷ []) (18 ∷ 0 ∷ []))
+      (record { answered = refl; left = refl }),
+  called overbid 6 15 (results (0 ∷ 1 ∷ []) (0 ∷ 27 ∷ []) (2 ∷ 0 ∷ []) (12 ∷ 0 ∷ []))
+      (record { answered = refl; left = refl }),
+  called overask 7 0 (results (0 ∷ 0 ∷ []) (0 ∷ 0 ∷ []) (0 ∷ 0 ∷ []) (0 ∷ 0 ∷ []))
+      (record { answered = refl; left = refl }),
 )
 
 -- the overbid loses guest 2 seven mills, where the truth gains it nothing

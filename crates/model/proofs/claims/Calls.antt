@@ -16,7 +16,8 @@ use Rattle.model.proofs.Counting.{sum-cong, count-cong, getD-list}
 use Rattle.model.proofs.market.Acceptance.{accepted-reads}
 use Rattle.model.proofs.claims.Truth.{guest-truthful, station-truthful, clearing-limits}
 use Rattle.model.specs.contracts.Clears.{answerTo, resultsOf}
-use Rattle.model.specs.claims.Calls.{RefusedLeaves, ClearedCall, guestGainIn, stationGainIn, GuestTruthfulCalls, StationTruthfulCalls, CallWithin, CallLimits}
+use Rattle.model.specs.claims.Calls.{RefusedLeaves, ClearedCall, guestGainIn, stationGainIn, GuestTruthfulCalls}
+use Rattle.model.specs.claims.Calls.{StationTruthfulCalls, CallWithin, CallLimits}
 use Rattle.model.specs.declared.answers.Clearing.the-variants.{Cleared, Refused}
 use Rattle.model.specs.declared.refusal.Refusal.{Refusal}
 use Rattle.model.proofs.contracts.Accepts.{accepts}
@@ -47,7 +48,10 @@ module _ (t : Tables) (k : ClearedCall t) where
 
   margin-is : k .margin ≡ margin (seen t) (decided t)
   unfolding answerTo outcome settle
-  margin-is = let e : Cleared (k .cut) (k .margin) ≡ Cleared ((outcome t) .cut) ((outcome t) .margin) = k .call .answered ∙ ap (λ v. answerTo v (outcome t)) no-fault in cc
+  margin-is =
+      let e : Cleared (k .cut) (k .margin) ≡ Cleared ((outcome t) .cut) ((outcome t) .margin) = k .call .answered
+      ∙ ap (λ v. answerTo v (outcome t)) no-fault in
+      cc
 
   station-of : (i : ℕ) → i < length (t .amounts) → getD (k .exit .stations) i 0 ≡ (decided t) .assigned i
   unfolding outcome settle seen screen market marketBy
@@ -66,17 +70,23 @@ module _ (t : Tables) (k : ClearedCall t) where
   paid-of j l = ap (λ r. getD (r .paid) j 0) leaves ∙ getD-list _ _ j l
 
   -- the gains that the lists show are those of the definitions
-  guest-gain : (w : ℕ → ℕ) (i : ℕ) → i < length (t .amounts) → guestGain (seen t) (decided t) w i ≡ guestGainIn t (k .exit) w i
+  guest-gain :
+      (w : ℕ → ℕ) (i : ℕ) → i < length (t .amounts) → guestGain (seen t) (decided t) w i ≡ guestGainIn t (k .exit) w i
   unfolding guestGain guestGainIn obtained seen screen market marketBy
   guest-gain w i l = ap₂ subℕ (ap (at (λ j. w j * getD (t .amounts) i 0)) (sym (station-of i l))) (sym (charge-of i l))
 
-  station-gain : (cost j : ℕ) → j < length (t .asks) → stationGain (seen t) (decided t) cost j ≡ stationGainIn (k .exit) cost j
+  station-gain :
+      (cost j : ℕ) → j < length (t .asks) → stationGain (seen t) (decided t) cost j ≡ stationGainIn (k .exit) cost j
   unfolding stationGain stationGainIn
   station-gain cost j l = ap₂ subℕ (sym (paid-of j l)) (ap (λ x. cost * x) (sym (sold-of j l)))
 
-  level : sum (length (t .amounts)) (λ i. getD (k .exit .charges) i 0) ≡ sum (length (t .asks)) (λ j. getD (k .exit .paid) j 0) + k .margin
+  level :
+      sum (length (t .amounts)) (λ i. getD (k .exit .charges) i 0)
+      ≡ sum (length (t .asks)) (λ j. getD (k .exit .paid) j 0) + k .margin
   unfolding seen screen market marketBy
-  level = sum-cong (length (t .amounts)) _ _ charge-of ∙ clearing-limits t is-accepted .balanced ∙ ap₂ _+_ (sum-cong (length (t .asks)) _ _ (λ j l. sym (paid-of j l))) (sym margin-is)
+  level =
+      sum-cong (length (t .amounts)) _ _ charge-of ∙ clearing-limits t is-accepted .balanced
+      ∙ ap₂ _+_ (sum-cong (length (t .asks)) _ _ (λ j l. sym (paid-of j l))) (sym margin-is)
 
   limits : CallWithin t (k .margin) (k .exit)
   unfolding served seen screen market marketBy
@@ -86,8 +96,11 @@ module _ (t : Tables) (k : ClearedCall t) where
         charge-within-bid = λ i j l e. rw (charge-of i l) (w .charge-within-bid i j l (sym (station-of i l) ∙ e));
         unassigned-free = λ i l e. charge-of i l ∙ w .unassigned-free i (sym (station-of i l) ∙ e);
         payment-covers-ask = λ j l. rw (sold-of j l, paid-of j l) (w .payment-covers-ask j);
-        sold-as-assigned = λ j l. sold-of j l ∙ w .sold-as-assigned j ∙ sum-cong (length (t .amounts)) _ _ (λ i li. ap (λ s. only (s =? suc j) (getD (t .amounts) i 0)) (sym (station-of i li)));
-        within-bays = λ j l. rw (count-cong (length (t .amounts)) _ (λ i. (decided t) .assigned i =? suc j) (λ i li. ap (λ s. s =? suc j) (station-of i li))) (w .within-bays j);
+        sold-as-assigned = λ j l. sold-of j l ∙ w .sold-as-assigned j
+            ∙ sum-cong (length (t .amounts)) _ _
+            (λ i li. ap (λ s. only (s =? suc j) (getD (t .amounts) i 0)) (sym (station-of i li)));
+        within-bays = λ j l. rw (count-cong (length (t .amounts)) _ (λ i. (decided t) .assigned i =? suc j)
+            (λ i li. ap (λ s. s =? suc j) (station-of i li))) (w .within-bays j);
         balanced = level;
         covered = omega (arith, level);
       }
@@ -95,12 +108,16 @@ module _ (t : Tables) (k : ClearedCall t) where
 pub guest-truthful-calls : GuestTruthfulCalls
 unfolding seen decided market
 guest-truthful-calls t t′ k k′ i l A =
-    rw (← guest-gain t k (bidAt t i) i l, ← guest-gain t′ k′ (bidAt t i) i (omega (arith, ap length (A .same-amounts)))) (guest-truthful median t t′ i (is-accepted t k) (is-accepted t′ k′) l A)
+    rw (← guest-gain t k (bidAt t i) i l, ← guest-gain t′ k′ (bidAt t i) i (omega (arith, ap length (A .same-amounts))))
+    (guest-truthful median t t′ i (is-accepted t k) (is-accepted t′ k′) l A)
 
 pub station-truthful-calls : StationTruthfulCalls
 unfolding seen decided market
 station-truthful-calls t t′ k k′ j l A =
-    rw (← station-gain t k (getD (t .asks) j 0) j l, ← station-gain t′ k′ (getD (t .asks) j 0) j (omega (arith, A .same-count))) (station-truthful median t t′ j (is-accepted t k) (is-accepted t′ k′) l A)
+    rw (
+      ← station-gain t k (getD (t .asks) j 0) j l,
+      ← station-gain t′ k′ (getD (t .asks) j 0) j (omega (arith, A .same-count)),
+    ) (station-truthful median t t′ j (is-accepted t k) (is-accepted t′ k′) l A)
 
 pub call-limits : CallLimits
 call-limits t k = limits t k

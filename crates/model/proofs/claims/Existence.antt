@@ -39,27 +39,41 @@ lent b = book (b .guests) (records (b .sold) (b .paid)) (b .house) (b .last)
 
 plain-lent : (b : Book) → length (b .sold) ≡ length (b .paid) → plain (lent b) ≡ b
 unfolding plain lent
-plain-lent b e = λ x. record { guests = b .guests; sold = records-sold (b .sold) (b .paid) e x; paid = records-paid (b .sold) (b .paid) e x; house = b .house; last = b .last }
+plain-lent b e =
+    λ x. record {
+      guests = b .guests;
+      sold = records-sold (b .sold) (b .paid) e x;
+      paid = records-paid (b .sold) (b .paid) e x;
+      house = b .house;
+      last = b .last;
+    }
 
 -- the two lists of stations are of one length, and stay so
 even-plain : (B : LentBook) → length (plain B .sold) ≡ length (plain B .paid)
 unfolding plain
 even-plain B = length-sold (B .stations) ∙ sym (length-paid (B .stations))
 
-by-verdict : (b : Book) (p : Posting) → length (b .sold) ≡ length (b .paid) → (v : Verdict) → length (settled v b p .sold) ≡ length (settled v b p .paid)
+by-verdict :
+    (b : Book) (p : Posting) → length (b .sold) ≡ length (b .paid) → (v : Verdict)
+    → length (settled v b p .sold) ≡ length (settled v b p .paid)
 unfolding settled entered
 by-verdict b p e accepted = length-raised _ _ _ ∙ e ∙ sym (length-raised _ _ _)
 by-verdict b p e (refused r) = e
 
-even-after : (b : Book) (p : Posting) → length (b .sold) ≡ length (b .paid) → length (after b p .sold) ≡ length (after b p .paid)
+even-after :
+    (b : Book) (p : Posting) → length (b .sold) ≡ length (b .paid) → length (after b p .sold) ≡ length (after b p .paid)
 unfolding after
 even-after b p e = by-verdict b p e (answer b p)
 
 calls-from : (B : LentBook) (ps : List Posting) → (vs : List Verdict) × (C : LentBook) × Calls B ps vs C
 calls-from B [] = ([], B, none)
 calls-from B (p ∷ ps) =
-    let (vs, C, c) = calls-from (lent (after (plain B) p)) ps in
-    (answer (plain B) p ∷ vs, C, call (record { answered = refl; left = plain-lent (after (plain B) p) (even-after (plain B) p (even-plain B)) }) c)
+    let (vs, C, c) = calls-from (lent (after (plain B) p)) ps in (
+      answer (plain B) p ∷ vs,
+      C,
+      call (record { answered = refl; left = plain-lent (after (plain B) p) (even-after (plain B) p (even-plain B)) })
+          c,
+    )
 
 pub calls-exist : CallsExist
 calls-exist g s ps = calls-from (blank g s) ps

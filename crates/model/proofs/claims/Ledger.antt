@@ -18,7 +18,8 @@ use Rattle.model.proofs.market.Acceptance.{posting-accepted-reads}
 use Rattle.model.proofs.claims.Truth.{balanced}
 use Rattle.model.proofs.book.Records.{length-sold, getD-sold, getD-paid}
 use Rattle.model.specs.book.Posting.{Posting, toGuest, toSold, toPaid, toHouse}
-use Rattle.model.specs.book.PlainBook.{empty, answer, settled, after, answers, final, kept, rounds, total, together}
+use Rattle.model.specs.book.PlainBook.{empty, answer, settled, after, answers, final, kept, rounds, total}
+use Rattle.model.specs.book.PlainBook.{together}
 use Rattle.model.specs.book.LentBook.{LentBook, blank, plain}
 use Rattle.model.specs.claims.Ledger.{Calls, none, call, Kept, BookKept}
 use Rattle.model.proofs.book.Accounts.{length-raised, getD-raised, together-raised, together-zeros}
@@ -32,20 +33,28 @@ fits : (B : Book) (p : Posting) → answer B p ≡ accepted → Fits B p
 unfolding answer
 fits B p e = posting-accepted-reads (p .tables) (p .round) B .0 e
 
--- a number of the book that a posted round raises by `more` is, after a list, what it was and the sum over the posted rounds; P is what the
+-- a number of the book that a posted round raises by `more` is, after a list, what it was and the sum over the posted
+-- rounds; P is what the
 -- number needs of the book, and a posted round keeps it
 module _ (P : Book → Type 0) (value : Book → ℕ) (more : Posting → ℕ)
     (keeps : (B : Book) (p : Posting) → Fits B p → P B → P (entered (p .tables) (p .round) B))
-    (raises : (B : Book) (p : Posting) → Fits B p → P B → value (entered (p .tables) (p .round) B) ≡ value B + more p) where
+    (raises : (B : Book) (p : Posting) → Fits B p → P B
+    → value (entered (p .tables) (p .round) B) ≡ value B + more p) where
   step : (ps : List Posting) (B : Book) (p : Posting) → P B
       → ((C : Book) → P C → P (final C ps) × (value (final C ps) ≡ value C + total more (rounds ps (answers C ps))))
       → (v : Verdict) → answer B p ≡ v
-      → P (final (after B p) ps) × (value (final (after B p) ps) ≡ value B + total more (kept (answer B p) p (rounds ps (answers (after B p) ps))))
+      → P (final (after B p) ps)
+      × (value (final (after B p) ps)
+      ≡ value B + total more (kept (answer B p) p (rounds ps (answers (after B p) ps))))
   unfolding after settled kept total
-  step ps B p h ih accepted e = let f = fits B p e in let i = ih (entered (p .tables) (p .round) B) (keeps B p f h) in rw e (i .0, omega (arith, i .1, raises B p f h))
+  step ps B p h ih accepted e =
+      let f = fits B p e in
+      let i = ih (entered (p .tables) (p .round) B) (keeps B p f h) in rw e (i .0, omega (arith, i .1, raises B p f h))
   step ps B p h ih (refused r) e = rw e (ih B h)
 
-  sums : (ps : List Posting) (B : Book) → P B → P (final B ps) × (value (final B ps) ≡ value B + total more (rounds ps (answers B ps)))
+  sums :
+      (ps : List Posting) (B : Book) → P B
+      → P (final B ps) × (value (final B ps) ≡ value B + total more (rounds ps (answers B ps)))
   unfolding final answers rounds total
   sums [] B h = (h, omega arith)
   sums (p ∷ ps) B h = step ps B p h (λ C k. sums ps C k) (answer B p) refl
@@ -69,9 +78,11 @@ sound-empty g s = record {
 }
   where
     zeros : (n : ℕ) → any (replicate n 0) (λ x. 1_000_000_000_000_000 <? x) ≡ false
-    zeros n = none-any _ _ (λ k l. not-lt _ _ (omega (arith, getD-replicate {A = ℕ} n k 0 0 (rw length-replicate at l))))
+    zeros n =
+        none-any _ _ (λ k l. not-lt _ _ (omega (arith, getD-replicate {A = ℕ} n k 0 0 (rw length-replicate at l))))
 
-sound-entered : (g s : ℕ) (B : Book) (p : Posting) → Fits B p → Sound g s B → Sound g s (entered (p .tables) (p .round) B)
+sound-entered :
+    (g s : ℕ) (B : Book) (p : Posting) → Fits B p → Sound g s B → Sound g s (entered (p .tables) (p .round) B)
 unfolding entered
 sound-entered g s B p f h = record {
   guests = length-raised _ _ _ ∙ h .guests;
@@ -82,7 +93,8 @@ sound-entered g s B p f h = record {
     h .level,
     balanced (p .tables),
     together-raised _ (charged (seen (p .tables)) (decided (p .tables))) (B .guests) (f .guests-least),
-    together-raised (length (p .tables .asks)) (paid (seen (p .tables)) (decided (p .tables))) (B .paid) (omega (arith, f .stations-least, h .sold, h .paid)),
+    together-raised (length (p .tables .asks)) (paid (seen (p .tables)) (decided (p .tables))) (B .paid)
+        (omega (arith, f .stations-least, h .sold, h .paid)),
   );
   within = f .within-after;
 }
@@ -93,42 +105,57 @@ module _ (g s : ℕ) (ps : List Posting) where
   E = empty g s
 
   -- the sum of a number that is 0 in the empty book
-  run : (value : Book → ℕ) (more : Posting → ℕ) → value E ≡ 0 → ((B : Book) (p : Posting) → Fits B p → Sound g s B → value (entered (p .tables) (p .round) B) ≡ value B + more p)
+  run :
+      (value : Book → ℕ) (more : Posting → ℕ) → value E ≡ 0
+      → ((B : Book) (p : Posting) → Fits B p → Sound g s B
+      → value (entered (p .tables) (p .round) B) ≡ value B + more p)
       → value (final E ps) ≡ total more (rounds ps (answers E ps))
-  run value more z raises = omega (arith, z, sums (Sound g s) value more (sound-entered g s) raises ps E (sound-empty g s) .1)
+  run value more z raises =
+      omega (arith, z, sums (Sound g s) value more (sound-entered g s) raises ps E (sound-empty g s) .1)
 
   sound-final : Sound g s (final E ps)
   sound-final = sums (Sound g s) (λ B. 0) (λ p. 0) (sound-entered g s) (λ B p f h. refl) ps E (sound-empty g s) .0
 
   guest-sum : (i : ℕ) → i < g → getD (final E ps .guests) i 0 ≡ total (toGuest i) (rounds ps (answers E ps))
   unfolding empty entered toGuest
-  guest-sum i l = run (λ B. getD (B .guests) i 0) (toGuest i) (getD-replicate {A = ℕ} g i 0 0 l) (λ B p f h. getD-raised _ _ (B .guests) i (rw (h .guests) l))
+  guest-sum i l =
+      run (λ B. getD (B .guests) i 0) (toGuest i) (getD-replicate {A = ℕ} g i 0 0 l)
+      (λ B p f h. getD-raised _ _ (B .guests) i (rw (h .guests) l))
 
   sold-sum : (j : ℕ) → j < s → getD (final E ps .sold) j 0 ≡ total (toSold j) (rounds ps (answers E ps))
   unfolding empty entered toSold
-  sold-sum j l = run (λ B. getD (B .sold) j 0) (toSold j) (getD-replicate {A = ℕ} s j 0 0 l) (λ B p f h. getD-raised _ _ (B .sold) j (rw (h .sold) l))
+  sold-sum j l =
+      run (λ B. getD (B .sold) j 0) (toSold j) (getD-replicate {A = ℕ} s j 0 0 l)
+      (λ B p f h. getD-raised _ _ (B .sold) j (rw (h .sold) l))
 
   paid-sum : (j : ℕ) → j < s → getD (final E ps .paid) j 0 ≡ total (toPaid j) (rounds ps (answers E ps))
   unfolding empty entered toPaid
-  paid-sum j l = run (λ B. getD (B .paid) j 0) (toPaid j) (getD-replicate {A = ℕ} s j 0 0 l) (λ B p f h. getD-raised _ _ (B .paid) j (rw (h .paid) l))
+  paid-sum j l =
+      run (λ B. getD (B .paid) j 0) (toPaid j) (getD-replicate {A = ℕ} s j 0 0 l)
+      (λ B p f h. getD-raised _ _ (B .paid) j (rw (h .paid) l))
 
   house-sum : final E ps .house ≡ total toHouse (rounds ps (answers E ps))
   unfolding empty entered toHouse
   house-sum = run (λ B. B .house) toHouse refl (λ B p f h. refl)
 
 -- the calls are the plain book's steps
-as-plain : {B C : LentBook} {ps : List Posting} {vs : List Verdict} → Calls B ps vs C → (vs ≡ answers (plain B) ps) × (plain C ≡ final (plain B) ps)
+as-plain :
+    {B C : LentBook} {ps : List Posting} {vs : List Verdict} → Calls B ps vs C
+    → (vs ≡ answers (plain B) ps) × (plain C ≡ final (plain B) ps)
 unfolding answers final
 as-plain none = (refl, refl)
 as-plain (call {ps = ps} h c) =
     let i = as-plain c in
     (ap₂ _∷_ (h .answered) (i .0 ∙ ap (λ b. answers b ps) (h .left)), i .1 ∙ ap (λ b. final b ps) (h .left))
 
-pub from-blank : (g s : ℕ) (ps : List Posting) {vs : List Verdict} {B : LentBook} → Calls (blank g s) ps vs B → (vs ≡ answers (empty g s) ps) × (plain B ≡ final (empty g s) ps)
+pub from-blank :
+    (g s : ℕ) (ps : List Posting) {vs : List Verdict} {B : LentBook} → Calls (blank g s) ps vs B
+    → (vs ≡ answers (empty g s) ps) × (plain B ≡ final (empty g s) ps)
 from-blank g s ps c = rw (← plain-blank g s) (as-plain c)
 
 -- what the plain book says of the lent one
-module _ (g s : ℕ) (ps : List Posting) (vs : List Verdict) (B : LentBook) (e : vs ≡ answers (empty g s) ps) (q : plain B ≡ final (empty g s) ps) where
+module _ (g s : ℕ) (ps : List Posting) (vs : List Verdict) (B : LentBook) (e : vs ≡ answers (empty g s) ps)
+    (q : plain B ≡ final (empty g s) ps) where
   sound : Sound g s (plain B)
   sound = rw q (sound-final g s ps)
 

@@ -15,12 +15,14 @@ use Rattle.model.specs.market.Mechanism.{at, charged, obtained, sold, pa
 use Rattle.model.specs.market.Outcome.{seen, decided}
 use Rattle.model.specs.market.Faults.{Accepted}
 use Rattle.model.specs.market.Gains.{guestGain, stationGain}
-use Rattle.model.specs.claims.Truth.{AlikeButForGuest, AlikeButForStation, GuestTruthful, StationTruthful, SignedReads, choice, MenuOf, GuestMenu, ClearingLimits}
+use Rattle.model.specs.claims.Truth.{AlikeButForGuest, AlikeButForStation, GuestTruthful, StationTruthful}
+use Rattle.model.specs.claims.Truth.{SignedReads, choice, MenuOf, GuestMenu, ClearingLimits}
 use Rattle.model.proofs.Tests.{lt-or-le}
 use Rattle.model.proofs.market.Acceptance.{accepted-reads}
 use Rattle.model.proofs.market.Decisions.{charged-within-bid, payment-covers-ask, balance}
 use Rattle.model.proofs.market.Truthful.{numbers-differ, truthful-candidates, truthful-fair}
-use Rattle.model.proofs.market.Menus.{choice-truth, menu, menu-below, menu-near, rebid, menu-assigned, menu-charged}
+use Rattle.model.proofs.market.Menus.{choice-truth, menu, menu-below, menu-near, rebid, menu-assigned}
+use Rattle.model.proofs.market.Menus.{menu-charged}
 use Rattle.model.proofs.market.Stations.{reask, station-truth}
 
 -- ---- signed gains
@@ -29,7 +31,8 @@ signed : (a b c d : ℕ) → T (leZ (subℕ a b) (subℕ c d)) → a + d ≤ c +
 signed a b c d = go (ltb a b) refl (ltb c d) refl
   where
     go : (x : Bool) → ltb a b ≡ x → (y : Bool) → ltb c d ≡ y
-        → T (leZ (cond x (negsuc (b - suc a)) (pos (a - b))) (cond y (negsuc (d - suc c)) (pos (c - d)))) → a + d ≤ c + b
+        → T (leZ (cond x (negsuc (b - suc a)) (pos (a - b)))
+        (cond y (negsuc (d - suc c)) (pos (c - d)))) → a + d ≤ c + b
     go true p true q h = omega (arith, ltb-true a b p, ltb-true c d q, leb→le (d - suc c) (b - suc a) h)
     go true p false q h = omega (arith, ltb-true a b p, ltb-false c d q)
     go false p true q h = absurd h
@@ -71,9 +74,12 @@ module _ (rule : ℕ → ℕ) (t : Tables) (i : ℕ) (a : Accepted t) (li : i < 
   -- in N guest i is assigned its choice by the totals that it states there, and charged the price
   abbrev ByMenu : Market → Type 0
   ByMenu N = ((truthful (screen N)) .assigned i ≡ choice (length (t .asks)) (menu M i) ((screen N) .total i))
-      × (charged (screen N) (truthful (screen N)) i ≡ at ((menu M i) .price) (choice (length (t .asks)) (menu M i) ((screen N) .total i)))
+      × (charged (screen N) (truthful (screen N)) i
+      ≡ at ((menu M i) .price) (choice (length (t .asks)) (menu M i) ((screen N) .total i)))
 
-  rebid-by-menu : (b : ℕ → ℕ → ℕ) → ((k j : ℕ) → k < length (t .amounts) → j < length (t .asks) → (k ≡ i → ⊥) → b k j ≡ bidAt t k j) → ByMenu (rebid M b)
+  rebid-by-menu :
+      (b : ℕ → ℕ → ℕ) → ((k j : ℕ) → k < length (t .amounts) → j < length (t .asks) → (k ≡ i → ⊥) → b k j ≡ bidAt t k j)
+      → ByMenu (rebid M b)
   unfolding marketBy
   rebid-by-menu b alike =
       let w = accepted-reads t .0 a in (
@@ -89,22 +95,29 @@ module _ (rule : ℕ → ℕ) (t : Tables) (i : ℕ) (a : Accepted t) (li : i < 
   worths j = bidAt t i j * (screen M) .amount i
 
   by-worths : ((truthful (screen M)) .assigned i ≡ choice (length (t .asks)) (menu M i) worths)
-      × (charged (screen M) (truthful (screen M)) i ≡ at ((menu M i) .price) (choice (length (t .asks)) (menu M i) worths))
+      × (charged (screen M) (truthful (screen M)) i
+      ≡ at ((menu M i) .price) (choice (length (t .asks)) (menu M i) worths))
   unfolding worths screen marketBy
   by-worths = rebid-by-menu (bidAt t) (λ k j lk lj n. refl)
 
   obtained-worths : (t′ : Tables) → AlikeButForGuest t t′ i → let S′ = screen (marketBy rule byNumber t′) in
       obtained S′ (truthful S′) (bidAt t i) i ≡ at worths ((truthful S′) .assigned i)
   unfolding obtained worths screen marketBy
-  obtained-worths t′ A = ap (λ x. at (λ j. bidAt t i j * getD x i 0) ((truthful (screen (marketBy rule byNumber t′))) .assigned i)) (A .same-amounts)
+  obtained-worths t′ A =
+      ap (λ x. at (λ j. bidAt t i j * getD x i 0) ((truthful (screen (marketBy rule byNumber t′))) .assigned i))
+      (A .same-amounts)
 
-  gains-no-more : (t′ : Tables) → AlikeButForGuest t t′ i → let S = screen M in let S′ = screen (marketBy rule byNumber t′) in
-      obtained S′ (truthful S′) (bidAt t i) i + charged S (truthful S) i ≤ obtained S (truthful S) (bidAt t i) i + charged S′ (truthful S′) i
+  gains-no-more :
+      (t′ : Tables) → AlikeButForGuest t t′ i → let S = screen M in let S′ = screen (marketBy rule byNumber t′) in
+      obtained S′ (truthful S′) (bidAt t i) i + charged S (truthful S) i
+      ≤ obtained S (truthful S) (bidAt t i) i + charged S′ (truthful S′) i
   gains-no-more t′ A =
       let (e, c) = by-worths in
       let (e′, c′) = by-menu t′ A in
-      let own = obtained-worths t (record { same-asks = refl; same-bays = refl; same-amounts = refl; same-bids = λ k j lk lj n. refl }) in
-      rw (obtained-worths t′ A, own, e′, e, c′, c) (choice-truth (length (t .asks)) (menu M i) (menu-below M i) (menu-near M i) worths _)
+      let own = obtained-worths t
+      (record { same-asks = refl; same-bays = refl; same-amounts = refl; same-bids = λ k j lk lj n. refl }) in
+      rw (obtained-worths t′ A, own, e′, e, c′, c)
+      (choice-truth (length (t .asks)) (menu M i) (menu-below M i) (menu-near M i) worths _)
 
 pub guest-truthful : GuestTruthful
 unfolding guestGain
@@ -143,28 +156,37 @@ module _ (t t′ : Tables) (j : ℕ) (A : AlikeButForStation t t′ j) where
   asks-same : (k : ℕ) → (k ≡ j → ⊥) → getD (t′ .asks) k 0 ≡ getD (t .asks) k 0
   asks-same k n = ⊎-elim
       (λ (l : k < length (t .asks)). A .same-asks k l n)
-      (λ (l : length (t .asks) ≤ k). List·getD-eq-default (t′ .asks) 0 (let l′ : length (t′ .asks) ≤ k = omega (arith, A .same-count) in l′) ∙ sym (List·getD-eq-default (t .asks) 0 l))
+      (λ (l : length (t .asks) ≤ k). List·getD-eq-default (t′ .asks) 0
+      (let l′ : length (t′ .asks) ≤ k = omega (arith, A .same-count) in l′)
+      ∙ sym (List·getD-eq-default (t .asks) 0 l))
       (lt-or-le k (length (t .asks)))
 
 module _ (rule : ℕ → ℕ) (t : Tables) (j : ℕ) where
   -- in N station j gains no more, with its ask in t as its cost
   abbrev NoMore : Market → Type 0
   NoMore N = let S = screen (marketBy rule byNumber t) in let S′ = screen N in
-      paid S′ (truthful S′) j + getD (t .asks) j 0 * sold S (truthful S) j ≤ paid S (truthful S) j + getD (t .asks) j 0 * sold S′ (truthful S′) j
+      paid S′ (truthful S′) j + getD (t .asks) j 0 * sold S (truthful S) j
+      ≤ paid S (truthful S) j + getD (t .asks) j 0 * sold S′ (truthful S′) j
 
-  reask-no-more : (a : ℕ → ℕ) → ((k : ℕ) → (k ≡ j → ⊥) → a k ≡ getD (t .asks) k 0) → NoMore (reask (marketBy rule byNumber t) a)
+  reask-no-more :
+      (a : ℕ → ℕ) → ((k : ℕ) → (k ≡ j → ⊥) → a k ≡ getD (t .asks) k 0) → NoMore (reask (marketBy rule byNumber t) a)
   unfolding marketBy
-  reask-no-more a alike = station-truth truthful truthful-candidates (marketBy rule byNumber t) j a (λ k n. sym (alike k n))
+  reask-no-more a alike =
+      station-truth truthful truthful-candidates (marketBy rule byNumber t) j a (λ k n. sym (alike k n))
 
 pub station-truthful : StationTruthful
 unfolding stationGain
 station-truthful rule t t′ j a a′ lj A = signed-reads _ _ _ _ .1
-    (subst (NoMore rule t j) (reask-market t t′ j A rule byNumber) (reask-no-more rule t j (λ k. getD (t′ .asks) k 0) (asks-same t t′ j A)))
+    (subst (NoMore rule t j) (reask-market t t′ j A rule byNumber)
+    (reask-no-more rule t j (λ k. getD (t′ .asks) k 0) (asks-same t t′ j A)))
 
 -- ---- the limits of every clearing
 
 -- accepted or not, the charges are the payments and the margin
-pub balanced : (t : Tables) → sum (length (t .amounts)) (charged (seen t) (decided t)) ≡ sum (length (t .asks)) (paid (seen t) (decided t)) + margin (seen t) (decided t)
+pub balanced :
+    (t : Tables)
+    → sum (length (t .amounts)) (charged (seen t) (decided t))
+    ≡ sum (length (t .asks)) (paid (seen t) (decided t)) + margin (seen t) (decided t)
 unfolding seen decided market marketBy screen
 balanced t = balance (seen t) (decided t) (truthful-candidates (seen t))
 

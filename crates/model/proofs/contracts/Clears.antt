@@ -19,7 +19,9 @@ use Rattle.model.specs.contracts.Clears.{answerTo, resultsOf, Clears}
 use Rattle.model.specs.declared.answers.Clearing.{Clearing}
 use Rattle.model.specs.declared.answers.Clearing.the-variants.{Cleared, Refused}
 
-without-third : (a b : Row) (x : Bool) (r : Refusal) (rows : List Row) → x ≡ false → firstFault (a ∷ b ∷ (x gives r) ∷ rows) ≡ firstFault (a ∷ b ∷ rows)
+without-third :
+    (a b : Row) (x : Bool) (r : Refusal) (rows : List Row) → x ≡ false
+    → firstFault (a ∷ b ∷ (x gives r) ∷ rows) ≡ firstFault (a ∷ b ∷ rows)
 unfolding firstFault
 without-third (true gives _) b x r rows e = refl
 without-third (false gives _) (true gives _) x r rows e = refl
@@ -27,7 +29,9 @@ without-third (false gives _) (false gives _) x r rows e = rw e
 
 -- parts of arrays of the greatest size
 pub lengths : (t : Tables) → length (t .amounts) ≤ maxGuests → length (t .asks) ≤ maxStations
-    → RightLengths t (results (take (length (t .amounts)) (replicate maxGuests 0)) (take (length (t .amounts)) (replicate maxGuests 0)) (take (length (t .asks)) (replicate maxStations 0)) (take (length (t .asks)) (replicate maxStations 0)))
+    → RightLengths t (results (take (length (t .amounts)) (replicate maxGuests 0))
+    (take (length (t .amounts)) (replicate maxGuests 0)) (take (length (t .asks)) (replicate maxStations 0))
+    (take (length (t .asks)) (replicate maxStations 0)))
 lengths t n m = record {
   stations-long = sym (zeros-long maxGuests _ n);
   charges-long = sym (zeros-long maxGuests _ n);
@@ -38,7 +42,8 @@ lengths t n m = record {
 same-verdict : (t : Tables) (r : Results) → RightLengths t r → firstFault (clearingFaults t r) ≡ verdict t
 unfolding clearingFaults verdict marketFaults lent
 same-verdict t r l = without-third _ _ _ _ _
-    (neither (neither (neither (same _ _ (l .stations-long)) (same _ _ (l .charges-long))) (same _ _ (l .sold-long))) (same _ _ (l .paid-long)))
+    (neither (neither (neither (same _ _ (l .stations-long)) (same _ _ (l .charges-long))) (same _ _ (l .sold-long)))
+    (same _ _ (l .paid-long)))
   where
     same : (x y : ℕ) → x ≡ y → not (x =? y) ≡ false
     same x y e = ap not (is-eq x y e)
@@ -50,7 +55,8 @@ pub record ClearedAs (t : Tables) (k m : ℕ) (exit : Results) : Type 0 where
   pub margin-is : m ≡ (outcome t) .margin
   pub results-are : exit ≡ (outcome t) .results
 
-module _ (t : Tables) (entry exit : Results) (answer : Clearing) (c : Clears t entry answer exit) (l : RightLengths t entry) where
+module _ (t : Tables) (entry exit : Results) (answer : Clearing) (c : Clears t entry answer exit)
+    (l : RightLengths t entry) where
   said : answer ≡ answerTo (verdict t) (outcome t)
   said = c .answered ∙ ap (λ v. answerTo v (outcome t)) (same-verdict t entry l)
 
@@ -65,7 +71,9 @@ module _ (t : Tables) (entry exit : Results) (answer : Clearing) (c : Clears t e
   pub clear-refused : (x : Refusal) → answer ≡ Refused x → verdict t ≡ refused x
   clear-refused x q = answer-refused x (verdict t) (sym said ∙ q)
 
-  answer-cleared : (k m : ℕ) (v : Verdict) → verdict t ≡ v → answerTo v (outcome t) ≡ Cleared k m → exit ≡ resultsOf v (outcome t) entry → ClearedAs t k m exit
+  answer-cleared :
+      (k m : ℕ) (v : Verdict) → verdict t ≡ v → answerTo v (outcome t) ≡ Cleared k m
+      → exit ≡ resultsOf v (outcome t) entry → ClearedAs t k m exit
   unfolding answerTo resultsOf
   answer-cleared k m accepted e q x = record { is-accepted = e; cut-is = cc; margin-is = cc; results-are = x }
   answer-cleared k m (refused y) e q x = absurd (let z : _≡_ {A = ℕ} 0 1 = cc in omega arith)

@@ -17,19 +17,28 @@ module _ (t : Tables) (entry exit : Results) (answer : Clearing) (c : Clears t e
   abbrev found : Verdict
   found = firstFault (clearingFaults t entry)
 
-  clears-by : (v : Verdict) → found ≡ v → (r cut′ margin′ : ℕ) → r ≡ code v → cut′ ≡ given v ((outcome t) .cut) cut → margin′ ≡ given v ((outcome t) .margin) margin
+  clears-by :
+      (v : Verdict) → found ≡ v → (r cut′ margin′ : ℕ) → r ≡ code v → cut′ ≡ given v ((outcome t) .cut) cut
+      → margin′ ≡ given v ((outcome t) .margin) margin
       → ClearsOut t entry cut margin r exit cut′ margin′
-  clears-by v e r cut′ margin′ a b d = record { code-is = rw e a; results-are = c .left; cut-is = rw e b; margin-is = rw e d }
+  clears-by v e r cut′ margin′ a b d =
+      record { code-is = rw e a; results-are = c .left; cut-is = rw e b; margin-is = rw e d }
 
-  refused-as : (x : Refusal) (r : ℕ) (v : Verdict) → found ≡ v → answerTo v (outcome t) ≡ clearing.Refused x → r ≡ number x → ClearsOut t entry cut margin r exit cut margin
+  refused-as :
+      (x : Refusal) (r : ℕ) (v : Verdict) → found ≡ v → answerTo v (outcome t) ≡ clearing.Refused x → r ≡ number x
+      → ClearsOut t entry cut margin r exit cut margin
   unfolding answerTo code given
   refused-as x r accepted e q p = absurd (let z : _≡_ {A = ℕ} 0 1 = cc in omega arith)
   refused-as x r (refused y) e q p = let same : y ≡ x = cc in clears-by (refused y) e r cut margin (rw same p) refl refl
 
-  pub clears-refused : (x : Refusal) (r : ℕ) → answer ≡ clearing.Refused x → r ≡ number x → ClearsOut t entry cut margin r exit cut margin
+  pub clears-refused :
+      (x : Refusal) (r : ℕ) → answer ≡ clearing.Refused x → r ≡ number x
+      → ClearsOut t entry cut margin r exit cut margin
   clears-refused x r q p = refused-as x r _ refl (sym (c .answered) ∙ q) p
 
-  cleared-as : (a b : ℕ) (v : Verdict) → found ≡ v → answerTo v (outcome t) ≡ clearing.Cleared a b → ClearsOut t entry cut margin 0 exit a b
+  cleared-as :
+      (a b : ℕ) (v : Verdict) → found ≡ v → answerTo v (outcome t) ≡ clearing.Cleared a b
+      → ClearsOut t entry cut margin 0 exit a b
   unfolding answerTo code given
   cleared-as a b accepted e q = clears-by accepted e 0 a b refl (cc) (cc)
   cleared-as a b (refused y) e q = absurd (let z : _≡_ {A = ℕ} 0 1 = cc in omega arith)

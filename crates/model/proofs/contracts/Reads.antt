@@ -47,8 +47,12 @@ take-over : (xs l y : List ℕ) (n : ℕ) → y ≡ over xs l → length xs ≡ 
 unfolding over
 take-over xs l y n e h = ap (take n) e ∙ take-at xs (drop (length xs) l) n h
 
-lent-good : (a b c d : ℕ) → a ≡ 200 → b ≡ 40 → c ≡ 40 → d ≡ 8000 → (not (a =? 200) or not (b =? 40) or not (c =? 40) or not (d =? 8000)) ≡ false
-lent-good a b c d la lb lc ld = neither (neither (neither (ap not (is-eq a 200 la)) (ap not (is-eq b 40 lb))) (ap not (is-eq c 40 lc))) (ap not (is-eq d 8000 ld))
+lent-good :
+    (a b c d : ℕ) → a ≡ 200 → b ≡ 40 → c ≡ 40 → d ≡ 8000
+    → (not (a =? 200) or not (b =? 40) or not (c =? 40) or not (d =? 8000)) ≡ false
+lent-good a b c d la lb lc ld =
+    neither (neither (neither (ap not (is-eq a 200 la)) (ap not (is-eq b 40 lb))) (ap not (is-eq c 40 lc)))
+    (ap not (is-eq d 8000 ld))
 
 module _ (s a b c d a′ b′ c′ d′ : List ℕ) (r : Reading) (k : Reads s a b c d r a′ b′ c′ d′) where
   found : Verdict
@@ -56,7 +60,8 @@ module _ (s a b c d a′ b′ c′ d′ : List ℕ) (r : Reading) (k : Reads s a
 
   -- the tables, once the verdict is known
   module _ (v : found ≡ accepted) where
-    over-table : (table : Tables → List ℕ) (l : List ℕ) → written (readInto a b c d s) table l ≡ over (table (tablesOf s)) l
+    over-table :
+        (table : Tables → List ℕ) (l : List ℕ) → written (readInto a b c d s) table l ≡ over (table (tablesOf s)) l
     unfolding readInto contentBy written found
     over-table table l = rw v refl
 
@@ -68,7 +73,9 @@ module _ (s a b c d a′ b′ c′ d′ : List ℕ) (r : Reading) (k : Reads s a
       let t = sheet-sound s z in
       let few : n ≤ 200 = omega (arith, t .few) in
       let narrow : m ≤ 40 = omega (arith, t .narrow) in
-      let a-long = length-list _ _ ∙ sym f in let b-long = length-list _ _ ∙ sym g in let c-long = length-list _ _ ∙ sym g in
+      let a-long = length-list _ _ ∙ sym f in
+      let b-long = length-list _ _ ∙ sym g in
+      let c-long = length-list _ _ ∙ sym g in
       let d-long = joined-length _ _ (bidOf s (stations s)) ∙ sym (ap₂ _*_ f g) in
       record {
         reads = rw z refl;
@@ -88,10 +95,13 @@ module _ (s a b c d a′ b′ c′ d′ : List ℕ) (r : Reading) (k : Reads s a
       }
 
   -- a refused sheet, where the tables had the right lengths
-  pub read-fault : (x : Refusal) → length a ≡ maxGuests → length b ≡ maxStations → length c ≡ maxStations → length d ≡ maxGuests * maxStations → r ≡ Refused x → readSheet s ≡ fault x
+  pub read-fault :
+      (x : Refusal) → length a ≡ maxGuests → length b ≡ maxStations → length c ≡ maxStations
+      → length d ≡ maxGuests * maxStations → r ≡ Refused x → readSheet s ≡ fault x
   unfolding readInto readSheet contentBy lentTables
   read-fault x la lb lc ld e =
       let l = lent-good _ _ _ _ la lb lc ld in
-      let w = told-refused (firstFault (lentTables (length a) (length b) (length c) (length d) ∷ sheetFaults s)) (tablesOf s) x r (k .answers) e in
+      let w = told-refused (firstFault (lentTables (length a) (length b) (length c) (length d) ∷ sheetFaults s))
+      (tablesOf s) x r (k .answers) e in
       let v : firstFault (sheetFaults s) ≡ refused x = sym (fault-later LentLengths (sheetFaults s) l) ∙ w in
       rw v refl

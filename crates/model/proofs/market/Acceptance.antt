@@ -11,18 +11,23 @@ use Rattle.model.specs.Limits.{maxGuests, maxStations, maxPrice}
 use Rattle.model.specs.Counting.{_<?_, _=?_, _or_, any}
 use Rattle.model.specs.Refusals.{accepted, firstFault}
 use Rattle.model.specs.market.Market.{Tables}
-use Rattle.model.specs.market.Faults.{outside, counts, lengths, lent, values, marketFaults, verdict, Accepted, clearingFaults}
+use Rattle.model.specs.market.Faults.{outside, counts, lengths, lent, values, marketFaults, verdict, Accepted}
+use Rattle.model.specs.market.Faults.{clearingFaults}
 use Rattle.model.specs.book.Book.{Book}
 use Rattle.model.specs.book.Faults.{bookSize, outOfTurn, postingFaults}
 use Rattle.model.specs.market.Outcome.{Results}
-use Rattle.model.specs.claims.Readings.{WithinLimits, AcceptedReads, CallWithinLimits, CallAcceptedReads, PostingWithinLimits, PostingAcceptedReads}
+use Rattle.model.specs.claims.Readings.{WithinLimits, AcceptedReads, CallWithinLimits, CallAcceptedReads}
+use Rattle.model.specs.claims.Readings.{PostingWithinLimits, PostingAcceptedReads}
 use Rattle.model.proofs.Tests.{or-no, neither, lt-no, not-lt, le-no, not-le, eq-yes, eq-no, is-eq, not-eq}
 use Rattle.model.proofs.Counting.{any-no, none-any}
 use Rattle.model.proofs.Refusals.{fault-none, no-fault, no-faults, fault-second, fault-free}
 
 -- counts within the limits
-pub counted : (n m : ℕ) → (maxGuests <? n or m =? 0 or maxStations <? m) ≡ false → (n ≤ maxGuests) × (1 ≤ m) × (m ≤ maxStations)
-counted n m e = let (a, most) = or-no _ _ e in let (guests, some) = or-no _ _ a in (lt-no _ _ guests, omega (arith, eq-no _ _ some), lt-no _ _ most)
+pub counted :
+    (n m : ℕ) → (maxGuests <? n or m =? 0 or maxStations <? m) ≡ false → (n ≤ maxGuests) × (1 ≤ m) × (m ≤ maxStations)
+counted n m e =
+    let (a, most) = or-no _ _ e in
+    let (guests, some) = or-no _ _ a in (lt-no _ _ guests, omega (arith, eq-no _ _ some), lt-no _ _ most)
 
 pub product-fits : (n m : ℕ) → n ≤ maxGuests → m ≤ maxStations → n * m ≤ maxGuests * maxStations
 product-fits n m a b = omega (arith, mul-le-mul-right m a)
@@ -35,7 +40,9 @@ pub not-outside : (low high x : ℕ) → low ≤ x → x ≤ high → outside lo
 unfolding outside
 not-outside low high x l h = neither (not-lt _ _ l) (not-lt _ _ h)
 
-all-inside : (low high : ℕ) (xs : List ℕ) → any xs (outside low high) ≡ false → (k : ℕ) → k < length xs → (low ≤ getD xs k 0) × (getD xs k 0 ≤ high)
+all-inside :
+    (low high : ℕ) (xs : List ℕ) → any xs (outside low high) ≡ false → (k : ℕ) → k < length xs
+    → (low ≤ getD xs k 0) × (getD xs k 0 ≤ high)
 all-inside low high xs e k l = inside low high _ (any-no xs _ e k l)
 
 equal : (a b : ℕ) → not (a =? b) ≡ false → a ≡ b
@@ -75,10 +82,14 @@ within t e =
 accept : (t : Tables) → WithinLimits t → Accepted t
 unfolding verdict marketFaults counts lengths values
 accept t w =
-    fault-free _ _ (neither (neither (not-lt _ _ (w .guests-most)) (not-eq (length (t .asks)) 0 (λ q. omega (arith, w .stations-least)))) (not-lt _ _ (w .stations-most)))
-    (fault-free _ _ (neither (neither (not-unequal _ _ (w .bays-length)) (not-unequal _ _ (w .bids-length))) (not-unequal _ _ (w .width-is)))
+    fault-free _ _ (neither
+    (neither (not-lt _ _ (w .guests-most)) (not-eq (length (t .asks)) 0 (λ q. omega (arith, w .stations-least))))
+    (not-lt _ _ (w .stations-most)))
+    (fault-free _ _ (neither (neither (not-unequal _ _ (w .bays-length)) (not-unequal _ _ (w .bids-length)))
+    (not-unequal _ _ (w .width-is)))
     (fault-free _ _ (none-any (t .asks) _ (λ j lj. not-outside 0 maxPrice _ (omega arith) (w .ask-most j lj)))
-    (fault-free _ _ (none-any (t .bays) _ (λ j lj. let l : j < length (t .asks) = omega (arith, w .bays-length) in not-outside _ _ _ (w .bays-least j l) (w .bays-most j l)))
+    (fault-free _ _ (none-any (t .bays) _ (λ j lj. let l : j < length (t .asks) = omega (arith, w .bays-length) in
+    not-outside _ _ _ (w .bays-least j l) (w .bays-most j l)))
     (fault-free _ _ (none-any (t .amounts) _ (λ i li. not-outside _ _ _ (w .amount-least i li) (w .amount-most i li)))
     (fault-free _ _ (none-any (t .bids) _ (λ q lq. not-outside 0 maxPrice _ (omega arith) (w .bid-most q lq)))
     fault-none)))))
@@ -97,7 +108,12 @@ call-within t r e =
     let (stations, charges) = or-no _ _ k01 in
     record {
       market-accepted = fault-free _ _ c (fault-free _ _ l e3);
-      lists-fit = record { stations-long = equal _ _ stations; charges-long = equal _ _ charges; sold-long = equal _ _ sold; paid-long = equal _ _ paid };
+      lists-fit = record {
+        stations-long = equal _ _ stations;
+        charges-long = equal _ _ charges;
+        sold-long = equal _ _ sold;
+        paid-long = equal _ _ paid;
+      };
     }
 
 call-accept : (t : Tables) (r : Results) → CallWithinLimits t r → firstFault (clearingFaults t r) ≡ accepted
@@ -106,13 +122,17 @@ call-accept t r w =
     let (c, e1) = no-fault _ _ _ (w .market-accepted) in
     let (l, e2) = no-fault _ _ _ e1 in
     fault-free _ _ c (fault-free _ _ l (fault-free _ _
-    (neither (neither (neither (not-unequal _ _ (w .lists-fit .stations-long)) (not-unequal _ _ (w .lists-fit .charges-long))) (not-unequal _ _ (w .lists-fit .sold-long))) (not-unequal _ _ (w .lists-fit .paid-long)))
+    (neither (neither
+    (neither (not-unequal _ _ (w .lists-fit .stations-long)) (not-unequal _ _ (w .lists-fit .charges-long)))
+    (not-unequal _ _ (w .lists-fit .sold-long))) (not-unequal _ _ (w .lists-fit .paid-long)))
     e2))
 
 pub call-accepted-reads : CallAcceptedReads
 call-accepted-reads t r = (call-within t r, call-accept t r)
 
-posting-within : (t : Tables) (round : ℕ) (B : Book) → firstFault (postingFaults t round B) ≡ accepted → PostingWithinLimits t round B
+posting-within :
+    (t : Tables) (round : ℕ) (B : Book) → firstFault (postingFaults t round B) ≡ accepted
+    → PostingWithinLimits t round B
 unfolding verdict postingFaults bookSize outOfTurn
 posting-within t round B e =
     let (m, e1) = no-faults (marketFaults t) _ e in
@@ -134,11 +154,14 @@ posting-within t round B e =
       within-after = after;
     }
 
-posting-accept : (t : Tables) (round : ℕ) (B : Book) → PostingWithinLimits t round B → firstFault (postingFaults t round B) ≡ accepted
+posting-accept :
+    (t : Tables) (round : ℕ) (B : Book) → PostingWithinLimits t round B
+    → firstFault (postingFaults t round B) ≡ accepted
 unfolding verdict postingFaults bookSize outOfTurn
 posting-accept t round B w =
     rw (fault-second (marketFaults t) _ (w .market-accepted))
-    (fault-free _ _ (neither (not-outside _ _ _ (w .guests-least) (w .guests-most)) (not-outside _ _ _ (w .stations-least) (w .stations-most)))
+    (fault-free _ _ (neither (not-outside _ _ _ (w .guests-least) (w .guests-most))
+    (not-outside _ _ _ (w .stations-least) (w .stations-most)))
     (fault-free _ _ (neither (not-le _ _ (w .rounds-left)) (not-unequal _ _ (w .next-round)))
     (fault-free _ _ (neither (w .within-before) (w .within-after))
     fault-none)))

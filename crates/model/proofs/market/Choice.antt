@@ -16,7 +16,9 @@ unfolding best better
 best-holds zero h g j e = absurd (let z : _≡_ {A = ℕ} 0 (suc j) = e in omega arith)
 best-holds (suc m) h g j e = go (h m) refl (best m h g) refl e (best-holds m h g j)
   where
-    go : (b : Bool) → h m ≡ b → (r : ℕ) → best m h g ≡ r → better b g m r ≡ suc j → (r ≡ suc j → (j < m) × (h j ≡ true)) → (j < suc m) × (h j ≡ true)
+    go :
+        (b : Bool) → h m ≡ b → (r : ℕ) → best m h g ≡ r → better b g m r ≡ suc j → (r ≡ suc j → (j < m) × (h j ≡ true))
+        → (j < suc m) × (h j ≡ true)
     go false q r p e ih = (up (ih e .0), ih e .1)
     go true q zero p e ih = let s : m ≡ j = omega arith in (omega arith, rw s at q)
     go true q (suc k) p e ih = ⊎-elim
@@ -25,7 +27,8 @@ best-holds (suc m) h g j e = go (h m) refl (best m h g) refl e (best-holds m h g
         (decide (g k <? g m))
 
 -- a step keeps what was as good, and takes what is better
-step : (b : Bool) (g : ℕ → ℕ) (m k : ℕ) → (x : ℕ) × (better b g m (suc k) ≡ suc x) × (g k ≤ g x) × (b ≡ true → g m ≤ g x)
+step :
+    (b : Bool) (g : ℕ → ℕ) (m k : ℕ) → (x : ℕ) × (better b g m (suc k) ≡ suc x) × (g k ≤ g x) × (b ≡ true → g m ≤ g x)
 unfolding better
 step false g m k = (k, refl, le-refl (g k), λ e. absurd (clash e refl))
 step true g m k = ⊎-elim
@@ -40,12 +43,14 @@ start true g m zero e = (m, refl, le-refl (g m))
 start true g m (suc k) e = let s = step true g m k in (s .0, s .1, s .3 refl)
 
 -- where one holds, something at least as good is chosen
-pub best-best : (m : ℕ) (h : ℕ → Bool) (g : ℕ → ℕ) (j : ℕ) → j < m → h j ≡ true → (k : ℕ) × (best m h g ≡ suc k) × (g j ≤ g k)
+pub best-best :
+    (m : ℕ) (h : ℕ → Bool) (g : ℕ → ℕ) (j : ℕ) → j < m → h j ≡ true → (k : ℕ) × (best m h g ≡ suc k) × (g j ≤ g k)
 unfolding best
 best-best zero h g j l p = absurd (not-suc-le-zero l)
 best-best (suc m) h g j l p = ⊎-elim
     (λ (e : j ≡ m). rw e (start (h m) g m (best m h g) (rw e at p)))
-    (λ (q : j < m). let i = best-best m h g j q p in let s = step (h m) g m (i .0) in rw (i .1) (s .0, s .1, omega arith))
+    (λ (q : j < m). let i = best-best m h g j q p in
+    let s = step (h m) g m (i .0) in rw (i .1) (s .0, s .1, omega arith))
     (eq-or-lt-of-le (le-of-suc-le-suc l))
 
 -- of those as good, the lowest is chosen
@@ -71,12 +76,15 @@ best-lowest (suc m) h g j k e l p = go (h m) refl (best m h g) refl e (λ q. bes
 -- nothing is chosen where nothing is on offer
 pub best-none : (m : ℕ) (h : ℕ → Bool) (g : ℕ → ℕ) → best m h g ≡ 0 → (j : ℕ) → j < m → h j ≡ false
 best-none m h g e j l = ⊎-elim
-    (λ (p : h j ≡ true). absurd (let c = best-best m h g j l p in let z : _≡_ {A = ℕ} 0 (suc (c .0)) = sym e ∙ c .1 in omega arith))
+    (λ (p : h j ≡ true). absurd
+    (let c = best-best m h g j l p in let z : _≡_ {A = ℕ} 0 (suc (c .0)) = sym e ∙ c .1 in omega arith))
     (λ p. p)
     (decide (h j))
 
 -- it depends on what holds below m, and on the values of those
-pub best-cong : (m : ℕ) (h h′ : ℕ → Bool) (g g′ : ℕ → ℕ) → ((k : ℕ) → k < m → h k ≡ h′ k) → ((k : ℕ) → k < m → h′ k ≡ true → g k ≡ g′ k) → best m h g ≡ best m h′ g′
+pub best-cong :
+    (m : ℕ) (h h′ : ℕ → Bool) (g g′ : ℕ → ℕ) → ((k : ℕ) → k < m → h k ≡ h′ k)
+    → ((k : ℕ) → k < m → h′ k ≡ true → g k ≡ g′ k) → best m h g ≡ best m h′ g′
 unfolding best better
 best-cong zero h h′ g g′ p q = refl
 best-cong (suc m) h h′ g g′ p q = rw (p m here, best-cong m h h′ g g′ (λ k l. p k (up l)) (λ k l. q k (up l)))

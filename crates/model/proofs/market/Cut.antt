@@ -10,8 +10,10 @@ use lib.ListN.{getD, length}
 use Rattle.model.specs.Counting.{_<?_, _≤?_, _=?_, only, sum, count}
 use Rattle.model.specs.market.Market.{Market, marketBy, median, cut}
 use Rattle.model.specs.claims.Readings.{Rising, Rearranged, RisingOrderExists, CutReads, MedianReads}
-use Rattle.model.proofs.Tests.{decide, clash, lt-yes, is-lt, not-lt, le-yes, le-no, eq-yes, is-eq, not-eq, lt-or-le, only-le, le-only, only-yes, only-no}
-use Rattle.model.proofs.Counting.{sum-cong, sum-swap, sum-single, sum-zero, sum-front, count-mono, count-none, count-initial, count-some, search-below, le-greatest, greatest-le}
+use Rattle.model.proofs.Tests.{decide, clash, lt-yes, is-lt, not-lt, le-yes, le-no, eq-yes, is-eq, not-eq}
+use Rattle.model.proofs.Tests.{lt-or-le, only-le, le-only, only-yes, only-no}
+use Rattle.model.proofs.Counting.{sum-cong, sum-swap, sum-single, sum-zero, sum-front, count-mono, count-none}
+use Rattle.model.proofs.Counting.{count-initial, count-some, search-below, le-greatest, greatest-le}
 
 -- ---- a rising order, by insertion
 
@@ -57,7 +59,8 @@ often-rising v (x ∷ xs) = omega (arith, often-insert v x (rising xs), often-ri
 count-often : (v : ℕ) (l : List ℕ) → count (length l) (λ k. getD l k 0 =? v) ≡ often v l
 unfolding count often sum
 count-often v [] = refl
-count-often v (x ∷ xs) = sum-front (length xs) (λ k. only (getD (x ∷ xs) k 0 =? v) 1) ∙ ap (λ n. only (x =? v) 1 + n) (count-often v xs)
+count-often v (x ∷ xs) =
+    sum-front (length xs) (λ k. only (getD (x ∷ xs) k 0 =? v) 1) ∙ ap (λ n. only (x =? v) 1 + n) (count-often v xs)
 
 -- each element is at least x; a list in rising order, from the front
 abbrev Above : ℕ → List ℕ → Type 0
@@ -85,7 +88,8 @@ unfolding insert
 rises-insert x [] r = (tt, tt)
 rises-insert x (y ∷ ys) r = ⊎-elim
     (λ (e : x ≤? y ≡ true). rw e ((le-yes x y e, above-less x y ys (le-yes x y e) (r .0)), r))
-    (λ (e : x ≤? y ≡ false). rw e (above-insert y x ys (let l : y < x = le-no x y e in omega arith) (r .0), rises-insert x ys (r .1)))
+    (λ (e : x ≤? y ≡ false). rw e
+    (above-insert y x ys (let l : y < x = le-no x y e in omega arith) (r .0), rises-insert x ys (r .1)))
     (decide (x ≤? y))
 
 rises-rising : (l : List ℕ) → Rises (rising l)
@@ -109,29 +113,42 @@ pub rising-order-exists : RisingOrderExists
 rising-order-exists l = (
   rising l,
   record { rises = rises-at (rising l) (rises-rising l) },
-  record { as-long = length-rising l; as-often = λ v. count-often v (rising l) ∙ often-rising v l ∙ sym (count-often v l) },
+  record {
+    as-long = length-rising l;
+    as-often = λ v. count-often v (rising l) ∙ often-rising v l ∙ sym (count-often v l);
+  },
 )
 
 -- ---- the cut
 
 -- an ask that fewer than `position` asks lie below is at most the cut
-pub le-cut : (M : Market) (j : ℕ) → j < M .stations → count (M .stations) (λ k. M .ask k <? M .ask j) < M .position → M .ask j ≤ cut M
+pub le-cut :
+    (M : Market) (j : ℕ) → j < M .stations
+    → count (M .stations) (λ k. M .ask k <? M .ask j) < M .position → M .ask j ≤ cut M
 unfolding cut
 le-cut M j lj h = le-trans (le-only _ _ (is-lt _ _ h))
-    (le-greatest (M .stations) (λ j. only (count (M .stations) (λ k. M .ask k <? M .ask j) <? M .position) (M .ask j)) j lj)
+    (le-greatest (M .stations)
+    (λ j. only (count (M .stations) (λ k. M .ask k <? M .ask j) <? M .position) (M .ask j)) j lj)
 
 -- those below v, by how often each number below v occurs
-below-often : (l : List ℕ) (v : ℕ) → count (length l) (λ k. getD l k 0 <? v) ≡ sum v (λ u. count (length l) (λ k. getD l k 0 =? u))
+below-often :
+    (l : List ℕ) (v : ℕ)
+    → count (length l) (λ k. getD l k 0 <? v) ≡ sum v (λ u. count (length l) (λ k. getD l k 0 =? u))
 unfolding count
-below-often l v = sum-cong (length l) _ _ (λ k lk. one (getD l k 0)) ∙ sum-swap (length l) v (λ k u. only (getD l k 0 =? u) 1)
+below-often l v =
+    sum-cong (length l) _ _ (λ k lk. one (getD l k 0)) ∙ sum-swap (length l) v (λ k u. only (getD l k 0 =? u) 1)
   where
     one : (x : ℕ) → only (x <? v) 1 ≡ sum v (λ u. only (x =? u) 1)
     one x = ⊎-elim
-        (λ (h : x < v). only-yes _ 1 (is-lt x v h) ∙ sym (sum-single v _ x h (λ u lu n. only-no _ 1 (not-eq x u (λ e. n (sym e)))) ∙ only-yes _ 1 (is-eq x x refl)))
-        (λ (h : v ≤ x). only-no _ 1 (not-lt x v h) ∙ sym (sum-zero v _ (λ u lu. only-no _ 1 (not-eq x u (λ e. omega arith)))))
+        (λ (h : x < v). only-yes _ 1 (is-lt x v h)
+        ∙ sym
+        (sum-single v _ x h (λ u lu n. only-no _ 1 (not-eq x u (λ e. n (sym e)))) ∙ only-yes _ 1 (is-eq x x refl)))
+        (λ (h : v ≤ x). only-no _ 1 (not-lt x v h)
+        ∙ sym (sum-zero v _ (λ u lu. only-no _ 1 (not-eq x u (λ e. omega arith)))))
         (lt-or-le x v)
 
-module _ (M : Market) (l s : List ℕ) (rs : Rising s) (rl : Rearranged s l) (sm : M .stations ≡ length l) (sa : M .ask ≡ (λ j. getD l j 0))
+module _ (M : Market) (l s : List ℕ) (rs : Rising s) (rl : Rearranged s l) (sm : M .stations ≡ length l)
+    (sa : M .ask ≡ (λ j. getD l j 0))
     (p : ℕ) (sp : M .position ≡ suc p) (lp : p < length l) where
   lps : p < length s
   lps = omega (arith, rl .as-long)
@@ -142,14 +159,18 @@ module _ (M : Market) (l s : List ℕ) (rs : Rising s) (rl : Rearranged s l) (sm
 
   -- more than p lie below whatever is above the one at p, and no more than p below that one
   more : (a : ℕ) → getD s p 0 < a → p < count (length s) (λ k. getD s k 0 <? a)
-  more a h = le-trans (let e : suc p ≡ count (length s) (λ k. k <? suc p) = sym (count-initial (length s) (suc p) lps) in omega arith)
-      (count-mono (length s) _ _ (λ k lk q. is-lt _ _ (let b : k < suc p = lt-yes _ _ q in omega (arith, rs .rises k p (le-of-suc-le-suc b) lps))))
+  more a h =
+      le-trans
+      (let e : suc p ≡ count (length s) (λ k. k <? suc p) = sym (count-initial (length s) (suc p) lps) in omega arith)
+      (count-mono (length s) _ _ (λ k lk q. is-lt _ _
+      (let b : k < suc p = lt-yes _ _ q in omega (arith, rs .rises k p (le-of-suc-le-suc b) lps))))
 
   fewer : count (length s) (λ k. getD s k 0 <? getD s p 0) ≤ p
   fewer = le-trans (count-mono (length s) _ (λ k. k <? p) (λ k lk q. is-lt _ _ (⊎-elim
       (λ (b : k < p). b)
       (λ (b : p ≤ k). absurd (omega (arith, lt-yes _ _ q, rs .rises p k b lk)))
-      (lt-or-le k p)))) (let e = count-initial (length s) p (let b : p ≤ length s = omega (arith, lps) in b) in omega arith)
+      (lt-or-le k p))))
+      (let e = count-initial (length s) p (let b : p ≤ length s = omega (arith, lps) in b) in omega arith)
 
   at-position : cut M ≡ getD s p 0
   unfolding cut
@@ -179,4 +200,5 @@ cut-reads rule key t s rs rl low high = at-position (marketBy rule key t) (t .as
 
 pub median-reads : MedianReads
 unfolding median
-median-reads m h = record { reaches = omega arith; least = λ p q. omega arith; from-one = omega arith; to-m = omega arith }
+median-reads m h =
+    record { reaches = omega arith; least = λ p q. omega arith; from-one = omega arith; to-m = omega arith }

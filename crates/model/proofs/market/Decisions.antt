@@ -27,20 +27,34 @@ module _ (S : Screened) (D : Decision) (C : Candidates S D) where
   part i j = only (D .assigned i =? suc j) (S .amount i)
 
   -- a guest's charge is the cut for its kWh, which one station sells, and its part of the margin
-  charge-parts : (i : ℕ) → i < S .guests → charged S D i ≡ S .cut * sum (S .stations) (part i) + at (λ j. charge S D i j - S .cut * S .amount i) (D .assigned i)
+  charge-parts :
+      (i : ℕ) → i < S .guests
+      → charged S D i
+      ≡ S .cut * sum (S .stations) (part i) + at (λ j. charge S D i j - S .cut * S .amount i) (D .assigned i)
   unfolding charged charge at part
   charge-parts i li = go (D .assigned i) refl
     where
-      go : (r : ℕ) → D .assigned i ≡ r → at (charge S D i) r ≡ S .cut * sum (S .stations) (λ j. only (r =? suc j) (S .amount i)) + at (λ j. charge S D i j - S .cut * S .amount i) r
-      go zero e = rw (sum-zero (S .stations) _ (λ j lj. only-no _ _ (not-eq 0 (suc j) (λ q. omega arith)))) (omega arith)
-      go (suc k) e = rw (sum-single (S .stations) _ k (C i k li e .0) (λ j lj n. only-no _ _ (not-eq (suc k) (suc j) (λ q. n (omega arith)))), only-yes _ (S .amount i) (is-eq (suc k) (suc k) refl)) (omega arith)
+      go :
+          (r : ℕ) → D .assigned i ≡ r
+          → at (charge S D i) r
+          ≡ S .cut * sum (S .stations) (λ j. only (r =? suc j) (S .amount i))
+          + at (λ j. charge S D i j - S .cut * S .amount i) r
+      go zero e =
+          rw (sum-zero (S .stations) _ (λ j lj. only-no _ _ (not-eq 0 (suc j) (λ q. omega arith)))) (omega arith)
+      go (suc k) e =
+          rw (
+            sum-single (S .stations) _ k (C i k li e .0)
+                (λ j lj n. only-no _ _ (not-eq (suc k) (suc j) (λ q. n (omega arith)))),
+            only-yes _ (S .amount i) (is-eq (suc k) (suc k) refl),
+          ) (omega arith)
 
   -- the charges are the payments and the margin
   pub balance : sum (S .guests) (charged S D) ≡ sum (S .stations) (paid S D) + margin S D
   unfolding paid sold margin part
   balance =
       let payments : sum (S .stations) (paid S D) ≡ sum (S .guests) (λ i. S .cut * sum (S .stations) (part i)) =
-      sum-scale (S .stations) (S .cut) (sold S D) ∙ ap (λ x. S .cut * x) (sym (sum-swap (S .guests) (S .stations) part)) ∙ sym (sum-scale (S .guests) (S .cut) (λ i. sum (S .stations) (part i))) in
+      sum-scale (S .stations) (S .cut) (sold S D) ∙ ap (λ x. S .cut * x) (sym (sum-swap (S .guests) (S .stations) part))
+      ∙ sym (sum-scale (S .guests) (S .cut) (λ i. sum (S .stations) (part i))) in
       sum-cong (S .guests) _ _ charge-parts ∙ sum-add (S .guests) _ _ ∙ ap (λ x. x + margin S D) (sym payments)
 
 pub candidate-open : (M : Market) (i j : ℕ) → (screen M) .candidate i j ≡ true → opens M j ≡ true
@@ -55,17 +69,23 @@ module _ (M : Market) (D : Decision) (C : Candidates (screen M) D) where
   -- a station that is not open sells nothing
   pub closed-sells-nothing : (j : ℕ) → opens M j ≡ false → sold (screen M) D j ≡ 0
   unfolding sold screen
-  closed-sells-nothing j o = sum-zero (M .guests) _ (λ i li. only-no _ _ (not-eq _ _ (λ e. clash (candidate-open M i j (C i j li e .1)) o)))
+  closed-sells-nothing j o =
+      sum-zero (M .guests) _ (λ i li. only-no _ _ (not-eq _ _ (λ e. clash (candidate-open M i j (C i j li e .1)) o)))
 
   -- a station is paid at least what it asks for what it sold
   pub payment-covers-ask : (j : ℕ) → M .ask j * sold (screen M) D j ≤ paid (screen M) D j
   unfolding paid opens screen
   payment-covers-ask j = ⊎-elim
-      (λ (o : opens M j ≡ true). mul-le-mul-right (sold (screen M) D j) (let l : M .ask j < cut M = lt-yes _ _ o in omega arith))
+      (λ (o : opens M j ≡ true). mul-le-mul-right (sold (screen M) D j)
+      (let l : M .ask j < cut M = lt-yes _ _ o in omega arith))
       (λ (o : opens M j ≡ false). rw (closed-sells-nothing j o) (omega arith))
       (decide (opens M j))
 
 -- no guest is charged more than its bid comes to
-pub charged-within-bid : (M : Market) (D : Decision) → Fair (screen M) D → (i j : ℕ) → i < M .guests → D .assigned i ≡ suc j → charged (screen M) D i ≤ M .bid i j * M .amount i
+pub charged-within-bid :
+    (M : Market) (D : Decision) → Fair (screen M) D → (i j : ℕ) → i < M .guests → D .assigned i ≡ suc j
+    → charged (screen M) D i ≤ M .bid i j * M .amount i
 unfolding charged at charge screen
-charged-within-bid M D F i j li e = rw e (omega (arith, mul-le-mul-right (M .amount i) (candidate-bid M i j (F .candidates i j li e .1)), F .under i j li e))
+charged-within-bid M D F i j li e =
+    rw e
+    (omega (arith, mul-le-mul-right (M .amount i) (candidate-bid M i j (F .candidates i j li e .1)), F .under i j li e))

@@ -11,13 +11,15 @@ use Rattle.model.specs.market.Mechanism.{at, charge, charged, surplus, t
 use Rattle.model.specs.claims.Truth.{Menu, choice}
 use Rattle.model.proofs.Tests.{both, first, second, same-test, le-yes, is-le, lt-or-le}
 use Rattle.model.proofs.market.Choice.{best-holds, best-best, best-cong}
-use Rattle.model.proofs.market.Pivots.{pivot, bar, critical-pivot, bar-provisional, provisional-bar, pivot-le-bar, bar-le-pivot, pivot-same, bar-same}
+use Rattle.model.proofs.market.Pivots.{pivot, bar, critical-pivot, bar-provisional, provisional-bar}
+use Rattle.model.proofs.market.Pivots.{pivot-le-bar, bar-le-pivot, pivot-same, bar-same}
 use Rattle.model.proofs.market.Decisions.{candidate-open, candidate-bid}
 use Rattle.model.proofs.market.Truthful.{Keys, assigned-to-best, candidate-held}
 
 -- ---- a choice by the true totals w is worth no less than one by any others, r
 
-module _ (m : ℕ) (U : Menu) (below : (j : ℕ) → U .price j ≤ U .bar j) (near : (j : ℕ) → U .bar j ≤ U .price j + 1) (w r : ℕ → ℕ) where
+module _ (m : ℕ) (U : Menu) (below : (j : ℕ) → U .price j ≤ U .bar j)
+    (near : (j : ℕ) → U .bar j ≤ U .price j + 1) (w r : ℕ → ℕ) where
   price-covered : at (U .price) (choice m U w) ≤ at w (choice m U w)
   unfolding at choice
   price-covered = go (choice m U w) refl
@@ -26,7 +28,8 @@ module _ (m : ℕ) (U : Menu) (below : (j : ℕ) → U .price j ≤ U .bar j) (n
       go zero e = omega arith
       go (suc j) e = let h = best-holds _ _ _ j e .1 in omega (arith, below j, le-yes _ _ (second _ _ h))
 
-  pub choice-truth : at w (choice m U r) + at (U .price) (choice m U w) ≤ at w (choice m U w) + at (U .price) (choice m U r)
+  pub choice-truth :
+      at w (choice m U r) + at (U .price) (choice m U w) ≤ at w (choice m U w) + at (U .price) (choice m U r)
   unfolding at choice
   choice-truth = go (choice m U r) refl
     where
@@ -36,7 +39,8 @@ module _ (m : ℕ) (U : Menu) (below : (j : ℕ) → U .price j ≤ U .bar j) (n
           let (lj, h) = best-holds _ _ _ j e in
           ⊎-elim
           (λ (l : U .price j < w j).
-          let (k, q, s) = best-best m (λ j. U .offered j and U .bar j ≤? w j) (λ j. w j - U .price j) j lj (both (first _ _ h) (is-le _ _ (omega (arith, near j)))) in
+          let (k, q, s) = best-best m (λ j. U .offered j and U .bar j ≤? w j) (λ j. w j - U .price j) j lj
+          (both (first _ _ h) (is-le _ _ (omega (arith, near j)))) in
           let c = price-covered in
           rw q (omega (arith, s, rw q at c)))
           (λ l. omega (arith, price-covered))
@@ -73,9 +77,11 @@ rebid M b = record {
 }
 
 -- at one station, where the others bid the same there: the menu says whether i wins, and its charge
-module _ (M : Market) (K : Keys (M .key) (M .guests)) (i : ℕ) (li : i < M .guests) (some : 1 ≤ M .amount i) (b : ℕ → ℕ → ℕ) (j : ℕ) (bays : 1 ≤ M .capacity j)
+module _ (M : Market) (K : Keys (M .key) (M .guests)) (i : ℕ) (li : i < M .guests) (some : 1 ≤ M .amount i)
+    (b : ℕ → ℕ → ℕ) (j : ℕ) (bays : 1 ≤ M .capacity j)
     (alike : (k : ℕ) → k < M .guests → (k ≡ i → ⊥) → b k j ≡ M .bid k j) where
-  candidates-same : (k : ℕ) → k < M .guests → (k ≡ i → ⊥) → (screen M) .candidate k j ≡ (screen (rebid M b)) .candidate k j
+  candidates-same :
+      (k : ℕ) → k < M .guests → (k ≡ i → ⊥) → (screen M) .candidate k j ≡ (screen (rebid M b)) .candidate k j
   unfolding screen cut opens
   candidates-same k lk n = ap (λ x. opens M j and cut M ≤? x) (sym (alike k lk n))
 
@@ -91,12 +97,19 @@ module _ (M : Market) (K : Keys (M .key) (M .guests)) (i : ℕ) (li : i < M .gue
   unfolding queue screen
   pivots-same = pivot-same (queue (screen M) j) _ _ i candidates-same totals-same
 
-  pub menu-provisional : provisional (queue (screen (rebid M b)) j) i ≡ ((menu M i) .offered j and (menu M i) .bar j ≤? b i j * M .amount i)
+  pub menu-provisional :
+      provisional (queue (screen (rebid M b)) j) i
+      ≡ ((menu M i) .offered j and (menu M i) .bar j ≤? b i j * M .amount i)
   unfolding menu queue screen cut opens
   menu-provisional = same-test _ _
       (λ h. let c = candidate-held (screen (rebid M b)) i j h in
       both (candidate-open (rebid M b) i j c)
-      (is-le _ _ (omega (arith, mul-le-mul-right (M .amount i) (candidate-bid (rebid M b) i j c), bars-same, provisional-bar (queue (screen (rebid M b)) j) K i li h))))
+      (is-le _ _ (omega (
+        arith,
+        mul-le-mul-right (M .amount i) (candidate-bid (rebid M b) i j c),
+        bars-same,
+        provisional-bar (queue (screen (rebid M b)) j) K i li h,
+      ))))
       (λ e.
       let l : (menu M i) .bar j ≤ b i j * M .amount i = le-yes _ _ (second _ _ e) in
       bar-provisional (queue (screen (rebid M b)) j) K i li
@@ -106,11 +119,15 @@ module _ (M : Market) (K : Keys (M .key) (M .guests)) (i : ℕ) (li : i < M .gue
       (lt-or-le (b i j) (cut M)))))
       bays (omega (arith, bars-same)))
 
-  pub menu-charge : provisional (queue (screen (rebid M b)) j) i ≡ true → charge (screen (rebid M b)) (truthful (screen (rebid M b))) i j ≡ (menu M i) .price j
+  pub menu-charge :
+      provisional (queue (screen (rebid M b)) j) i ≡ true
+      → charge (screen (rebid M b)) (truthful (screen (rebid M b))) i j ≡ (menu M i) .price j
   unfolding menu charge truthful queue screen cut
-  menu-charge h = ap (max (cut M * M .amount i)) (critical-pivot (queue (screen (rebid M b)) j) K i li h ∙ sym pivots-same)
+  menu-charge h =
+      ap (max (cut M * M .amount i)) (critical-pivot (queue (screen (rebid M b)) j) K i li h ∙ sym pivots-same)
 
-module _ (M : Market) (K : Keys (M .key) (M .guests)) (i : ℕ) (li : i < M .guests) (some : 1 ≤ M .amount i) (bays : (j : ℕ) → j < M .stations → 1 ≤ M .capacity j)
+module _ (M : Market) (K : Keys (M .key) (M .guests)) (i : ℕ) (li : i < M .guests) (some : 1 ≤ M .amount i)
+    (bays : (j : ℕ) → j < M .stations → 1 ≤ M .capacity j)
     (b : ℕ → ℕ → ℕ) (alike : (k j : ℕ) → k < M .guests → j < M .stations → (k ≡ i → ⊥) → b k j ≡ M .bid k j) where
   abbrev S′ : Screened
   S′ = screen (rebid M b)
@@ -119,7 +136,8 @@ module _ (M : Market) (K : Keys (M .key) (M .guests)) (i : ℕ) (li : i < M .gue
   unfolding choice truthful surplus charge screen
   menu-assigned = best-cong (M .stations) _ _ _ _
       (λ j lj. menu-provisional M K i li some b j (bays j lj) (λ k lk n. alike k j lk lj n))
-      (λ j lj h. ap (λ x. b i j * M .amount i - x) (menu-charge M K i li some b j (bays j lj) (λ k lk n. alike k j lk lj n)
+      (λ j lj h. ap (λ x. b i j * M .amount i - x) (menu-charge M K i li some b j (bays j lj)
+      (λ k lk n. alike k j lk lj n)
       (menu-provisional M K i li some b j (bays j lj) (λ k lk n. alike k j lk lj n) ∙ h)))
 
   pub menu-charged : charged S′ (truthful S′) i ≡ at ((menu M i) .price) (choice (M .stations) (menu M i) (S′ .total i))
@@ -128,4 +146,6 @@ module _ (M : Market) (K : Keys (M .key) (M .guests)) (i : ℕ) (li : i < M .gue
     where
       go : (r : ℕ) → (truthful S′) .assigned i ≡ r → at (charge S′ (truthful S′) i) r ≡ at ((menu M i) .price) r
       go zero e = refl
-      go (suc j) e = let (lj, h) = assigned-to-best S′ i .somewhere j e in menu-charge M K i li some b j (bays j lj) (λ k lk n. alike k j lk lj n) h
+      go (suc j) e =
+          let (lj, h) = assigned-to-best S′ i .somewhere j e in
+          menu-charge M K i li some b j (bays j lj) (λ k lk n. alike k j lk lj n) h

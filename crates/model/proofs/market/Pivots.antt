@@ -1,5 +1,7 @@
--- What a provisional winner's critical total depends on: the others alone. Leave guest i out of the queue; of the others, those whose rank is
--- then at least capacity - 1 stay out once i has a place. The greatest of their totals is i's `pivot`, the least total that stands before them all its `bar`.
+-- What a provisional winner's critical total depends on: the others alone. Leave guest i out of the queue; of the
+-- others, those whose rank is
+-- then at least capacity - 1 stay out once i has a place. The greatest of their totals is i's `pivot`, the least total
+-- that stands before them all its `bar`.
 use Prim.Native.Nat.{ℕ, _+_, _-_, _≤_, _<_}
 use mathlib.Core.Bool.{Bool, true, false, not}
 use mathlib.Core.Logic.{inl, inr, ⊎-elim}
@@ -9,9 +11,13 @@ use native.Mathlib.Omega.{arith}
 use borrow.Author.Tests.{not-true}
 use Rattle.model.specs.Counting.{_<?_, _≤?_, _=?_, _and_, only, greatest, count}
 use Rattle.model.specs.market.Market.{Queue, before, rank, provisional, critical}
-use Rattle.model.proofs.Tests.{decide, clash, both, first, second, and-no, same-test, not-not, only-le, le-only, only-no, lt-no, le-yes, eq-yes, eq-no, is-lt, not-lt, is-le, is-eq, not-eq, lt-or-le, eq-or-ne}
-use Rattle.model.proofs.Counting.{count-mono, count-strict, count-or, count-one, count-cong, le-greatest, greatest-le, greatest-cong}
-use Rattle.model.proofs.market.Queues.{Distinct, ahead, is-before, before-trans, before-self, before-total, provisional-candidate, provisional-rank, is-provisional, rank-lt, few}
+use Rattle.model.proofs.Tests.{decide, clash, both, first, second, and-no, same-test, not-not, only-le, le-only}
+use Rattle.model.proofs.Tests.{only-no, lt-no, le-yes, eq-yes, eq-no, is-lt, not-lt, is-le, is-eq, not-eq}
+use Rattle.model.proofs.Tests.{lt-or-le, eq-or-ne}
+use Rattle.model.proofs.Counting.{count-mono, count-strict, count-or, count-one, count-cong, le-greatest}
+use Rattle.model.proofs.Counting.{greatest-le, greatest-cong}
+use Rattle.model.proofs.market.Queues.{Distinct, ahead, is-before, before-trans, before-self, before-total}
+use Rattle.model.proofs.market.Queues.{provisional-candidate, provisional-rank, is-provisional, rank-lt, few}
 
 -- the queue without i
 unfoldable pub without : Queue → ℕ → Queue
@@ -68,7 +74,9 @@ rank-without-ge Q i k =
     (decide (l =? i))) in
     omega arith
 
-pub rank-without-lt : (Q : Queue) (i k : ℕ) → i < Q .guests → Q .candidate i ≡ true → before Q i k ≡ true → rank (without Q i) k < rank Q k
+pub rank-without-lt :
+    (Q : Queue) (i k : ℕ) → i < Q .guests → Q .candidate i ≡ true → before Q i k ≡ true
+    → rank (without Q i) k < rank Q k
 unfolding rank without before
 rank-without-lt Q i k li ci e = count-strict (Q .guests) _ _
     (λ l ll p. both (second _ _ (first _ _ p)) (second _ _ p))
@@ -86,7 +94,9 @@ pub left-out-without : (Q : Queue) (i k : ℕ) → left-out Q i k ≡ true → Q
 unfolding left-out
 left-out-without Q i k e = le-yes _ _ (second _ _ e)
 
-pub is-left-out : (Q : Queue) (i k : ℕ) → (k ≡ i → ⊥) → Q .candidate k ≡ true → Q .capacity ≤ rank (without Q i) k + 1 → left-out Q i k ≡ true
+pub is-left-out :
+    (Q : Queue) (i k : ℕ) → (k ≡ i → ⊥) → Q .candidate k ≡ true
+    → Q .capacity ≤ rank (without Q i) k + 1 → left-out Q i k ≡ true
 unfolding left-out
 is-left-out Q i k n c r = both (without-candidate Q i k n c) (is-le _ _ r)
 
@@ -96,7 +106,8 @@ le-pivot Q i k lk e = le-trans (le-only _ _ e) (le-greatest (Q .guests) (λ k. o
 
 pub past-le-bar : (Q : Queue) (i k : ℕ) → k < Q .guests → left-out Q i k ≡ true → past Q i k ≤ bar Q i
 unfolding bar
-past-le-bar Q i k lk e = le-trans (le-only _ _ e) (le-greatest (Q .guests) (λ k. only (left-out Q i k) (past Q i k)) k lk)
+past-le-bar Q i k lk e =
+    le-trans (le-only _ _ e) (le-greatest (Q .guests) (λ k. only (left-out Q i k) (past Q i k)) k lk)
 
 pub bar-le : (Q : Queue) (i t : ℕ) → ((k : ℕ) → k < Q .guests → left-out Q i k ≡ true → past Q i k ≤ t) → bar Q i ≤ t
 unfolding bar
@@ -105,11 +116,14 @@ bar-le Q i t h = greatest-le (Q .guests) _ t (λ k lk. only-le _ _ _ (h k lk))
 -- the bar lies at the pivot or one above
 pub pivot-le-bar : (Q : Queue) (i : ℕ) → pivot Q i ≤ bar Q i
 unfolding pivot past
-pivot-le-bar Q i = greatest-le (Q .guests) _ _ (λ k lk. only-le _ _ _ (λ e. le-trans (let s : Q .total k ≤ past Q i k = omega arith in s) (past-le-bar Q i k lk e)))
+pivot-le-bar Q i =
+    greatest-le (Q .guests) _ _ (λ k lk. only-le _ _ _
+    (λ e. le-trans (let s : Q .total k ≤ past Q i k = omega arith in s) (past-le-bar Q i k lk e)))
 
 pub bar-le-pivot : (Q : Queue) (i : ℕ) → bar Q i ≤ pivot Q i + 1
 unfolding past
-bar-le-pivot Q i = bar-le Q i _ (λ k lk e. omega (arith, only-le (Q .key k <? Q .key i) 1 1 (λ _. le-refl 1), le-pivot Q i k lk e))
+bar-le-pivot Q i =
+    bar-le Q i _ (λ k lk e. omega (arith, only-le (Q .key k <? Q .key i) 1 1 (λ _. le-refl 1), le-pivot Q i k lk e))
 
 module _ (Q : Queue) (D : Distinct Q) (i : ℕ) (li : i < Q .guests) where
   past-before : (k : ℕ) → k < Q .guests → (k ≡ i → ⊥) → past Q i k ≤ Q .total i → before Q i k ≡ true
@@ -117,7 +131,8 @@ module _ (Q : Queue) (D : Distinct Q) (i : ℕ) (li : i < Q .guests) where
   past-before k lk n h = is-before Q i k (⊎-elim
       (λ (q : Q .key k <? Q .key i ≡ true). inl (omega (arith, le-only _ 1 q)))
       (λ (q : Q .key k <? Q .key i ≡ false). ⊎-elim
-      (λ (e : Q .total k ≡ Q .total i). inr (e, ⊎-elim (λ p. absurd (n (sym (D i k li lk p)))) (λ l. l) (eq-or-lt-of-le (lt-no _ _ q))))
+      (λ (e : Q .total k ≡ Q .total i). inr
+      (e, ⊎-elim (λ p. absurd (n (sym (D i k li lk p)))) (λ l. l) (eq-or-lt-of-le (lt-no _ _ q))))
       (λ l. inl l)
       (eq-or-lt-of-le (let s : Q .total k ≤ Q .total i = omega arith in s)))
       (decide (Q .key k <? Q .key i)))
@@ -130,18 +145,22 @@ module _ (Q : Queue) (D : Distinct Q) (i : ℕ) (li : i < Q .guests) where
       (ahead Q i k e)
 
   -- a winner stands before all who are left out, and whoever does so wins
-  pub provisional-before : provisional Q i ≡ true → (k : ℕ) → k < Q .guests → left-out Q i k ≡ true → before Q i k ≡ true
+  pub provisional-before :
+      provisional Q i ≡ true → (k : ℕ) → k < Q .guests → left-out Q i k ≡ true → before Q i k ≡ true
   provisional-before h k lk e = ⊎-elim (λ q. q)
       (λ (q : before Q i k ≡ false). absurd (omega (
         arith,
         left-out-without Q i k e,
         provisional-rank Q i h,
         rank-without-le Q i k,
-        rank-lt Q k i lk (left-out-candidate Q i k e) (before-total Q D i k li lk (λ p. left-out-other Q i k e (sym p)) q),
+        rank-lt Q k i lk (left-out-candidate Q i k e)
+            (before-total Q D i k li lk (λ p. left-out-other Q i k e (sym p)) q),
       )))
       (decide (before Q i k))
 
-  before-provisional : Q .candidate i ≡ true → 0 < Q .capacity → ((k : ℕ) → k < Q .guests → left-out Q i k ≡ true → before Q i k ≡ true) → provisional Q i ≡ true
+  before-provisional :
+      Q .candidate i ≡ true → 0 < Q .capacity → ((k : ℕ) → k < Q .guests → left-out Q i k ≡ true → before Q i k ≡ true)
+      → provisional Q i ≡ true
   unfolding without rank left-out
   before-provisional c b all = ⊎-elim
       (λ (l : rank Q i < Q .capacity). is-provisional Q i c l)
@@ -151,21 +170,27 @@ module _ (Q : Queue) (D : Distinct Q) (i : ℕ) (li : i < Q .guests) where
       D′ : Distinct (without Q i)
       D′ = D
 
-      low : (k : ℕ) → k < Q .guests → (without Q i) .candidate k ≡ true → before Q k i ≡ true → rank (without Q i) k < Q .capacity - 1
+      low :
+          (k : ℕ) → k < Q .guests → (without Q i) .candidate k ≡ true → before Q k i ≡ true
+          → rank (without Q i) k < Q .capacity - 1
       low k lk w e = ⊎-elim
           (λ l. l)
           (λ (l : Q .capacity - 1 ≤ rank (without Q i) k). absurd (clash
           (before-trans Q k i k e (all k lk (both w (is-le _ _ (omega arith))))) (before-self Q k)))
           (lt-or-le (rank (without Q i) k) (Q .capacity - 1))
 
-      crowd : rank Q i ≤ count (Q .guests) (λ k. (without Q i) .candidate k and ((rank (without Q i) k) <? (Q .capacity - 1)))
+      crowd :
+          rank Q i
+          ≤ count (Q .guests) (λ k. (without Q i) .candidate k and ((rank (without Q i) k) <? (Q .capacity - 1)))
       crowd = count-mono (Q .guests) _ _ (λ k lk q.
-          let w : (without Q i) .candidate k ≡ true = without-candidate Q i k (λ e. clash (second _ _ q) (rw e (before-self Q i))) (first _ _ q) in
+          let w : (without Q i) .candidate k ≡ true = without-candidate Q i k
+          (λ e. clash (second _ _ q) (rw e (before-self Q i))) (first _ _ q) in
           both w (is-lt _ _ (low k lk w (second _ _ q))))
 
   -- who wins, by one number that the others make
   pub bar-provisional : Q .candidate i ≡ true → 0 < Q .capacity → bar Q i ≤ Q .total i → provisional Q i ≡ true
-  bar-provisional c b h = before-provisional c b (λ k lk e. past-before k lk (left-out-other Q i k e) (le-trans (past-le-bar Q i k lk e) h))
+  bar-provisional c b h =
+      before-provisional c b (λ k lk e. past-before k lk (left-out-other Q i k e) (le-trans (past-le-bar Q i k lk e) h))
 
   pub provisional-bar : provisional Q i ≡ true → bar Q i ≤ Q .total i
   provisional-bar h = bar-le Q i _ (λ k lk e. before-past k (provisional-before h k lk e))
@@ -173,10 +198,17 @@ module _ (Q : Queue) (D : Distinct Q) (i : ℕ) (li : i < Q .guests) where
 module _ (Q : Queue) (D : Distinct Q) (i : ℕ) (li : i < Q .guests) (h : provisional Q i ≡ true) where
   -- beside a winner, whoever is left out is whoever has no place
   pub left-out-rank : (k : ℕ) → k < Q .guests → left-out Q i k ≡ true → Q .capacity ≤ rank Q k
-  left-out-rank k lk e = omega (arith, left-out-without Q i k e, rank-without-lt Q i k li (provisional-candidate Q i h) (provisional-before Q D i li h k lk e))
+  left-out-rank k lk e =
+      omega (
+        arith,
+        left-out-without Q i k e,
+        rank-without-lt Q i k li (provisional-candidate Q i h) (provisional-before Q D i li h k lk e),
+      )
 
   pub is-left-out-beside : (k : ℕ) → Q .candidate k ≡ true → Q .capacity ≤ rank Q k → left-out Q i k ≡ true
-  is-left-out-beside k c r = is-left-out Q i k (λ e. let s : rank Q k < Q .capacity = rw e (provisional-rank Q i h) in omega arith) c (omega (arith, rank-without-ge Q i k))
+  is-left-out-beside k c r =
+      is-left-out Q i k (λ e. let s : rank Q k < Q .capacity = rw e (provisional-rank Q i h) in omega arith) c
+      (omega (arith, rank-without-ge Q i k))
 
   -- a winner's critical total is its pivot
   pub critical-pivot : critical Q ≡ pivot Q i
@@ -195,21 +227,25 @@ restate Q c v = record { guests = Q .guests; capacity = Q .capacity; candidate =
 
 -- the pivot and the bar of i are the same whatever i states
 module _ (Q : Queue) (c : ℕ → Bool) (v : ℕ → ℕ) (i : ℕ)
-    (sc : (k : ℕ) → k < Q .guests → (k ≡ i → ⊥) → Q .candidate k ≡ c k) (sv : (k : ℕ) → k < Q .guests → (k ≡ i → ⊥) → Q .total k ≡ v k) where
+    (sc : (k : ℕ) → k < Q .guests → (k ≡ i → ⊥) → Q .candidate k ≡ c k)
+    (sv : (k : ℕ) → k < Q .guests → (k ≡ i → ⊥) → Q .total k ≡ v k) where
   pub rank-same : (k : ℕ) → k < Q .guests → (k ≡ i → ⊥) → rank (without Q i) k ≡ rank (without (restate Q c v) i) k
   unfolding rank without before
   rank-same k lk nk = count-cong (Q .guests) _ _ (λ l ll. ⊎-elim
-      (λ (e : l ≡ i). and-no _ _ (and-no _ _ (ap not (is-eq l i e))) ∙ sym (and-no _ _ (and-no _ _ (ap not (is-eq l i e)))))
+      (λ (e : l ≡ i). and-no _ _ (and-no _ _ (ap not (is-eq l i e)))
+      ∙ sym (and-no _ _ (and-no _ _ (ap not (is-eq l i e)))))
       (λ (n : l ≡ i → ⊥). cc (sc l ll n, sv l ll n, sv k lk nk))
       (eq-or-ne l i))
 
   -- so is whatever is summed up of those left out
   left-out-same : (f g : ℕ → ℕ) → ((k : ℕ) → k < Q .guests → (k ≡ i → ⊥) → f k ≡ g k)
-      → greatest (Q .guests) (λ k. only (left-out Q i k) (f k)) ≡ greatest (Q .guests) (λ k. only (left-out (restate Q c v) i k) (g k))
+      → greatest (Q .guests) (λ k. only (left-out Q i k) (f k))
+      ≡ greatest (Q .guests) (λ k. only (left-out (restate Q c v) i k) (g k))
   unfolding left-out without
   left-out-same f g s = greatest-cong (Q .guests) _ _ (λ k lk. ⊎-elim
       (λ (e : k ≡ i).
-      only-no _ _ (and-no _ _ (and-no _ _ (ap not (is-eq k i e)))) ∙ sym (only-no _ _ (and-no _ _ (and-no _ _ (ap not (is-eq k i e))))))
+      only-no _ _ (and-no _ _ (and-no _ _ (ap not (is-eq k i e))))
+      ∙ sym (only-no _ _ (and-no _ _ (and-no _ _ (ap not (is-eq k i e))))))
       (λ (n : k ≡ i → ⊥). cc (sc k lk n, s k lk n, rank-same k lk n))
       (eq-or-ne k i))
 

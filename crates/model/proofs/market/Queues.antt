@@ -9,8 +9,11 @@ use borrow.Author.Tests.{not-true}
 use Rattle.model.specs.Counting.{_<?_, _=?_, _and_, only, count}
 use Rattle.model.specs.market.Market.{Queue, before, rank, provisional, critical}
 use Rattle.model.specs.claims.Readings.{RanksInOrder, CriticalIsFirstOut}
-use Rattle.model.proofs.Tests.{decide, clash, both, first, second, and-false, not-not, or-cases, or-left, or-right, neither, only-le, le-only, lt-yes, lt-no, eq-yes, eq-no, is-lt, not-lt, is-eq, lt-or-le}
-use Rattle.model.proofs.Counting.{count-mono, count-strict, count-or, count-none, count-one, le-greatest, greatest-le, search-below}
+use Rattle.model.proofs.Tests.{decide, clash, both, first, second, and-false, not-not, or-cases, or-left}
+use Rattle.model.proofs.Tests.{or-right, neither, only-le, le-only, lt-yes, lt-no, eq-yes, eq-no, is-lt, not-lt}
+use Rattle.model.proofs.Tests.{is-eq, lt-or-le}
+use Rattle.model.proofs.Counting.{count-mono, count-strict, count-or, count-none, count-one, le-greatest}
+use Rattle.model.proofs.Counting.{greatest-le, search-below}
 
 -- the order as a fact
 abbrev pub Ahead : Queue → ℕ → ℕ → Type 0
@@ -43,14 +46,16 @@ before-trans Q a b c p q = is-before Q a c (go (ahead Q a b p) (ahead Q b c q))
 
 pub before-self : (Q : Queue) (a : ℕ) → before Q a a ≡ false
 unfolding before
-before-self Q a = neither (not-lt _ _ (le-refl _)) (ap (λ b. (Q .total a =? Q .total a) and b) (not-lt _ _ (le-refl _)) ∙ and-false _)
+before-self Q a =
+    neither (not-lt _ _ (le-refl _)) (ap (λ b. (Q .total a =? Q .total a) and b) (not-lt _ _ (le-refl _)) ∙ and-false _)
 
 -- no two guests have one key
 abbrev pub Distinct : Queue → Type 0
 Distinct Q = (k i : ℕ) → k < Q .guests → i < Q .guests → Q .key k ≡ Q .key i → k ≡ i
 
 module _ (Q : Queue) (D : Distinct Q) where
-  pub before-total : (k i : ℕ) → k < Q .guests → i < Q .guests → (k ≡ i → ⊥) → before Q k i ≡ false → before Q i k ≡ true
+  pub before-total :
+      (k i : ℕ) → k < Q .guests → i < Q .guests → (k ≡ i → ⊥) → before Q k i ≡ false → before Q i k ≡ true
   before-total k i lk li ne e = is-before Q i k (go (decide (Q .total k <? Q .total i)) (decide (Q .key i <? Q .key k)))
     where
       neither : Ahead Q k i → ⊥
@@ -63,7 +68,9 @@ module _ (Q : Queue) (D : Distinct Q) where
           → ((Q .key i <? Q .key k) ≡ true) ⊎ ((Q .key i <? Q .key k) ≡ false) → Ahead Q i k
       go (inl t) s = inl (lt-yes _ _ t)
       go (inr t) (inl s) = inr (equal (lt-no _ _ t), lt-yes _ _ s)
-      go (inr t) (inr s) = absurd (⊎-elim (λ p. ne (D k i lk li p)) (λ q. neither (inr (sym (equal (lt-no _ _ t)), q))) (eq-or-lt-of-le (lt-no _ _ s)))
+      go (inr t) (inr s) =
+          absurd (⊎-elim (λ p. ne (D k i lk li p)) (λ q. neither (inr (sym (equal (lt-no _ _ t)), q)))
+          (eq-or-lt-of-le (lt-no _ _ s)))
 
 -- a holder is a candidate, with a rank below the capacity
 pub provisional-candidate : (Q : Queue) (i : ℕ) → provisional Q i ≡ true → Q .candidate i ≡ true
@@ -86,7 +93,9 @@ rank-lt Q k i lk ck e = count-strict (Q .guests) _ _
     k lk (rw (before-self Q k) (and-false (Q .candidate k))) (both ck e)
 
 module _ (Q : Queue) (D : Distinct Q) where
-  pub rank-single : (k i : ℕ) → k < Q .guests → i < Q .guests → Q .candidate k ≡ true → Q .candidate i ≡ true → rank Q k ≡ rank Q i → k ≡ i
+  pub rank-single :
+      (k i : ℕ) → k < Q .guests → i < Q .guests → Q .candidate k ≡ true → Q .candidate i ≡ true
+      → rank Q k ≡ rank Q i → k ≡ i
   rank-single k i lk li ck ci e = ⊎-elim
       (λ (p : (k =? i) ≡ true). eq-yes _ _ p)
       (λ (p : (k =? i) ≡ false). absurd (⊎-elim
@@ -102,7 +111,8 @@ module _ (Q : Queue) (D : Distinct Q) where
 
   -- a rank below b + 1 is below b, or is b
   pub one-more : (b : ℕ) → count (Q .guests) (λ k. Q .candidate k and rank Q k <? suc b)
-      ≤ count (Q .guests) (λ k. Q .candidate k and rank Q k <? b) + count (Q .guests) (λ k. Q .candidate k and rank Q k =? b)
+      ≤ count (Q .guests) (λ k. Q .candidate k and rank Q k <? b)
+      + count (Q .guests) (λ k. Q .candidate k and rank Q k =? b)
   one-more b = count-or (Q .guests) _ _ _ (λ k l p. ⊎-elim
       (λ q. inr (both (first _ _ p) (is-eq _ _ q)))
       (λ q. inl (both (first _ _ p) (is-lt _ _ q)))
@@ -125,19 +135,25 @@ module _ (Q : Queue) (D : Distinct Q) where
 
 rank-below : (Q : Queue) (k : ℕ) → k < Q .guests → Q .candidate k ≡ true → rank Q k < count (Q .guests) (Q .candidate)
 unfolding rank
-rank-below Q k lk c = count-strict (Q .guests) _ _ (λ l ll p. first _ _ p) k lk (ap (λ x. Q .candidate k and x) (before-self Q k) ∙ and-false (Q .candidate k)) c
+rank-below Q k lk c =
+    count-strict (Q .guests) _ _ (λ l ll p. first _ _ p) k lk
+    (ap (λ x. Q .candidate k and x) (before-self Q k) ∙ and-false (Q .candidate k)) c
 
 rank-counted : (Q : Queue) (k : ℕ) → rank Q k ≤ count (Q .guests) (λ l. Q .candidate l and rank Q l <? rank Q k)
 unfolding rank
-rank-counted Q k = count-mono (Q .guests) _ _ (λ l ll p. both (first _ _ p) (is-lt _ _ (rank-lt Q l k ll (first _ _ p) (second _ _ p))))
+rank-counted Q k =
+    count-mono (Q .guests) _ _
+    (λ l ll p. both (first _ _ p) (is-lt _ _ (rank-lt Q l k ll (first _ _ p) (second _ _ p))))
 
-module _ (Q : Queue) (D : Distinct Q) (r : ℕ) (missing : (k : ℕ) → k < Q .guests → (Q .candidate k and rank Q k =? r) ≡ false) where
+module _ (Q : Queue) (D : Distinct Q) (r : ℕ)
+    (missing : (k : ℕ) → k < Q .guests → (Q .candidate k and rank Q k =? r) ≡ false) where
   -- were rank r missing, fewer than b candidates would have a rank below any b above r
   fewer-below : (b : ℕ) → r < b → count (Q .guests) (λ k. Q .candidate k and rank Q k <? b) < b
   fewer-below zero l = absurd (omega arith)
   fewer-below (suc b) l = ⊎-elim
       (λ (e : r ≡ b).
-      let none : count (Q .guests) (λ k. Q .candidate k and rank Q k =? b) ≡ 0 = count-none (Q .guests) _ (λ k lk p. clash p (rw (← e) (missing k lk))) in
+      let none : count (Q .guests) (λ k. Q .candidate k and rank Q k =? b) ≡ 0 = count-none (Q .guests) _
+      (λ k lk p. clash p (rw (← e) (missing k lk))) in
       omega (arith, few Q D b, one-more Q D b))
       (λ (q : r < b). omega (arith, fewer-below b q, one-more Q D b, at-most-one Q D b))
       (eq-or-lt-of-le (le-of-suc-le-suc l))
@@ -153,7 +169,9 @@ module _ (Q : Queue) (D : Distinct Q) (r : ℕ) (missing : (k : ℕ) → k < Q .
       (lt-or-le (rank Q k) r))))
 
 module _ (Q : Queue) (D : Distinct Q) where
-  pub rank-taken : (r : ℕ) → r < count (Q .guests) (Q .candidate) → (k : ℕ) × (k < Q .guests) × (Q .candidate k ≡ true) × (rank Q k ≡ r)
+  pub rank-taken :
+      (r : ℕ) → r < count (Q .guests) (Q .candidate)
+      → (k : ℕ) × (k < Q .guests) × (Q .candidate k ≡ true) × (rank Q k ≡ r)
   rank-taken r m = ⊎-elim
       (λ (k, lk, p). (k, lk, first _ _ p, eq-yes _ _ (second _ _ p)))
       (λ missing. absurd (omega (arith, few Q D r, all-below Q D r missing)))
@@ -172,7 +190,8 @@ module _ (Q : Queue) (D : Distinct Q) where
   first-out : (k : ℕ) → k < Q .guests → Q .candidate k ≡ true → rank Q k ≡ Q .capacity → critical Q ≡ Q .total k
   unfolding critical
   first-out k lk c r = le-antisymm
-      (greatest-le (Q .guests) _ _ (λ l ll. only-le _ _ _ (λ p. after l ll (first _ _ p) (lt-no _ _ (not-true _ (second _ _ p))))))
+      (greatest-le (Q .guests) _ _
+      (λ l ll. only-le _ _ _ (λ p. after l ll (first _ _ p) (lt-no _ _ (not-true _ (second _ _ p))))))
       (le-trans (le-only _ _ (both c (not-not (not-lt _ _ (omega arith)))))
       (le-greatest (Q .guests) (λ k. only (Q .candidate k and not (rank Q k <? Q .capacity)) (Q .total k)) k lk))
     where

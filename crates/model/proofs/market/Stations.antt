@@ -1,4 +1,5 @@
--- No station gains by another ask than its cost, at any position of the cut, under any mechanism that assigns only candidates.
+-- No station gains by another ask than its cost, at any position of the cut, under any mechanism that
+-- assigns only candidates.
 use Prim.Native.Nat.{ℕ, _+_, _*_, _≤_, _<_, max}
 use mathlib.Core.Bool.{true, false}
 use mathlib.Core.Logic.{⊎-elim}
@@ -31,7 +32,8 @@ cut-le-where-open : (M : Market) (a : ℕ → ℕ) (j : ℕ) → ((k : ℕ) → 
     → opens (reask M a) j ≡ true → cut (reask M a) ≤ cut M
 unfolding opens cut
 cut-le-where-open M a j alike o =
-    let bound : cut (reask M a) ≤ max (cut M) (a j) = greatest-le (M .stations) _ _ (λ k lk. only-le _ _ _ (λ p. each k lk (lt-yes _ _ p))) in
+    let bound : cut (reask M a) ≤ max (cut M) (a j) = greatest-le (M .stations) _ _
+    (λ k lk. only-le _ _ _ (λ p. each k lk (lt-yes _ _ p))) in
     omega (arith, lt-yes _ _ o)
   where
     each : (k : ℕ) → k < M .stations → count (M .stations) (λ x. a x <? a k) < M .position → a k ≤ max (cut M) (a j)
@@ -48,7 +50,9 @@ cut-le-where-open M a j alike o =
         (lt-or-le (a j) (a k))
 
 -- with the same cut and the same open stations, a mechanism sees the same
-screen-same : (M : Market) (a : ℕ → ℕ) → cut M ≡ cut (reask M a) → ((k : ℕ) → opens M k ≡ opens (reask M a) k) → screen M ≡ screen (reask M a)
+screen-same :
+    (M : Market) (a : ℕ → ℕ) → cut M ≡ cut (reask M a) → ((k : ℕ) → opens M k ≡ opens (reask M a) k)
+    → screen M ≡ screen (reask M a)
 unfolding screen
 screen-same M a c o = λ x. record {
   guests = M .guests;
@@ -76,18 +80,27 @@ module _ (mechanism : Screened → Decision) (C : (S : Screened) → Candidates 
       → (screen (reask M a)) .cut * sold (screen (reask M a)) (mechanism (screen (reask M a))) j + M .ask j * 0
       ≤ (screen M) .cut * 0 + M .ask j * sold (screen (reask M a)) (mechanism (screen (reask M a))) j
   unfolding screen
-  lower o o′ = omega (arith, mul-le-mul-right (sold (screen (reask M a)) (mechanism (screen (reask M a))) j) (le-trans (cut-le-where-open M a j alike o′) (lt-no _ _ (not-below j o))))
+  lower o o′ =
+      omega (
+        arith,
+        mul-le-mul-right (sold (screen (reask M a)) (mechanism (screen (reask M a))) j)
+            (le-trans (cut-le-where-open M a j alike o′) (lt-no _ _ (not-below j o))),
+      )
 
   -- with its ask in M as its cost, j gains no more in the market with another ask of its own
   pub station-truth : let S = screen M in let S′ = screen (reask M a) in
-      paid S′ (mechanism S′) j + M .ask j * sold S (mechanism S) j ≤ paid S (mechanism S) j + M .ask j * sold S′ (mechanism S′) j
+      paid S′ (mechanism S′) j + M .ask j * sold S (mechanism S) j
+      ≤ paid S (mechanism S) j + M .ask j * sold S′ (mechanism S′) j
   unfolding paid
   station-truth = ⊎-elim
       (λ (o′ : opens (reask M a) j ≡ true). ⊎-elim
       (λ (o : opens M j ≡ true).
-      let c : cut M ≡ cut (reask M a) = le-antisymm (cut-le-where-open (reask M a) (M .ask) j (λ k n. sym (alike k n)) o) (cut-le-where-open M a j alike o′) in
+      let c : cut M ≡ cut (reask M a) = le-antisymm
+      (cut-le-where-open (reask M a) (M .ask) j (λ k n. sym (alike k n)) o) (cut-le-where-open M a j alike o′) in
       rw (← screen-same M a c (opens-same c (o ∙ sym o′))) (omega arith))
       (λ (o : opens M j ≡ false). rw (closed-sells-nothing M (mechanism (screen M)) (C (screen M)) j o) (lower o o′))
       (decide (opens M j)))
-      (λ (o′ : opens (reask M a) j ≡ false). rw (closed-sells-nothing (reask M a) (mechanism (screen (reask M a))) (C (screen (reask M a))) j o′) (omega (arith, payment-covers-ask M (mechanism (screen M)) (C (screen M)) j)))
+      (λ (o′ : opens (reask M a) j ≡ false). rw
+      (closed-sells-nothing (reask M a) (mechanism (screen (reask M a))) (C (screen (reask M a))) j o′)
+      (omega (arith, payment-covers-ask M (mechanism (screen M)) (C (screen M)) j)))
       (decide (opens (reask M a) j))

@@ -6,12 +6,14 @@ use mathlib.Core.Path.{_≡_, sym, _∙_}
 use native.Mathlib.Nat.{le-trans, mul-le-mul-right}
 use native.Mathlib.Omega.{arith}
 use lib.ListN.{getD, length}
-use Rattle.model.specs.market.Market.{Tables, bidAt, Market, marketBy, byNumber, market, cut, opens, Screened, screen, queue, provisional, critical}
+use Rattle.model.specs.market.Market.{Tables, bidAt, Market, marketBy, byNumber, market, cut, opens, Screened}
+use Rattle.model.specs.market.Market.{screen, queue, provisional, critical}
 use Rattle.model.specs.market.Mechanism.{at, charge, charged, obtained, served, paid, surplus, truthful}
 use Rattle.model.specs.market.Outcome.{seen, decided}
 use Rattle.model.specs.market.Faults.{Accepted}
 use Rattle.model.specs.market.Gains.{guestGain, stationGain}
-use Rattle.model.specs.claims.Readings.{NoBidRead, GainlessRead, RanksRead, CriticalReads, AssignedToBest, AssignmentReads, NoLoss}
+use Rattle.model.specs.claims.Readings.{NoBidRead, GainlessRead, RanksRead, CriticalReads, AssignedToBest}
+use Rattle.model.specs.claims.Readings.{AssignmentReads, NoLoss}
 use Rattle.model.proofs.Tests.{decide, eq-yes, lt-yes}
 use Rattle.model.proofs.Counting.{count-mono}
 use Rattle.model.proofs.market.Choice.{best-holds, best-best, best-lowest, best-none}
@@ -48,7 +50,9 @@ pub truthful-candidates : (S : Screened) → Candidates S (truthful S)
 truthful-candidates S i j li e = let (lj, h) = assigned-to-best S i .somewhere j e in (lj, candidate-held S i j h)
 
 -- a winner's total is at least the critical total
-pub critical-under : (S : Screened) → Keys (S .key) (S .guests) → (i j : ℕ) → i < S .guests → provisional (queue S j) i ≡ true → (truthful S) .critical j ≤ S .total i j
+pub critical-under :
+    (S : Screened) → Keys (S .key) (S .guests) → (i j : ℕ) → i < S .guests → provisional (queue S j) i ≡ true
+    → (truthful S) .critical j ≤ S .total i j
 unfolding truthful queue
 critical-under S K i j li h = critical-le (queue S j) K i li h
 
@@ -56,15 +60,22 @@ pub truthful-fair : (S : Screened) → Keys (S .key) (S .guests) → Fair S (tru
 unfolding served queue
 truthful-fair S K = record {
   candidates = truthful-candidates S;
-  fits = λ j. le-trans (count-mono (S .guests) _ (provisional (queue S j)) (λ i li p. assigned-to-best S i .somewhere j (eq-yes _ _ p) .1)) (winners-fit (queue S j) K);
+  fits = λ j. le-trans (count-mono (S .guests) _ (provisional (queue S j))
+      (λ i li p. assigned-to-best S i .somewhere j (eq-yes _ _ p) .1)) (winners-fit (queue S j) K);
   under = λ i j li e. critical-under S K i j li (assigned-to-best S i .somewhere j e .1);
 }
 
 -- a winner is charged at most its total
-pub charge-held : (M : Market) → Keys (M .key) (M .guests) → (i j : ℕ) → i < M .guests → provisional (queue (screen M) j) i ≡ true
+pub charge-held :
+    (M : Market) → Keys (M .key) (M .guests) → (i j : ℕ) → i < M .guests → provisional (queue (screen M) j) i ≡ true
     → charge (screen M) (truthful (screen M)) i j ≤ M .bid i j * M .amount i
 unfolding charge screen
-charge-held M K i j li h = omega (arith, mul-le-mul-right (M .amount i) (candidate-bid M i j (candidate-held (screen M) i j h)), critical-under (screen M) K i j li h)
+charge-held M K i j li h =
+    omega (
+      arith,
+      mul-le-mul-right (M .amount i) (candidate-bid M i j (candidate-held (screen M) i j h)),
+      critical-under (screen M) K i j li h,
+    )
 
 -- ---- how the definitions read
 
@@ -81,7 +92,8 @@ pub gainless-read : GainlessRead
 unfolding guestGain stationGain obtained charged at paid
 gainless-read S D = record {
   guest-gainless = λ w i e. rw e;
-  station-gainless = λ cost j e. let z : S .cut * 0 ≡ 0 = omega arith in let c : cost * 0 ≡ 0 = omega arith in rw (e, z, c);
+  station-gainless =
+      λ cost j e. let z : S .cut * 0 ≡ 0 = omega arith in let c : cost * 0 ≡ 0 = omega arith in rw (e, z, c);
 }
 
 pub ranks-read : RanksRead
@@ -89,7 +101,9 @@ unfolding seen screen market marketBy queue
 ranks-read t j = ranks-in-order (queue (seen t) j) (numbers-differ _)
 
 -- in an accepted market a candidate's total is not 0
-total-positive : (t : Tables) → Accepted t → (i j : ℕ) → i < length (t .amounts) → (seen t) .candidate i j ≡ true → 0 < (seen t) .total i j
+total-positive :
+    (t : Tables) → Accepted t → (i j : ℕ) → i < length (t .amounts) → (seen t) .candidate i j ≡ true
+    → 0 < (seen t) .total i j
 unfolding seen screen market marketBy opens
 total-positive t a i j li c =
     let open-ask : getD (t .asks) j 0 < cut (market t) = lt-yes _ _ (candidate-open (market t) i j c) in
@@ -98,7 +112,8 @@ total-positive t a i j li c =
 
 pub critical-reads : CriticalReads
 unfolding seen screen market marketBy queue
-critical-reads t a j = critical-is-first-out (queue (seen t) j) (numbers-differ _) (λ i li c. total-positive t a i j li c)
+critical-reads t a j =
+    critical-is-first-out (queue (seen t) j) (numbers-differ _) (λ i li c. total-positive t a i j li c)
 
 pub assignment-reads : AssignmentReads
 unfolding decided

@@ -13,7 +13,8 @@ use Rattle.model.specs.market.Faults.{counts}
 use Rattle.model.specs.Refusals.{_gives_, accepted, refused, firstFault}
 use Rattle.model.proofs.market.Acceptance.{counted}
 use Rattle.model.proofs.Tests.{lt-no, is-lt, not-lt, not-eq, neither}
-use Rattle.model.proofs.Refusals.{fault-here, fault-later, fault-none, no-fault, fault-first, fault-second, no-faults}
+use Rattle.model.proofs.Refusals.{fault-here, fault-later, fault-none, no-fault, fault-first, fault-second}
+use Rattle.model.proofs.Refusals.{no-faults}
 use Rattle.model.specs.sheet.Rows.{rowAt, rowsFaults}
 use Rattle.model.proofs.sheet.Rows.{first-row}
 use Rattle.model.proofs.sheet.Fields.{narrow}
@@ -30,17 +31,21 @@ pub record Headed (s : List ℕ) (n m : ℕ) : Type 0 where
   pub m-is : m ≡ stations s
 
 -- what the test of the counts leaves
-pub counts-within : (n m : ℕ) → counts n m ≡ (false gives CountsOutOfRange) → (n ≤ maxGuests) × (1 ≤ m) × (m ≤ maxStations)
+pub counts-within :
+    (n m : ℕ) → counts n m ≡ (false gives CountsOutOfRange) → (n ≤ maxGuests) × (1 ≤ m) × (m ≤ maxStations)
 unfolding counts
 counts-within n m e = counted n m (cc)
 
 pub counts-good : (n m : ℕ) → n ≤ maxGuests → 1 ≤ m → m ≤ maxStations → counts n m ≡ (false gives CountsOutOfRange)
 unfolding counts
-counts-good n m h g l = ap (λ b. b gives CountsOutOfRange) (neither (neither (not-lt _ _ h) (not-eq m 0 (λ e. omega arith))) (not-lt _ _ l))
+counts-good n m h g l =
+    ap (λ b. b gives CountsOutOfRange) (neither (neither (not-lt _ _ h) (not-eq m 0 (λ e. omega arith))) (not-lt _ _ l))
 
 module _ {s : List ℕ} {n m : ℕ} (t : Headed s n m) where
   after-header : (b : Bool) → counts n m ≡ (b gives CountsOutOfRange)
-      → firstFault (sheetFaults s) ≡ firstFault ((b gives CountsOutOfRange) ∷ (length s <? rowAt s m 0 gives SheetEnds) ∷ (rowsFaults s m n ++ ((rowAt s m n <? length s gives TrailingBytes) ∷ [])))
+      → firstFault (sheetFaults s)
+      ≡ firstFault ((b gives CountsOutOfRange) ∷ (length s <? rowAt s m 0 gives SheetEnds)
+      ∷ (rowsFaults s m n ++ ((rowAt s m n <? length s gives TrailingBytes) ∷ [])))
   unfolding sheetFaults
   after-header b e = fault-later _ _ (not-lt _ _ (t .within)) ∙ rw (← t .n-is, ← t .m-is, e) refl
 
@@ -49,11 +54,15 @@ module _ {s : List ℕ} {n m : ℕ} (t : Headed s n m) where
 
   module _ (e : counts n m ≡ (false gives CountsOutOfRange)) where
     pub stations-end : length s < 4 + 6 * m → firstFault (sheetFaults s) ≡ refused SheetEnds
-    stations-end h = after-header false e ∙ fault-later _ _ refl ∙ fault-here _ (is-lt _ _ (omega (arith, first-row s m)))
+    stations-end h =
+        after-header false e ∙ fault-later _ _ refl ∙ fault-here _ (is-lt _ _ (omega (arith, first-row s m)))
 
     module _ (h : 4 + 6 * m ≤ length s) where
-      rows-left : firstFault (sheetFaults s) ≡ firstFault (rowsFaults s m n ++ ((rowAt s m n <? length s gives TrailingBytes) ∷ []))
-      rows-left = after-header false e ∙ fault-later _ _ refl ∙ fault-later _ _ (not-lt _ _ (omega (arith, first-row s m)))
+      rows-left :
+          firstFault (sheetFaults s)
+          ≡ firstFault (rowsFaults s m n ++ ((rowAt s m n <? length s gives TrailingBytes) ∷ []))
+      rows-left =
+          after-header false e ∙ fault-later _ _ refl ∙ fault-later _ _ (not-lt _ _ (omega (arith, first-row s m)))
 
       pub bad-rows : {r : Refusal} → firstFault (rowsFaults s m n) ≡ refused r → firstFault (sheetFaults s) ≡ refused r
       bad-rows g = rows-left ∙ fault-first _ _ g

@@ -44,7 +44,8 @@ number-low s h p (suc k) = omega (arith, number-low s h (p + 1) k, h p)
 
 pub bytes-pow : (k : ℕ) → 2 ^ (8 * k) ≡ 256 ^ k
 bytes-pow zero = refl
-bytes-pow (suc k) = let e : 8 * suc k ≡ 8 + 8 * k = omega arith in rw e (pow-add 2 8 (8 * k) ∙ omega (arith, bytes-pow k))
+bytes-pow (suc k) =
+    let e : 8 * suc k ≡ 8 + 8 * k = omega arith in rw e (pow-add 2 8 (8 * k) ∙ omega (arith, bytes-pow k))
 
 -- what a 64-bit word holds of a map while it is read
 pub number-four : (s : List ℕ) → ((i : ℕ) → getD s i 0 < 256) → (p k : ℕ) → k ≤ 4 → number s p k < 4294967296
@@ -85,7 +86,8 @@ unfolding hasBit
 bit-is x j =
     ⊎-elim
     (λ (t : (x / 2 ^ j % 2 =? 1) ≡ true). omega (arith, only-yes _ 1 t, eq-yes (x / 2 ^ j % 2) 1 t))
-    (λ (t : (x / 2 ^ j % 2 =? 1) ≡ false). omega (arith, only-no _ 1 t, one-or-none (x / 2 ^ j % 2) (omega arith) (eq-no (x / 2 ^ j % 2) 1 t)))
+    (λ (t : (x / 2 ^ j % 2 =? 1) ≡ false). omega
+    (arith, only-no _ 1 t, one-or-none (x / 2 ^ j % 2) (omega arith) (eq-no (x / 2 ^ j % 2) 1 t)))
     (decide (x / 2 ^ j % 2 =? 1))
   where
     one-or-none : (y : ℕ) → y < 2 → (y ≡ 1 → ⊥) → y ≡ 0
@@ -102,7 +104,13 @@ pub ones-count : (m x : ℕ) → x < 2 ^ m → ones x ≡ count m (hasBit x)
 unfolding ones onesIn
 ones-count zero x h = let e : x ≡ 0 = omega arith in rw e (sym (count-start (hasBit 0)))
 ones-count (suc m) x h = ones-step x
-    ∙ sym (count-front m (hasBit x) ∙ omega (arith, bit-is x 0, count-cong m (λ k. hasBit x (suc k)) (hasBit (x / 2)) (λ k l. next-bit x k), ones-count m (x / 2) (omega arith)))
+    ∙ sym (count-front m (hasBit x)
+    ∙ omega (
+      arith,
+      bit-is x 0,
+      count-cong m (λ k. hasBit x (suc k)) (hasBit (x / 2)) (λ k l. next-bit x k),
+      ones-count m (x / 2) (omega arith),
+    ))
 
 pub count-narrow : (m x : ℕ) → m ≤ 64 → x < 2 ^ m → count 64 (hasBit x) ≡ count m (hasBit x)
 count-narrow m x w h = sym (ones-count 64 x (omega (arith, pow-mono {i = m} {j = 64} w))) ∙ ones-count m x h

@@ -38,7 +38,8 @@ holds-right s p (x ∷ xs) ys h =
     rw e (holds-right s (p + 1) xs ys (h .1))
 
 -- the same, with the place of what follows
-pub holds-then : (s : List ℕ) (p q : ℕ) (xs ys : List ℕ) → Holds s p xs → p + length xs ≡ q → Holds s q ys → Holds s p (xs ++ ys)
+pub holds-then :
+    (s : List ℕ) (p q : ℕ) (xs ys : List ℕ) → Holds s p xs → p + length xs ≡ q → Holds s q ys → Holds s p (xs ++ ys)
 holds-then s p q xs ys h e g = holds-append s p xs ys h (rw e g)
 
 pub holds-next : (s : List ℕ) (p q : ℕ) (xs ys : List ℕ) → p + length xs ≡ q → Holds s p (xs ++ ys) → Holds s q ys
@@ -53,7 +54,8 @@ holds-at s p (x ∷ xs) h (suc k) l =
 
 -- the whole sheet
 pub holds-all : (s xs : List ℕ) → Holds s 0 xs → length s ≡ length xs → s ≡ xs
-holds-all s xs h e = ext-getD 0 s xs e (λ k l. let z : 0 + k ≡ k = omega arith in rw z at (holds-at s 0 xs h k (rw e at l)))
+holds-all s xs h e =
+    ext-getD 0 s xs e (λ k l. let z : 0 + k ≡ k = omega arith in rw z at (holds-at s 0 xs h k (rw e at l)))
 
 holds-from : (s ys : List ℕ) (p : ℕ) → ((k : ℕ) → getD s (p + k) 0 ≡ getD ys k 0) → Holds s p ys
 holds-from s [] p h = tt
@@ -88,7 +90,9 @@ module _ (s : List ℕ) (P : ℕ → ℕ) (f : ℕ → List ℕ) where
   joined-place zero step = omega arith
   joined-place (suc n) step = simp length-append (omega (arith, step n here, joined-place n (λ i l. step i (up l))))
 
-  pub joined-holds : (n : ℕ) → ((i : ℕ) → i < n → P (suc i) ≡ P i + length (f i)) → ((i : ℕ) → i < n → Holds s (P i) (f i)) → Holds s (P 0) (joined n f)
+  pub joined-holds :
+      (n : ℕ) → ((i : ℕ) → i < n → P (suc i) ≡ P i + length (f i)) → ((i : ℕ) → i < n → Holds s (P i) (f i))
+      → Holds s (P 0) (joined n f)
   unfolding joined
   joined-holds zero step h = tt
   joined-holds (suc n) step h =
@@ -96,11 +100,14 @@ module _ (s : List ℕ) (P : ℕ → ℕ) (f : ℕ → List ℕ) where
       (rw (joined-place n (λ i l. step i (up l))) at (h n here))
 
   -- here a step may lean on what stands there
-  pub joined-each : (n : ℕ) → ((i : ℕ) → i < n → Holds s (P i) (f i) → P (suc i) ≡ P i + length (f i)) → Holds s (P 0) (joined n f) → (i : ℕ) → i < n → Holds s (P i) (f i)
+  pub joined-each :
+      (n : ℕ) → ((i : ℕ) → i < n → Holds s (P i) (f i) → P (suc i) ≡ P i + length (f i)) → Holds s (P 0) (joined n f)
+      → (i : ℕ) → i < n → Holds s (P i) (f i)
   unfolding joined
   joined-each zero step h i l = absurd (not-suc-le-zero l)
   joined-each (suc n) step h i l =
-      let before : (i : ℕ) → i < n → Holds s (P i) (f i) = joined-each n (λ i l. step i (up l)) (holds-left s (P 0) (joined n f) (f n) h) in
+      let before : (i : ℕ) → i < n → Holds s (P i) (f i) = joined-each n (λ i l. step i (up l))
+      (holds-left s (P 0) (joined n f) (f n) h) in
       let place : P n ≡ P 0 + length (joined n f) = joined-place n (λ i l. step i (up l) (before i l)) in
       ⊎-elim
       (λ (e : i ≡ n). rw (e, place) (holds-right s (P 0) (joined n f) (f n) h))
@@ -129,7 +136,8 @@ module _ (m : ℕ) (b : ℕ → Bool) where
 pub pack-bit : (m : ℕ) (b : ℕ → Bool) (j : ℕ) → j < m → hasBit (pack m b) j ≡ b j
 pack-bit zero b j l = absurd (not-suc-le-zero l)
 pack-bit (suc m) b zero l = low m b
-pack-bit (suc m) b (suc j) l = next-bit _ j ∙ ap (λ x. hasBit x j) (rest m b) ∙ pack-bit m (λ j. b (suc j)) j (le-of-suc-le-suc l)
+pack-bit (suc m) b (suc j) l =
+    next-bit _ j ∙ ap (λ x. hasBit x j) (rest m b) ∙ pack-bit m (λ j. b (suc j)) j (le-of-suc-le-suc l)
 
 pub pack-low : (m : ℕ) (b : ℕ → Bool) → pack m b < 2 ^ m
 unfolding pack
@@ -139,15 +147,22 @@ pack-low (suc m) b = omega (arith, bit-low (b 0), pack-low m (λ j. b (suc j)))
 pack-same : (m : ℕ) (a b : ℕ → Bool) → ((j : ℕ) → a j ≡ b j) → pack m a ≡ pack m b
 unfolding pack
 pack-same zero a b h = refl
-pack-same (suc m) a b h = ap₂ (λ x y. only x 1 + 2 * y) (h 0) (pack-same m (λ j. a (suc j)) (λ j. b (suc j)) (λ j. h (suc j)))
+pack-same (suc m) a b h =
+    ap₂ (λ x y. only x 1 + 2 * y) (h 0) (pack-same m (λ j. a (suc j)) (λ j. b (suc j)) (λ j. h (suc j)))
 
 -- a map with no bit from m on is the map of its bits
 pub pack-bits : (m x : ℕ) → x < 2 ^ m → pack m (hasBit x) ≡ x
 unfolding pack
 pack-bits zero x h = omega arith
 pack-bits (suc m) x h =
-    omega (arith, bit-is x 0, pack-same m (λ j. hasBit x (suc j)) (hasBit (x / 2)) (λ j. next-bit x j), pack-bits m (x / 2) (omega arith))
+    omega (
+      arith,
+      bit-is x 0,
+      pack-same m (λ j. hasBit x (suc j)) (hasBit (x / 2)) (λ j. next-bit x j),
+      pack-bits m (x / 2) (omega arith),
+    )
 
 pub pack-fits : (m : ℕ) (b : ℕ → Bool) → pack m b < 256 ^ mapWidth m
 unfolding mapWidth
-pack-fits m b = omega (arith, pack-low m b, pow-mono {i = m} {j = 8 * ((m + 7) / 8)} (omega arith), bytes-pow ((m + 7) / 8))
+pack-fits m b =
+    omega (arith, pack-low m b, pow-mono {i = m} {j = 8 * ((m + 7) / 8)} (omega arith), bytes-pow ((m + 7) / 8))

@@ -23,7 +23,8 @@ stated-short false x = omega arith
 
 station-short : (t : Tables) (j : ℕ) → length (station t j) ≤ 6
 unfolding station
-station-short t j = simp length-append (omega (arith, bytes-length 4 (getD (t .asks) j 0), bytes-length 2 (getD (t .bays) j 0)))
+station-short t j =
+    simp length-append (omega (arith, bytes-length 4 (getD (t .asks) j 0), bytes-length 2 (getD (t .bays) j 0)))
 
 map-short : (m : ℕ) → m ≤ 40 → mapWidth m ≤ 5
 unfolding mapWidth
@@ -37,10 +38,13 @@ row-short t set h i =
       bytes-length 2 (getD (t .amounts) i 0),
       bytes-length (mapWidth (length (t .asks))) (pack (length (t .asks)) (set i)),
       map-short _ h,
-      joined-most (length (t .asks)) 4 (λ j. stated (set i j) (bidAt t i j)) (λ j. stated-short (set i j) (bidAt t i j)),
+      joined-most (length (t .asks)) 4 (λ j. stated (set i j) (bidAt t i j))
+          (λ j. stated-short (set i j) (bidAt t i j)),
     ))
 
-layout-short : (t : Tables) (set : ℕ → ℕ → Bool) → length (t .amounts) ≤ 200 → length (t .asks) ≤ 40 → length (layout t set) ≤ maxSheet
+layout-short :
+    (t : Tables) (set : ℕ → ℕ → Bool) → length (t .amounts) ≤ 200 → length (t .asks) ≤ 40
+    → length (layout t set) ≤ maxSheet
 unfolding layout
 layout-short t set n m =
     simp length-append (omega (

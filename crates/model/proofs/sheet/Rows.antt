@@ -12,7 +12,8 @@ use Rattle.model.specs.declared.refusal.Refusal.{Refusal}
 use Rattle.model.specs.Counting.{_<?_, count, joined}
 use Rattle.model.specs.Refusals.{_gives_, accepted, refused, firstFault}
 use Rattle.model.proofs.Tests.{lt-no, is-lt, not-lt}
-use Rattle.model.proofs.Refusals.{fault-here, fault-later, fault-none, no-fault, fault-first, fault-second, no-faults}
+use Rattle.model.proofs.Refusals.{fault-here, fault-later, fault-none, no-fault, fault-first, fault-second}
+use Rattle.model.proofs.Refusals.{no-faults}
 use Rattle.model.specs.sheet.Fields.{mapWidth, hasBit}
 use Rattle.model.specs.sheet.Rows.{mapAt, bidsAt, nextAt, rowAt, rowFaults, rowsFaults}
 use Rattle.model.proofs.sheet.Fields.{narrow, wide, count-narrow}
@@ -39,9 +40,13 @@ pub record MapTaken (s : List ℕ) (m p x q : ℕ) : Type 0 where
   pub to : q ≡ bidsAt m p
 
 module _ {s : List ℕ} {m p x q : ℕ} (t : MapTaken s m p x q) where
-  after-map : firstFault (rowFaults s m p) ≡ firstFault ((0 <? x / 2 ^ m gives StrayBit) ∷ (length s <? nextAt s m p gives SheetEnds) ∷ [])
+  after-map :
+      firstFault (rowFaults s m p)
+      ≡ firstFault ((0 <? x / 2 ^ m gives StrayBit) ∷ (length s <? nextAt s m p gives SheetEnds) ∷ [])
   unfolding rowFaults
-  after-map = rw (t .map) (fault-later _ _ (not-lt _ _ (omega (arith, bids-at m p, t .within))) ∙ fault-later _ _ (not-lt _ _ (t .within)))
+  after-map =
+      rw (t .map)
+      (fault-later _ _ (not-lt _ _ (omega (arith, bids-at m p, t .within))) ∙ fault-later _ _ (not-lt _ _ (t .within)))
 
   pub stray : 0 < x / 2 ^ m → firstFault (rowFaults s m p) ≡ refused StrayBit
   stray g = after-map ∙ fault-here _ (is-lt _ _ g)
@@ -58,7 +63,8 @@ module _ {s : List ℕ} {m p x q : ℕ} (t : MapTaken s m p x q) where
     bids-end l = after-map ∙ fault-later _ _ (not-lt _ _ g) ∙ fault-here _ (is-lt _ _ (omega (arith, next-is)))
 
     pub row-good : q + 4 * count 64 (hasBit x) ≤ length s → firstFault (rowFaults s m p) ≡ accepted
-    row-good l = after-map ∙ fault-later _ _ (not-lt _ _ g) ∙ fault-later _ _ (not-lt _ _ (omega (arith, next-is))) ∙ fault-none
+    row-good l =
+        after-map ∙ fault-later _ _ (not-lt _ _ g) ∙ fault-later _ _ (not-lt _ _ (omega (arith, next-is))) ∙ fault-none
 
 -- a row with no fault
 pub record RowSound (s : List ℕ) (m p : ℕ) : Type 0 where
@@ -69,14 +75,16 @@ pub record RowSound (s : List ℕ) (m p : ℕ) : Type 0 where
 pub row-sound : (s : List ℕ) (m p : ℕ) → firstFault (rowFaults s m p) ≡ accepted → RowSound s m p
 unfolding rowFaults
 row-sound s m p e =
-    let (a, e1) = no-fault _ _ _ e in let (b, e2) = no-fault _ _ _ e1 in let (c, e3) = no-fault _ _ _ e2 in let (d, e4) = no-fault _ _ _ e3 in
+    let (a, e1) = no-fault _ _ _ e in
+    let (b, e2) = no-fault _ _ _ e1 in let (c, e3) = no-fault _ _ _ e2 in let (d, e4) = no-fault _ _ _ e3 in
     record { map-in = lt-no _ _ b; no-stray = narrow _ _ (lt-no _ _ c); bids-in = lt-no _ _ d }
 
 pub sound-row : {s : List ℕ} {m p : ℕ} → RowSound s m p → firstFault (rowFaults s m p) ≡ accepted
 unfolding rowFaults
 sound-row {s} {m} {p} t =
     fault-later _ _ (not-lt _ _ (omega (arith, bids-at m p, t .map-in))) ∙ fault-later _ _ (not-lt _ _ (t .map-in))
-    ∙ fault-later _ _ (not-lt _ _ (wide (mapAt s m p) m (t .no-stray))) ∙ fault-later _ _ (not-lt _ _ (t .bids-in)) ∙ fault-none
+    ∙ fault-later _ _ (not-lt _ _ (wide (mapAt s m p) m (t .no-stray)))
+    ∙ fault-later _ _ (not-lt _ _ (t .bids-in)) ∙ fault-none
 
 -- ---- the rows
 
@@ -89,20 +97,27 @@ unfolding rowAt
 rows-to s m i p g = rw (add-one i, g) refl
 
 -- after i sound rows the next one decides
-pub rows-suc : (s : List ℕ) (m i : ℕ) → firstFault (rowsFaults s m i) ≡ accepted → firstFault (rowsFaults s m (suc i)) ≡ firstFault (rowFaults s m (rowAt s m i))
+pub rows-suc :
+    (s : List ℕ) (m i : ℕ) → firstFault (rowsFaults s m i) ≡ accepted
+    → firstFault (rowsFaults s m (suc i)) ≡ firstFault (rowFaults s m (rowAt s m i))
 unfolding rowsFaults joined
 rows-suc s m i e = fault-second _ _ e
 
-rows-still : (s : List ℕ) (m i : ℕ) {r : Refusal} → firstFault (rowsFaults s m i) ≡ refused r → firstFault (rowsFaults s m (suc i)) ≡ refused r
+rows-still :
+    (s : List ℕ) (m i : ℕ) {r : Refusal} → firstFault (rowsFaults s m i) ≡ refused r
+    → firstFault (rowsFaults s m (suc i)) ≡ refused r
 unfolding rowsFaults joined
 rows-still s m i e = fault-first _ _ e
 
-pub rows-more : (s : List ℕ) (m i p : ℕ) → p ≡ rowAt s m i → firstFault (rowsFaults s m i) ≡ accepted → firstFault (rowFaults s m p) ≡ accepted
+pub rows-more :
+    (s : List ℕ) (m i p : ℕ) → p ≡ rowAt s m i → firstFault (rowsFaults s m i) ≡ accepted
+    → firstFault (rowFaults s m p) ≡ accepted
     → firstFault (rowsFaults s m (i + 1)) ≡ accepted
 rows-more s m i p g e f = rw add-one (rows-suc s m i e ∙ rw (← g) f)
 
 -- the first fault of a row is the rows'
-pub rows-fault : (s : List ℕ) (m n i p : ℕ) {r : Refusal} → i < n → p ≡ rowAt s m i → firstFault (rowsFaults s m i) ≡ accepted
+pub rows-fault :
+    (s : List ℕ) (m n i p : ℕ) {r : Refusal} → i < n → p ≡ rowAt s m i → firstFault (rowsFaults s m i) ≡ accepted
     → firstFault (rowFaults s m p) ≡ refused r → firstFault (rowsFaults s m n) ≡ refused r
 rows-fault s m zero i p l g e f = absurd (not-suc-le-zero l)
 rows-fault s m (suc n) i p l g e f = ⊎-elim
@@ -110,18 +125,24 @@ rows-fault s m (suc n) i p l g e f = ⊎-elim
     (λ (h : i < n). rows-still s m n (rows-fault s m n i p h g e f))
     (eq-or-lt-of-le (le-of-suc-le-suc l))
 
-rows-split : (s : List ℕ) (m i : ℕ) → firstFault (rowsFaults s m (suc i)) ≡ accepted → (firstFault (rowsFaults s m i) ≡ accepted) × (firstFault (rowFaults s m (rowAt s m i)) ≡ accepted)
+rows-split :
+    (s : List ℕ) (m i : ℕ) → firstFault (rowsFaults s m (suc i)) ≡ accepted
+    → (firstFault (rowsFaults s m i) ≡ accepted) × (firstFault (rowFaults s m (rowAt s m i)) ≡ accepted)
 unfolding rowsFaults joined
 rows-split s m i e = no-faults (joined i (λ i. rowFaults s m (rowAt s m i))) _ e
 
-pub rows-all : (s : List ℕ) (m i n : ℕ) → i ≡ n → firstFault (rowsFaults s m i) ≡ accepted → firstFault (rowsFaults s m n) ≡ accepted
+pub rows-all :
+    (s : List ℕ) (m i n : ℕ) → i ≡ n → firstFault (rowsFaults s m i) ≡ accepted
+    → firstFault (rowsFaults s m n) ≡ accepted
 rows-all s m i n e f = rw (← e) f
 
 -- each row is sound where they have no fault
-pub sound-at : (s : List ℕ) (m n i p : ℕ) → firstFault (rowsFaults s m n) ≡ accepted → i < n → p ≡ rowAt s m i → RowSound s m p
+pub sound-at :
+    (s : List ℕ) (m n i p : ℕ) → firstFault (rowsFaults s m n) ≡ accepted → i < n → p ≡ rowAt s m i → RowSound s m p
 sound-at s m zero i p e l g = absurd (not-suc-le-zero l)
 sound-at s m (suc n) i p e l g = ⊎-elim
-    (λ (h : i ≡ n). row-sound s m p (ap (λ q. firstFault (rowFaults s m q)) (g ∙ ap (rowAt s m) h) ∙ rows-split s m n e .1))
+    (λ (h : i ≡ n). row-sound s m p
+    (ap (λ q. firstFault (rowFaults s m q)) (g ∙ ap (rowAt s m) h) ∙ rows-split s m n e .1))
     (λ (h : i < n). sound-at s m n i p (rows-split s m n e .0) h g)
     (eq-or-lt-of-le (le-of-suc-le-suc l))
 

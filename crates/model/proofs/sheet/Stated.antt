@@ -14,7 +14,9 @@ use Rattle.model.specs.sheet.Rows.{mapAt, bidsAt, nextAt, rowAt}
 use Rattle.model.proofs.sheet.Rows.{first-row, bids-at}
 use Rattle.model.specs.sheet.Content.{guests, stations}
 use Rattle.model.specs.sheet.Layout.{bytesOf, pack, station, stated, row, layout, Fitting, Bytes}
-use Rattle.model.proofs.sheet.Holds.{Holds, holds-left, holds-then, holds-next, holds-all, holds-self, bytes-length, holds-number, number-holds, joined-place, joined-holds, joined-each, pack-bit, pack-fits}
+use Rattle.model.proofs.sheet.Holds.{Holds, holds-left, holds-then, holds-next, holds-all, holds-self}
+use Rattle.model.proofs.sheet.Holds.{bytes-length, holds-number, number-holds, joined-place, joined-holds}
+use Rattle.model.proofs.sheet.Holds.{joined-each, pack-bit, pack-fits}
 
 -- the market's counts
 abbrev pub n : Tables → ℕ
@@ -38,12 +40,14 @@ unfolding stated only
 stated-length true x = bytes-length 4 x
 stated-length false x = refl
 
-stated-holds : (s : List ℕ) → Bytes s → (p : ℕ) (b : Bool) (x : ℕ) → (b ≡ true → number s p 4 ≡ x) → Holds s p (stated b x)
+stated-holds :
+    (s : List ℕ) → Bytes s → (p : ℕ) (b : Bool) (x : ℕ) → (b ≡ true → number s p 4 ≡ x) → Holds s p (stated b x)
 unfolding stated
 stated-holds s y p true x h = number-holds s y p 4 x (h refl)
 stated-holds s y p false x h = tt
 
-holds-stated : (s : List ℕ) (p : ℕ) (b : Bool) (x : ℕ) → x < 256 ^ 4 → b ≡ true → Holds s p (stated b x) → number s p 4 ≡ x
+holds-stated :
+    (s : List ℕ) (p : ℕ) (b : Bool) (x : ℕ) → x < 256 ^ 4 → b ≡ true → Holds s p (stated b x) → number s p 4 ≡ x
 unfolding stated
 holds-stated s p true x f e h = holds-number s p 4 x f h
 holds-stated s p false x f e h = absurd (clash e refl)
@@ -54,7 +58,8 @@ count-suc j f = refl
 
 -- ---- the bids of one row, from q on
 module _ (s : List ℕ) (m x q : ℕ) (b : ℕ → Bool) (v : ℕ → ℕ) (e : x ≡ pack m b) where
-  bid-step : (j : ℕ) → j < m → q + 4 * count (suc j) (hasBit x) ≡ q + 4 * count j (hasBit x) + length (stated (b j) (v j))
+  bid-step :
+      (j : ℕ) → j < m → q + 4 * count (suc j) (hasBit x) ≡ q + 4 * count j (hasBit x) + length (stated (b j) (v j))
   bid-step j l =
       let f : only (hasBit x j) 1 ≡ only (b j) 1 = ap (λ c. only c 1) (ap (λ y. hasBit y j) e ∙ pack-bit m b j l) in
       omega (arith, count-suc j (hasBit x), stated-length (b j) (v j))
@@ -63,14 +68,22 @@ module _ (s : List ℕ) (m x q : ℕ) (b : ℕ → Bool) (v : ℕ → ℕ) (e : 
   first-bid = omega (arith, count-start (hasBit x))
 
   bids-place : q + 4 * count m (hasBit x) ≡ q + length (joined m (λ j. stated (b j) (v j)))
-  bids-place = omega (arith, first-bid, joined-place s (λ j. q + 4 * count j (hasBit x)) (λ j. stated (b j) (v j)) m bid-step)
+  bids-place =
+      omega (arith, first-bid, joined-place s (λ j. q + 4 * count j (hasBit x)) (λ j. stated (b j) (v j)) m bid-step)
 
-  bids-hold : Bytes s → ((j : ℕ) → j < m → b j ≡ true → number s (q + 4 * count j (hasBit x)) 4 ≡ v j) → Holds s q (joined m (λ j. stated (b j) (v j)))
-  bids-hold y h = rw first-bid at (joined-holds s (λ j. q + 4 * count j (hasBit x)) (λ j. stated (b j) (v j)) m bid-step (λ j l. stated-holds s y _ (b j) (v j) (h j l)))
+  bids-hold :
+      Bytes s → ((j : ℕ) → j < m → b j ≡ true → number s (q + 4 * count j (hasBit x)) 4 ≡ v j)
+      → Holds s q (joined m (λ j. stated (b j) (v j)))
+  bids-hold y h =
+      rw first-bid at (joined-holds s (λ j. q + 4 * count j (hasBit x)) (λ j. stated (b j) (v j)) m bid-step
+      (λ j l. stated-holds s y _ (b j) (v j) (h j l)))
 
-  bids-held : ((j : ℕ) → j < m → v j < 256 ^ 4) → Holds s q (joined m (λ j. stated (b j) (v j))) → (j : ℕ) → j < m → b j ≡ true → number s (q + 4 * count j (hasBit x)) 4 ≡ v j
+  bids-held :
+      ((j : ℕ) → j < m → v j < 256 ^ 4) → Holds s q (joined m (λ j. stated (b j) (v j))) → (j : ℕ) → j < m → b j ≡ true
+      → number s (q + 4 * count j (hasBit x)) 4 ≡ v j
   bids-held f h j l c =
-      holds-stated s _ (b j) (v j) (f j l) c (joined-each s (λ j. q + 4 * count j (hasBit x)) (λ j. stated (b j) (v j)) m (λ j l _. bid-step j l) (rw first-bid h) j l)
+      holds-stated s _ (b j) (v j) (f j l) c (joined-each s (λ j. q + 4 * count j (hasBit x)) (λ j. stated (b j) (v j))
+      m (λ j l _. bid-step j l) (rw first-bid h) j l)
 
 -- ---- one row, at p
 module _ (t : Tables) (set : ℕ → ℕ → Bool) (s : List ℕ) (i p : ℕ) where
@@ -82,15 +95,19 @@ module _ (t : Tables) (set : ℕ → ℕ → Bool) (s : List ℕ) (i p : ℕ) wh
 
   row-place : mapAt s (m t) p ≡ pack (m t) (set i) → nextAt s (m t) p ≡ p + length (row t set i)
   unfolding row nextAt
-  row-place e = simp length-append (omega (arith, amount-long, map-long, bids-place s (m t) (mapAt s (m t) p) (bidsAt (m t) p) (set i) (bidAt t i) e))
+  row-place e =
+      simp length-append (omega
+      (arith, amount-long, map-long, bids-place s (m t) (mapAt s (m t) p) (bidsAt (m t) p) (set i) (bidAt t i) e))
 
   row-holds : Bytes s → number s p 2 ≡ getD (t .amounts) i 0 → mapAt s (m t) p ≡ pack (m t) (set i)
-      → ((j : ℕ) → j < m t → set i j ≡ true → number s (bidsAt (m t) p + 4 * count j (hasBit (mapAt s (m t) p))) 4 ≡ bidAt t i j)
+      → ((j : ℕ) → j < m t → set i j ≡ true
+      → number s (bidsAt (m t) p + 4 * count j (hasBit (mapAt s (m t) p))) 4 ≡ bidAt t i j)
       → Holds s p (row t set i)
   unfolding row mapAt
   row-holds y a e h =
       holds-then s p (p + 2) (amountBytes t i) _ (number-holds s y p 2 _ a) amount-long
-      (holds-then s (p + 2) (bidsAt (m t) p) (mapBytes t set i) _ (number-holds s y (p + 2) (mapWidth (m t)) _ e) map-long
+      (holds-then s (p + 2) (bidsAt (m t) p) (mapBytes t set i) _
+      (number-holds s y (p + 2) (mapWidth (m t)) _ e) map-long
       (bids-hold s (m t) (mapAt s (m t) p) (bidsAt (m t) p) (set i) (bidAt t i) e y h))
 
   module _ (h : Holds s p (row t set i)) where
@@ -104,10 +121,13 @@ module _ (t : Tables) (set : ℕ → ℕ → Bool) (s : List ℕ) (i p : ℕ) wh
 
     row-map : mapAt s (m t) p ≡ pack (m t) (set i)
     unfolding mapAt
-    row-map = holds-number s (p + 2) (mapWidth (m t)) _ (pack-fits (m t) (set i)) (holds-left s (p + 2) (mapBytes t set i) _ after-amount)
+    row-map =
+        holds-number s (p + 2) (mapWidth (m t)) _ (pack-fits (m t) (set i))
+        (holds-left s (p + 2) (mapBytes t set i) _ after-amount)
 
     row-bids : ((j : ℕ) → j < m t → bidAt t i j < 256 ^ 4)
-        → (j : ℕ) → j < m t → set i j ≡ true → number s (bidsAt (m t) p + 4 * count j (hasBit (mapAt s (m t) p))) 4 ≡ bidAt t i j
+        → (j : ℕ) → j < m t → set i j ≡ true
+        → number s (bidsAt (m t) p + 4 * count j (hasBit (mapAt s (m t) p))) 4 ≡ bidAt t i j
     row-bids f = bids-held s (m t) (mapAt s (m t) p) (bidsAt (m t) p) (set i) (bidAt t i) row-map f
         (holds-next s (p + 2) (bidsAt (m t) p) (mapBytes t set i) _ map-long after-amount)
 
@@ -115,16 +135,21 @@ module _ (t : Tables) (set : ℕ → ℕ → Bool) (s : List ℕ) (i p : ℕ) wh
 module _ (t : Tables) (s : List ℕ) (j p : ℕ) where
   station-length : length (station t j) ≡ 6
   unfolding station
-  station-length = simp length-append (omega (arith, bytes-length 4 (getD (t .asks) j 0), bytes-length 2 (getD (t .bays) j 0)))
+  station-length =
+      simp length-append (omega (arith, bytes-length 4 (getD (t .asks) j 0), bytes-length 2 (getD (t .bays) j 0)))
 
   ask-long : p + length (askBytes t j) ≡ p + 4
   ask-long = omega (arith, bytes-length 4 (getD (t .asks) j 0))
 
-  station-holds : Bytes s → number s p 4 ≡ getD (t .asks) j 0 → number s (p + 4) 2 ≡ getD (t .bays) j 0 → Holds s p (station t j)
+  station-holds :
+      Bytes s → number s p 4 ≡ getD (t .asks) j 0 → number s (p + 4) 2 ≡ getD (t .bays) j 0 → Holds s p (station t j)
   unfolding station
-  station-holds y a b = holds-then s p (p + 4) (askBytes t j) _ (number-holds s y p 4 _ a) ask-long (number-holds s y (p + 4) 2 _ b)
+  station-holds y a b =
+      holds-then s p (p + 4) (askBytes t j) _ (number-holds s y p 4 _ a) ask-long (number-holds s y (p + 4) 2 _ b)
 
-  station-held : getD (t .asks) j 0 < 256 ^ 4 → getD (t .bays) j 0 < 256 ^ 2 → Holds s p (station t j) → (number s p 4 ≡ getD (t .asks) j 0) × (number s (p + 4) 2 ≡ getD (t .bays) j 0)
+  station-held :
+      getD (t .asks) j 0 < 256 ^ 4 → getD (t .bays) j 0 < 256 ^ 2 → Holds s p (station t j)
+      → (number s p 4 ≡ getD (t .asks) j 0) × (number s (p + 4) 2 ≡ getD (t .bays) j 0)
   unfolding station
   station-held f g h = (
     holds-number s p 4 _ f (holds-left s p (askBytes t j) _ h),
@@ -140,7 +165,8 @@ pub record Fields (s : List ℕ) (t : Tables) (set : ℕ → ℕ → Bool) : Typ
   pub amount-is : (i : ℕ) → i < n t → number s (rowAt s (m t) i) 2 ≡ getD (t .amounts) i 0
   pub map-is : (i : ℕ) → i < n t → mapAt s (m t) (rowAt s (m t) i) ≡ pack (m t) (set i)
   pub bid-is : (i j : ℕ) → i < n t → j < m t → set i j ≡ true
-      → number s (bidsAt (m t) (rowAt s (m t) i) + 4 * count j (hasBit (mapAt s (m t) (rowAt s (m t) i)))) 4 ≡ bidAt t i j
+      → number s (bidsAt (m t) (rowAt s (m t) i) + 4 * count j (hasBit (mapAt s (m t) (rowAt s (m t) i)))) 4
+      ≡ bidAt t i j
   pub end : rowAt s (m t) (n t) ≡ length s
 
 pub row-suc : (s : List ℕ) (m i : ℕ) → rowAt s m (suc i) ≡ nextAt s m (rowAt s m i)
@@ -164,7 +190,9 @@ module _ (s : List ℕ) (t : Tables) (set : ℕ → ℕ → Bool) where
   unfolding layout
   layout-long p e = simp length-append (omega (arith, n-long, m-long, stations-long))
 
-  row-step : (i : ℕ) → mapAt s (m t) (rowAt s (m t) i) ≡ pack (m t) (set i) → rowAt s (m t) (suc i) ≡ rowAt s (m t) i + length (row t set i)
+  row-step :
+      (i : ℕ) → mapAt s (m t) (rowAt s (m t) i) ≡ pack (m t) (set i)
+      → rowAt s (m t) (suc i) ≡ rowAt s (m t) i + length (row t set i)
   row-step i e = row-suc s (m t) i ∙ row-place t set s i (rowAt s (m t) i) e
 
   -- such a sheet is the layout
@@ -174,11 +202,13 @@ module _ (s : List ℕ) (t : Tables) (set : ℕ → ℕ → Bool) where
       (holds-then s 0 2 (bytesOf 2 (n t)) _ (number-holds s y 0 2 _ (f .n-is)) n-long
       (holds-then s 2 4 (bytesOf 2 (m t)) _ (number-holds s y 2 2 _ (f .m-is)) m-long
       (holds-then s 4 (rowAt s (m t) 0) (joined (m t) (station t)) _
-      (joined-holds s (λ j. 4 + 6 * j) (station t) (m t) (λ j _. six j) (λ j l. station-holds t s j (4 + 6 * j) y (f .ask-is j l) (let e : 4 + 6 * j + 4 ≡ 8 + 6 * j = omega arith in rw e (f .bays-are j l))))
+      (joined-holds s (λ j. 4 + 6 * j) (station t) (m t) (λ j _. six j) (λ j l. station-holds t s j (4 + 6 * j) y
+      (f .ask-is j l) (let e : 4 + 6 * j + 4 ≡ 8 + 6 * j = omega arith in rw e (f .bays-are j l))))
       stations-long
       (joined-holds s (rowAt s (m t)) (row t set) (n t) (λ i l. row-step i (f .map-is i l))
       (λ i l. row-holds t set s i (rowAt s (m t) i) y (f .amount-is i l) (f .map-is i l) (λ j k. f .bid-is i j l k))))))
-      (sym (layout-long (length s) (sym (f .end) ∙ joined-place s (rowAt s (m t)) (row t set) (n t) (λ i l. row-step i (f .map-is i l)))))
+      (sym (layout-long (length s)
+      (sym (f .end) ∙ joined-place s (rowAt s (m t)) (row t set) (n t) (λ i l. row-step i (f .map-is i l)))))
 
   -- and the layout has such fields
   module _ (g : Fitting t) (e : s ≡ layout t set) where
@@ -192,12 +222,16 @@ module _ (s : List ℕ) (t : Tables) (set : ℕ → ℕ → Bool) where
     from-4 : Holds s 4 (joined (m t) (station t) ++ joined (n t) (row t set))
     from-4 = holds-next s 2 4 (bytesOf 2 (m t)) _ m-long from-2
 
-    station-at : (j : ℕ) → j < m t → (number s (4 + 6 * j) 4 ≡ getD (t .asks) j 0) × (number s (4 + 6 * j + 4) 2 ≡ getD (t .bays) j 0)
+    station-at :
+        (j : ℕ) → j < m t
+        → (number s (4 + 6 * j) 4 ≡ getD (t .asks) j 0) × (number s (4 + 6 * j + 4) 2 ≡ getD (t .bays) j 0)
     station-at j l = station-held t s j (4 + 6 * j) (g .ask-fits j l) (g .bays-fit j l)
-        (joined-each s (λ j. 4 + 6 * j) (station t) (m t) (λ j _ _. six j) (holds-left s 4 (joined (m t) (station t)) _ from-4) j l)
+        (joined-each s (λ j. 4 + 6 * j) (station t) (m t) (λ j _ _. six j)
+        (holds-left s 4 (joined (m t) (station t)) _ from-4) j l)
 
     row-at : (i : ℕ) → i < n t → Holds s (rowAt s (m t) i) (row t set i)
-    row-at = joined-each s (rowAt s (m t)) (row t set) (n t) (λ i _ h. row-step i (row-map t set s i (rowAt s (m t) i) h))
+    row-at =
+        joined-each s (rowAt s (m t)) (row t set) (n t) (λ i _ h. row-step i (row-map t set s i (rowAt s (m t) i) h))
         (holds-next s 4 (rowAt s (m t) 0) (joined (m t) (station t)) _ stations-long from-4)
 
     map-at : (i : ℕ) → i < n t → mapAt s (m t) (rowAt s (m t) i) ≡ pack (m t) (set i)
@@ -213,5 +247,6 @@ module _ (s : List ℕ) (t : Tables) (set : ℕ → ℕ → Bool) where
       amount-is = λ i l. row-amount t set s i (rowAt s (m t) i) (row-at i l) (g .amount-fits i l);
       map-is = map-at;
       bid-is = λ i j l k. row-bids t set s i (rowAt s (m t) i) (row-at i l) (λ j k. g .bid-fits i j l k) j k;
-      end = joined-place s (rowAt s (m t)) (row t set) (n t) (λ i l. row-step i (map-at i l)) ∙ sym (layout-long _ refl) ∙ ap length (sym e);
+      end = joined-place s (rowAt s (m t)) (row t set) (n t) (λ i l. row-step i (map-at i l))
+          ∙ sym (layout-long _ refl) ∙ ap length (sym e);
     }

@@ -26,7 +26,8 @@ use Rattle.model.specs.contracts.Reads.{lentTables, readInto, written, R
 pub room-for : (n m k : ℕ) → n ≤ 200 → m ≤ 40 → k ≡ 8000 → n * m ≤ k
 room-for n m k h g e = omega (arith, product-fits n m h g)
 
-pub lent-lengths : (a b c d : ℕ) → lentTables a b c d ≡ (false gives LentLengths) → (a ≡ 200) × (b ≡ 40) × (c ≡ 40) × (d ≡ 8000)
+pub lent-lengths :
+    (a b c d : ℕ) → lentTables a b c d ≡ (false gives LentLengths) → (a ≡ 200) × (b ≡ 40) × (c ≡ 40) × (d ≡ 8000)
 unfolding lentTables
 lent-lengths a b c d e =
     let t : (not (a =? 200) or not (b =? 40) or not (c =? 40) or not (d =? 8000)) ≡ false = cc in
@@ -37,31 +38,42 @@ lent-lengths a b c d e =
     is true e = refl
     is false e = sym e
 
-pub rows-good : {s : List ℕ} {n m : ℕ} → Sound s → n ≡ guests s → m ≡ stations s → firstFault (rowsFaults s m n) ≡ accepted
+pub rows-good :
+    {s : List ℕ} {n m : ℕ} → Sound s → n ≡ guests s → m ≡ stations s → firstFault (rowsFaults s m n) ≡ accepted
 rows-good t e f = rw (e, f) (t .rows-in)
 
 module _ (s a b c d : List ℕ) where
-  refused-by : (r : Refusal) → firstFault (lentTables (length a) (length b) (length c) (length d) ∷ sheetFaults s) ≡ refused r → Reads s a b c d (Refused r) a b c d
+  refused-by :
+      (r : Refusal) → firstFault (lentTables (length a) (length b) (length c) (length d) ∷ sheetFaults s) ≡ refused r
+      → Reads s a b c d (Refused r) a b c d
   unfolding readInto contentBy answerOf written
-  refused-by r e = record { answers = rw e refl; amounts-are = rw e refl; asks-are = rw e refl; bays-are = rw e refl; bids-are = rw e refl }
+  refused-by r e =
+      record
+      { answers = rw e refl; amounts-are = rw e refl; asks-are = rw e refl; bays-are = rw e refl; bids-are = rw e refl }
 
-  pub refused-lent : lentTables (length a) (length b) (length c) (length d) ≡ (true gives LentLengths) → Reads s a b c d (Refused LentLengths) a b c d
+  pub refused-lent :
+      lentTables (length a) (length b) (length c) (length d) ≡ (true gives LentLengths)
+      → Reads s a b c d (Refused LentLengths) a b c d
   refused-lent e = refused-by LentLengths (rw e (fault-here _ refl))
 
   module _ (l : lentTables (length a) (length b) (length c) (length d) ≡ (false gives LentLengths)) where
-    as-sheet : firstFault (lentTables (length a) (length b) (length c) (length d) ∷ sheetFaults s) ≡ firstFault (sheetFaults s)
+    as-sheet :
+        firstFault (lentTables (length a) (length b) (length c) (length d) ∷ sheetFaults s) ≡ firstFault (sheetFaults s)
     as-sheet = rw l (fault-later _ _ refl)
 
-    pub refused-sheet : (x : Refusal) (r : Reading) → r ≡ answerOf (readSheet s) → r ≡ Refused x → Reads s a b c d (Refused x) a b c d
+    pub refused-sheet :
+        (x : Refusal) (r : Reading) → r ≡ answerOf (readSheet s) → r ≡ Refused x → Reads s a b c d (Refused x) a b c d
     unfolding readSheet
     refused-sheet x r e f = refused-by x (as-sheet ∙ told-refused (firstFault (sheetFaults s)) (tablesOf s) x r e f)
 
-    pub read-all : (n m : ℕ) (a′ b′ c′ d′ : List ℕ) → firstFault (sheetFaults s) ≡ accepted → n ≡ guests s → m ≡ stations s
+    pub read-all :
+        (n m : ℕ) (a′ b′ c′ d′ : List ℕ) → firstFault (sheetFaults s) ≡ accepted → n ≡ guests s → m ≡ stations s
         → a′ ≡ over (list n (amountOf s m)) a → b′ ≡ over (list m (askOf s)) b → c′ ≡ over (list m (baysOf s)) c
         → d′ ≡ over (joined n (λ i. list m (bidOf s m i))) d → Reads s a b c d (Read n m) a′ b′ c′ d′
     unfolding readInto contentBy answerOf written tablesOf
     read-all n m a′ b′ c′ d′ e f g i j k l =
-        let h : firstFault (lentTables (length a) (length b) (length c) (length d) ∷ sheetFaults s) ≡ accepted = as-sheet ∙ e in
+        let h : firstFault (lentTables (length a) (length b) (length c) (length d) ∷ sheetFaults s)
+        ≡ accepted = as-sheet ∙ e in
         record {
           answers = rw (h, length-list, length-list, f, g) refl;
           amounts-are = rw (h, ← f, ← g) i;

@@ -4,7 +4,8 @@ use mathlib.Core.Bool.{Bool, true, false}
 use mathlib.Core.List.{List, _++_}
 use mathlib.Core.Logic.{⊎-elim}
 use mathlib.Core.Path.{_≡_, refl, sym, ap, _∙_, subst}
-use native.Mathlib.Nat.{not-suc-le-zero, eq-or-lt-of-le, le-of-suc-le-suc, le-antisymm, div-add-mod', div-lt-iff-lt-mul, mod-lt, mul-le-mul-right}
+use native.Mathlib.Nat.{not-suc-le-zero, eq-or-lt-of-le, le-of-suc-le-suc, le-antisymm, div-add-mod', div-lt-iff-lt-mul}
+use native.Mathlib.Nat.{mod-lt, mul-le-mul-right}
 use native.Mathlib.Omega.{arith}
 use lib.ListN.{length, getD, List·getD-append}
 use lib.Seq.{ext-getD, getD-append-add}
@@ -14,7 +15,8 @@ use Rattle.model.specs.Refusals.{Verdict, accepted, refused, firstFault}
 use Rattle.model.proofs.Counting.{up, here, length-list, getD-list}
 use Rattle.model.proofs.Tests.{decide, only-le, only-yes, only-no}
 use Rattle.model.specs.sheet.Fields.{number, hasBit}
-use Rattle.model.specs.sheet.Rows.{mapAt, bidsAt, nextAt, rowAt, askOf, baysOf, amountOf, bidBy, bidOf, rowsFaults}
+use Rattle.model.specs.sheet.Rows.{mapAt, bidsAt, nextAt, rowAt, askOf, baysOf, amountOf, bidBy, bidOf}
+use Rattle.model.specs.sheet.Rows.{rowsFaults}
 use Rattle.model.proofs.sheet.Rows.{bids-at, RowSound, sound-row, sound-at, rows-none, rows-suc, first-row}
 use Rattle.model.proofs.sheet.Fields.{number-low}
 use Rattle.model.proofs.sheet.Joined.{joined-length}
@@ -27,17 +29,25 @@ use Rattle.model.proofs.sheet.Stated.{n, m, Fields, row-suc, fields-lay
 -- ---- lists by their places
 
 list-is : (n : ℕ) (f : ℕ → ℕ) (l : List ℕ) → length l ≡ n → ((k : ℕ) → k < n → f k ≡ getD l k 0) → list n f ≡ l
-list-is n f l e h = ext-getD 0 (list n f) l (length-list n f ∙ sym e) (λ k b. let c : k < n = omega (arith, length-list n f) in getD-list n f k c ∙ h k c)
+list-is n f l e h =
+    ext-getD 0 (list n f) l (length-list n f ∙ sym e)
+    (λ k b. let c : k < n = omega (arith, length-list n f) in getD-list n f k c ∙ h k c)
 
-getD-joined : (n m : ℕ) (f : ℕ → ℕ → ℕ) (i j : ℕ) → i < n → j < m → getD (joined n (λ i. list m (f i))) (i * m + j) 0 ≡ f i j
+getD-joined :
+    (n m : ℕ) (f : ℕ → ℕ → ℕ) (i j : ℕ) → i < n → j < m → getD (joined n (λ i. list m (f i))) (i * m + j) 0 ≡ f i j
 unfolding joined
 getD-joined zero m f i j l k = absurd (not-suc-le-zero l)
 getD-joined (suc n) m f i j l k = ⊎-elim
-    (λ (e : i ≡ n). rw e (ap (λ z. getD (joined n (λ i. list m (f i)) ++ list m (f n)) (z + j) 0) (sym (joined-length n m f)) ∙ getD-append-add (joined n (λ i. list m (f i))) (list m (f n)) j 0 ∙ getD-list m (f n) j k))
-    (λ (h : i < n). List·getD-append (joined n (λ i. list m (f i))) _ 0 (i * m + j) (omega (arith, joined-length n m f, mul-le-mul-right m h)) ∙ getD-joined n m f i j h k)
+    (λ (e : i ≡ n). rw e (ap (λ z. getD (joined n (λ i. list m (f i)) ++ list m (f n)) (z + j) 0)
+    (sym (joined-length n m f))
+    ∙ getD-append-add (joined n (λ i. list m (f i))) (list m (f n)) j 0 ∙ getD-list m (f n) j k))
+    (λ (h : i < n). List·getD-append (joined n (λ i. list m (f i))) _ 0 (i * m + j)
+    (omega (arith, joined-length n m f, mul-le-mul-right m h)) ∙ getD-joined n m f i j h k)
     (eq-or-lt-of-le (le-of-suc-le-suc l))
 
-joined-is : (n m : ℕ) (f : ℕ → ℕ → ℕ) (l : List ℕ) → 0 < m → length l ≡ n * m → ((i j : ℕ) → i < n → j < m → f i j ≡ getD l (i * m + j) 0) → joined n (λ i. list m (f i)) ≡ l
+joined-is :
+    (n m : ℕ) (f : ℕ → ℕ → ℕ) (l : List ℕ) → 0 < m → length l ≡ n * m
+    → ((i j : ℕ) → i < n → j < m → f i j ≡ getD l (i * m + j) 0) → joined n (λ i. list m (f i)) ≡ l
 joined-is n m f l z e h = ext-getD 0 (joined n (λ i. list m (f i))) l (joined-length n m f ∙ sym e) (λ k b.
     let i : k / m < n = div-lt-iff-lt-mul z .1 (omega (arith, joined-length n m f)) in
     let j : k % m < m = mod-lt k z in
@@ -56,14 +66,17 @@ rise : (s : List ℕ) (m n i : ℕ) → i ≤ n → rowAt s m i ≤ rowAt s m n
 rise s m zero i l = let e : i ≡ 0 = omega arith in rw e (omega arith)
 rise s m (suc n) i l = ⊎-elim
     (λ (e : i ≡ suc n). rw e (omega arith))
-    (λ (h : i < suc n). omega (arith, rise s m n i (le-of-suc-le-suc h), row-suc s m n, next-more s m (rowAt s m n), bids-at m (rowAt s m n)))
+    (λ (h : i < suc n). omega
+    (arith, rise s m n i (le-of-suc-le-suc h), row-suc s m n, next-more s m (rowAt s m n), bids-at m (rowAt s m n)))
     (eq-or-lt-of-le l)
 
-within : (s : List ℕ) (m n : ℕ) → 4 + 6 * m ≤ length s → firstFault (rowsFaults s m n) ≡ accepted → rowAt s m n ≤ length s
+within :
+    (s : List ℕ) (m n : ℕ) → 4 + 6 * m ≤ length s → firstFault (rowsFaults s m n) ≡ accepted → rowAt s m n ≤ length s
 within s m zero h e = omega (arith, first-row s m)
 within s m (suc n) h e = omega (arith, row-suc s m n, sound-at s m (suc n) n (rowAt s m n) e here refl .bids-in)
 
-all-sound : (s : List ℕ) (m n : ℕ) → ((i : ℕ) → i < n → RowSound s m (rowAt s m i)) → firstFault (rowsFaults s m n) ≡ accepted
+all-sound :
+    (s : List ℕ) (m n : ℕ) → ((i : ℕ) → i < n → RowSound s m (rowAt s m i)) → firstFault (rowsFaults s m n) ≡ accepted
 all-sound s m zero h = rows-none s m
 all-sound s m (suc n) h = rows-suc s m n (all-sound s m n (λ i l. h i (up l))) ∙ sound-row (h n here)
 
@@ -72,7 +85,8 @@ all-sound s m (suc n) h = rows-suc s m n (all-sound s m n (λ i l. h i (up l))) 
 module _ (s : List ℕ) (t : Tables) (set : ℕ → ℕ → Bool) (g : Fitting t) (f : Fields s t set) where
   row-is-sound : (i : ℕ) → i < n t → RowSound s (m t) (rowAt s (m t) i)
   row-is-sound i l =
-      let e : nextAt s (m t) (rowAt s (m t) i) ≤ length s = omega (arith, row-suc s (m t) i, rise s (m t) (n t) (suc i) l, f .end) in
+      let e : nextAt s (m t) (rowAt s (m t) i) ≤ length s = omega
+      (arith, row-suc s (m t) i, rise s (m t) (n t) (suc i) l, f .end) in
       record {
         map-in = omega (arith, next-more s (m t) (rowAt s (m t) i));
         no-stray = rw (f .map-is i l) (pack-low (m t) (set i));
@@ -80,7 +94,9 @@ module _ (s : List ℕ) (t : Tables) (set : ℕ → ℕ → Bool) (g : Fitting t
       }
 
   no-fault-in : firstFault (sheetFaults s) ≡ accepted
-  no-fault-in = whole (record { within = omega (arith, first); n-is = sym (f .n-is); m-is = sym (f .m-is) }) (counts-good (n t) (m t) (g .few) (g .some) (g .narrow))
+  no-fault-in =
+      whole (record { within = omega (arith, first); n-is = sym (f .n-is); m-is = sym (f .m-is) })
+      (counts-good (n t) (m t) (g .few) (g .some) (g .narrow))
       first (all-sound s (m t) (n t) row-is-sound) (omega (arith, f .end))
     where
       first : 4 + 6 * m t ≤ length s
@@ -90,7 +106,8 @@ module _ (s : List ℕ) (t : Tables) (set : ℕ → ℕ → Bool) (g : Fitting t
     bid-same : (i j : ℕ) → i < n t → j < m t → bidOf s (m t) i j ≡ bidAt t i j
     unfolding bidOf bidBy
     bid-same i j l k =
-        let e : hasBit (mapAt s (m t) (rowAt s (m t) i)) j ≡ set i j = ap (λ x. hasBit x j) (f .map-is i l) ∙ pack-bit (m t) (set i) j k in
+        let e : hasBit (mapAt s (m t) (rowAt s (m t) i)) j ≡ set i j = ap (λ x. hasBit x j) (f .map-is i l)
+        ∙ pack-bit (m t) (set i) j k in
         ⊎-elim
         (λ (b : set i j ≡ true). only-yes _ _ (e ∙ b) ∙ f .bid-is i j l k b)
         (λ (b : set i j ≡ false). only-no _ _ (e ∙ b) ∙ sym (covers i j l k b))
@@ -138,7 +155,8 @@ tables-are s = record {
   ask-at = λ j l. getD-list (stations s) _ j (rw length-list at l);
   bays-at = λ j l. getD-list (stations s) _ j (rw length-list at l);
   amount-at = λ i l. simp length-list (getD-list (guests s) _ i (rw length-list at l));
-  bid-at = λ i j l k. simp length-list (getD-joined (guests s) (stations s) (bidOf s (stations s)) i j (rw length-list at l) (rw length-list at k));
+  bid-at = λ i j l k. simp length-list
+      (getD-joined (guests s) (stations s) (bidOf s (stations s)) i j (rw length-list at l) (rw length-list at k));
 }
 
 module _ (s : List ℕ) (t : Tables) (y : Bytes s) (z : firstFault (sheetFaults s) ≡ accepted) (w : Is s t) where
@@ -176,7 +194,8 @@ module _ (s : List ℕ) (t : Tables) (y : Bytes s) (z : firstFault (sheetFaults 
     amount-is = λ i l. sym (w .amount-at i l);
     map-is = λ i l. sym (pack-bits (m t) _ (sound-at s (m t) (n t) i _ rows-in l refl .no-stray));
     bid-is = λ i j l k b. sym (w .bid-at i j l k ∙ only-yes _ _ b);
-    end = le-antisymm (within s (m t) (n t) (omega (arith, w .m-is, sound .stations-in)) rows-in) (rw (w .m-is, w .n-is) (sound .end));
+    end = le-antisymm (within s (m t) (n t) (omega (arith, w .m-is, sound .stations-in)) rows-in)
+        (rw (w .m-is, w .n-is) (sound .end));
   }
 
   states : States s t

@@ -7,7 +7,8 @@ use Rattle.model.specs.market.Market.{Tables}
 use Rattle.model.specs.market.Mechanism.{charged, sold, paid, margin}
 use Rattle.model.specs.market.Outcome.{seen, decided}
 
--- document 01's book: a number for each guest account, kWh sold and money paid for each station account (two lists of one length), the house's, the last round
+-- document 01's book: a number for each guest account, kWh sold and money paid for each station account (two lists of
+-- one length), the house's, the last round
 pub record Book : Type 0 where
   pub guests : List ℕ
   pub sold : List ℕ

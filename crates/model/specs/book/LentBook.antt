@@ -22,7 +22,9 @@ blank g s = book (replicate g 0) (replicate s (account 0 0)) 0 0
 
 -- the plain book with the same numbers
 unfoldable pub plain : LentBook → Book
-plain B = record { guests = B .guests; sold = soldOf (B .stations); paid = paidOf (B .stations); house = B .house; last = B .last }
+plain B =
+    record
+    { guests = B .guests; sold = soldOf (B .stations); paid = paidOf (B .stations); house = B .house; last = B .last }
 
 -- it leaves nothing of the lent book out
 abbrev pub PlainDetermines : Type 0

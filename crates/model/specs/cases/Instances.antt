@@ -22,7 +22,9 @@ pub record GuestInstance : Type 0 where
   pub alike : AlikeButForGuest caseG overbid 1
   pub truth-gains : guestGain (seen caseG) (decided caseG) (bidAt caseG 1) 1 ≡ pos 0
   pub overbid-gains : guestGain (seen overbid) (decided overbid) (bidAt caseG 1) 1 ≡ negsuc 6
-  pub no-more : guestGain (seen overbid) (decided overbid) (bidAt caseG 1) 1 ≤ℤ guestGain (seen caseG) (decided caseG) (bidAt caseG 1) 1
+  pub no-more :
+      guestGain (seen overbid) (decided overbid) (bidAt caseG 1) 1 ≤ℤ guestGain (seen caseG)
+      (decided caseG) (bidAt caseG 1) 1
 
 -- station 1 costs 5 and stays closed; asking 1 it opens, and sells at the cut, 3
 unfoldable pub costly : Tables

@@ -3,7 +3,8 @@ use Prim.Native.Nat.{ℕ}
 use mathlib.Core.List.{List, [], _∷_, _++_, map}
 use mathlib.Core.Path.{_≡_}
 use lib.ListN.{length, take}
-use Rattle.model.specs.declared.refusal.Refusal.the-variants.{SheetEnds, CountsOutOfRange, StrayBit, TrailingBytes, LentLengths}
+use Rattle.model.specs.declared.refusal.Refusal.the-variants.{SheetEnds, CountsOutOfRange, StrayBit}
+use Rattle.model.specs.declared.refusal.Refusal.the-variants.{TrailingBytes, LentLengths}
 use Rattle.model.specs.Counting.{joined}
 use Rattle.model.specs.market.Market.{Tables}
 use Rattle.model.specs.cases.Cases.{tableI, pair, caseE}
@@ -13,7 +14,8 @@ use Rattle.model.specs.contracts.Reads.{readInto}
 -- Table I
 unfoldable pub sheetA : List ℕ
 sheetA = 5 ∷ 0 ∷ 5 ∷ 0
-    ∷ 4 ∷ 0 ∷ 0 ∷ 0 ∷ 1 ∷ 0 ∷ 1 ∷ 0 ∷ 0 ∷ 0 ∷ 2 ∷ 0 ∷ 3 ∷ 0 ∷ 0 ∷ 0 ∷ 4 ∷ 0 ∷ 2 ∷ 0 ∷ 0 ∷ 0 ∷ 2 ∷ 0 ∷ 5 ∷ 0 ∷ 0 ∷ 0 ∷ 3 ∷ 0
+    ∷ 4 ∷ 0 ∷ 0 ∷ 0 ∷ 1 ∷ 0 ∷ 1 ∷ 0 ∷ 0 ∷ 0 ∷ 2 ∷ 0 ∷ 3 ∷ 0 ∷ 0 ∷ 0 ∷ 4 ∷ 0 ∷ 2 ∷ 0 ∷ 0 ∷ 0 ∷ 2
+    ∷ 0 ∷ 5 ∷ 0 ∷ 0 ∷ 0 ∷ 3 ∷ 0
     ∷ 5 ∷ 0 ∷ 26 ∷ 4 ∷ 0 ∷ 0 ∷ 0 ∷ 5 ∷ 0 ∷ 0 ∷ 0 ∷ 2 ∷ 0 ∷ 0 ∷ 0
     ∷ 2 ∷ 0 ∷ 13 ∷ 2 ∷ 0 ∷ 0 ∷ 0 ∷ 5 ∷ 0 ∷ 0 ∷ 0 ∷ 1 ∷ 0 ∷ 0 ∷ 0
     ∷ 6 ∷ 0 ∷ 11 ∷ 7 ∷ 0 ∷ 0 ∷ 0 ∷ 5 ∷ 0 ∷ 0 ∷ 0 ∷ 4 ∷ 0 ∷ 0 ∷ 0
@@ -37,7 +39,8 @@ sheetI = 0 ∷ 0 ∷ 2 ∷ 0 ∷ 2 ∷ 0 ∷ 0 ∷ 0 ∷ 1 ∷ 0 ∷ 6 ∷ 0 ∷
 -- nine stations, so a map of two bytes, and a bid at the ninth alone
 unfoldable pub sheetNine : List ℕ
 sheetNine = 1 ∷ 0 ∷ 9 ∷ 0
-    ∷ 1 ∷ 0 ∷ 0 ∷ 0 ∷ 1 ∷ 0 ∷ 1 ∷ 0 ∷ 0 ∷ 0 ∷ 1 ∷ 0 ∷ 1 ∷ 0 ∷ 0 ∷ 0 ∷ 1 ∷ 0 ∷ 1 ∷ 0 ∷ 0 ∷ 0 ∷ 1 ∷ 0 ∷ 1 ∷ 0 ∷ 0 ∷ 0 ∷ 1 ∷ 0 ∷ 1 ∷ 0 ∷ 0 ∷ 0 ∷ 1 ∷ 0 ∷ 1 ∷ 0 ∷ 0 ∷ 0 ∷ 1 ∷ 0 ∷ 1 ∷ 0 ∷ 0 ∷ 0 ∷ 1 ∷ 0 ∷ 1 ∷ 0 ∷ 0 ∷ 0 ∷ 1 ∷ 0
+    ∷ 1 ∷ 0 ∷ 0 ∷ 0 ∷ 1 ∷ 0 ∷ 1 ∷ 0 ∷ 0 ∷ 0 ∷ 1 ∷ 0 ∷ 1 ∷ 0 ∷ 0 ∷ 0 ∷ 1 ∷ 0 ∷ 1 ∷ 0 ∷ 0 ∷ 0 ∷ 1 ∷ 0 ∷ 1 ∷ 0 ∷ 0 ∷ 0 ∷ 1
+    ∷ 0 ∷ 1 ∷ 0 ∷ 0 ∷ 0 ∷ 1 ∷ 0 ∷ 1 ∷ 0 ∷ 0 ∷ 0 ∷ 1 ∷ 0 ∷ 1 ∷ 0 ∷ 0 ∷ 0 ∷ 1 ∷ 0 ∷ 1 ∷ 0 ∷ 0 ∷ 0 ∷ 1 ∷ 0
     ∷ 7 ∷ 1 ∷ 0 ∷ 1 ∷ 1 ∷ 2 ∷ 3 ∷ 4 ∷ []
 
 unfoldable pub marketNine : Tables
@@ -55,12 +58,15 @@ MarketsRead = map readSheet (sheetA ∷ sheetE ∷ sheetE0 ∷ sheetI ∷ sheetN
 
 -- E cut short anywhere
 abbrev pub TruncationsRefused : Type 0
-TruncationsRefused = joined (length sheetE) (λ k. readSheet (take k sheetE) ∷ []) ≡ joined 30 (λ k. fault SheetEnds ∷ [])
+TruncationsRefused =
+    joined (length sheetE) (λ k. readSheet (take k sheetE) ∷ []) ≡ joined 30 (λ k. fault SheetEnds ∷ [])
 
--- 201 guests, no station, 41 stations, each with nothing after the header; a bit beyond station 2 with no bid after the map; a byte more;
+-- 201 guests, no station, 41 stations, each with nothing after the header; a bit beyond station 2 with no bid
+-- after the map; a byte more;
 -- no lent table at all
 abbrev pub FaultsRefused : Type 0
 FaultsRefused = (map readSheet (
     (201 ∷ 0 ∷ 1 ∷ 0 ∷ []) ∷ (0 ∷ 0 ∷ 0 ∷ 0 ∷ []) ∷ (0 ∷ 0 ∷ 41 ∷ 0 ∷ [])
     ∷ (take 18 sheetE ++ (4 ∷ [])) ∷ (sheetE ++ (0 ∷ [])) ∷ []) ++ (readInto [] [] [] [] [] ∷ []))
-    ≡ (fault CountsOutOfRange ∷ fault CountsOutOfRange ∷ fault CountsOutOfRange ∷ fault StrayBit ∷ fault TrailingBytes ∷ fault LentLengths ∷ [])
+    ≡ (fault CountsOutOfRange ∷ fault CountsOutOfRange ∷ fault CountsOutOfRange ∷ fault StrayBit
+    ∷ fault TrailingBytes ∷ fault LentLengths ∷ [])

@@ -1,4 +1,5 @@
--- Demand 3, first two sentences, and of demand 1 that a refusal writes nothing, over calls of `clear`: from the tables, the answer and the result lists at exit alone.
+-- Demand 3, first two sentences, and of demand 1 that a refusal writes nothing, over calls of `clear`: from the tables,
+-- the answer and the result lists at exit alone.
 -- Each statement is a type; its proof is a term of proofs/.
 use Prim.Native.Nat.{ℕ, suc, _+_, _*_, _≤_, _<_}
 use mathlib.Core.Path.{_≡_}
@@ -36,23 +37,35 @@ stationGainIn r cost j = subℕ (getD (r .paid) j 0) (cost * getD (r .sold) j 0)
 
 -- two calls alike but for guest i's bids, the first with its worths: it gains no more in the second
 abbrev pub GuestTruthfulCalls : Type 0
-GuestTruthfulCalls = (t t′ : Tables) (k : ClearedCall t) (k′ : ClearedCall t′) (i : ℕ) → i < length (t .amounts) → AlikeButForGuest t t′ i
+GuestTruthfulCalls =
+    (t t′ : Tables) (k : ClearedCall t) (k′ : ClearedCall t′) (i : ℕ) → i < length (t .amounts)
+    → AlikeButForGuest t t′ i
     → guestGainIn t′ (k′ .exit) (bidAt t i) i ≤ℤ guestGainIn t (k .exit) (bidAt t i) i
 
 -- two calls alike but for station j's ask, the first with its cost: it gains no more in the second
 abbrev pub StationTruthfulCalls : Type 0
-StationTruthfulCalls = (t t′ : Tables) (k : ClearedCall t) (k′ : ClearedCall t′) (j : ℕ) → j < length (t .asks) → AlikeButForStation t t′ j
+StationTruthfulCalls =
+    (t t′ : Tables) (k : ClearedCall t) (k′ : ClearedCall t′) (j : ℕ) → j < length (t .asks) → AlikeButForStation t t′ j
     → stationGainIn (k′ .exit) (getD (t .asks) j 0) j ≤ℤ stationGainIn (k .exit) (getD (t .asks) j 0) j
 
 -- the limits of one accepted call
 pub record CallWithin (t : Tables) (margin : ℕ) (r : Results) : Type 0 where
-  pub charge-within-bid : (i j : ℕ) → i < length (t .amounts) → getD (r .stations) i 0 ≡ suc j → getD (r .charges) i 0 ≤ bidAt t i j * getD (t .amounts) i 0
+  pub charge-within-bid :
+      (i j : ℕ) → i < length (t .amounts) → getD (r .stations) i 0 ≡ suc j
+      → getD (r .charges) i 0 ≤ bidAt t i j * getD (t .amounts) i 0
   pub unassigned-free : (i : ℕ) → i < length (t .amounts) → getD (r .stations) i 0 ≡ 0 → getD (r .charges) i 0 ≡ 0
   pub payment-covers-ask : (j : ℕ) → j < length (t .asks) → getD (t .asks) j 0 * getD (r .sold) j 0 ≤ getD (r .paid) j 0
-  pub sold-as-assigned : (j : ℕ) → j < length (t .asks) → getD (r .sold) j 0 ≡ sum (length (t .amounts)) (λ i. only (getD (r .stations) i 0 =? suc j) (getD (t .amounts) i 0))
-  pub within-bays : (j : ℕ) → j < length (t .asks) → count (length (t .amounts)) (λ i. getD (r .stations) i 0 =? suc j) ≤ getD (t .bays) j 0
-  pub balanced : sum (length (t .amounts)) (λ i. getD (r .charges) i 0) ≡ sum (length (t .asks)) (λ j. getD (r .paid) j 0) + margin
-  pub covered : sum (length (t .asks)) (λ j. getD (r .paid) j 0) ≤ sum (length (t .amounts)) (λ i. getD (r .charges) i 0)
+  pub sold-as-assigned :
+      (j : ℕ) → j < length (t .asks)
+      → getD (r .sold) j 0
+      ≡ sum (length (t .amounts)) (λ i. only (getD (r .stations) i 0 =? suc j) (getD (t .amounts) i 0))
+  pub within-bays :
+      (j : ℕ) → j < length (t .asks)
+      → count (length (t .amounts)) (λ i. getD (r .stations) i 0 =? suc j) ≤ getD (t .bays) j 0
+  pub balanced :
+      sum (length (t .amounts)) (λ i. getD (r .charges) i 0) ≡ sum (length (t .asks)) (λ j. getD (r .paid) j 0) + margin
+  pub covered :
+      sum (length (t .asks)) (λ j. getD (r .paid) j 0) ≤ sum (length (t .amounts)) (λ i. getD (r .charges) i 0)
 
 abbrev pub CallLimits : Type 0
 CallLimits = (t : Tables) (k : ClearedCall t) → CallWithin t (k .margin) (k .exit)

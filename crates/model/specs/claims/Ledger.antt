@@ -17,7 +17,9 @@ use Rattle.model.specs.contracts.Posted.{Posted}
 -- a list of calls, each made to the book as the last left it
 pub data Calls : LentBook → List Posting → List Verdict → LentBook → Type 0 where
   none : {B : LentBook} → Calls B [] [] B
-  call : {B C D : LentBook} {p : Posting} {v : Verdict} {ps : List Posting} {vs : List Verdict} → Posted B p v C → Calls C ps vs D → Calls B (p ∷ ps) (v ∷ vs) D
+  call :
+      {B C D : LentBook} {p : Posting} {v : Verdict} {ps : List Posting} {vs : List Verdict} → Posted B p v C
+      → Calls C ps vs D → Calls B (p ∷ ps) (v ∷ vs) D
 
 -- after the calls ps, answered vs, on the empty book of g guest and s station accounts
 pub record Kept (g s : ℕ) (ps : List Posting) (vs : List Verdict) (B : LentBook) : Type 0 where
@@ -37,7 +39,8 @@ pub record Kept (g s : ℕ) (ps : List Posting) (vs : List Verdict) (B : LentBoo
   pub within-limit : overLimit (plain B) ≡ false
 
 abbrev pub BookKept : Type 0
-BookKept = (g s : ℕ) (ps : List Posting) (vs : List Verdict) (B : LentBook) → Calls (blank g s) ps vs B → Kept g s ps vs B
+BookKept =
+    (g s : ℕ) (ps : List Posting) (vs : List Verdict) (B : LentBook) → Calls (blank g s) ps vs B → Kept g s ps vs B
 
 -- whatever is posted, there are such calls: the claim speaks of every list
 abbrev pub CallsExist : Type 0
@@ -45,7 +48,9 @@ CallsExist = (g s : ℕ) (ps : List Posting) → (vs : List Verdict) × (B : Len
 
 -- document 01's example: case E as round 1, and once more. There are such calls, and all of them come to the same
 abbrev pub ExampleCalled : Type 0
-ExampleCalled = Calls (blank 2 2) (posting caseE 1 ∷ posting caseE 1 ∷ []) (accepted ∷ refused RoundOutOfTurn ∷ []) (book (24 ∷ 0 ∷ []) (account 3 18 ∷ account 0 0 ∷ []) 6 1)
+ExampleCalled =
+    Calls (blank 2 2) (posting caseE 1 ∷ posting caseE 1 ∷ []) (accepted ∷ refused RoundOutOfTurn ∷ [])
+    (book (24 ∷ 0 ∷ []) (account 3 18 ∷ account 0 0 ∷ []) 6 1)
 
 abbrev pub ExampleKept : Type 0
 ExampleKept = (vs : List Verdict) (B : LentBook) → Calls (blank 2 2) (posting caseE 1 ∷ posting caseE 1 ∷ []) vs B

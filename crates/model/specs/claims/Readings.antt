@@ -8,7 +8,8 @@ use lib.IntN.{pos}
 use lib.ListN.{getD, length}
 use Rattle.model.specs.Limits.{maxGuests, maxStations, maxPrice, maxAmount, maxCapacity, maxRound}
 use Rattle.model.specs.Counting.{_=?_, count}
-use Rattle.model.specs.market.Market.{Tables, bidAt, marketBy, median, cut, Screened, Queue, queue, before, rank, provisional, critical}
+use Rattle.model.specs.market.Market.{Tables, bidAt, marketBy, median, cut, Screened, Queue, queue, before, rank}
+use Rattle.model.specs.market.Market.{provisional, critical}
 use Rattle.model.specs.market.Mechanism.{Decision, charge, sold, surplus}
 use Rattle.model.specs.market.Outcome.{Results, seen, decided}
 use Rattle.model.specs.Refusals.{accepted, firstFault}
@@ -50,7 +51,8 @@ pub record CallWithinLimits (t : Tables) (r : Results) : Type 0 where
 abbrev pub CallAcceptedReads : Type 0
 CallAcceptedReads = (t : Tables) (r : Results) → (firstFault (clearingFaults t r) ≡ accepted) ↔ CallWithinLimits t r
 
--- a posting is accepted exactly where its market is, the book has room for it, the round is next and no account is above its limit before or after
+-- a posting is accepted exactly where its market is, the book has room for it, the round is next and no account is
+-- above its limit before or after
 pub record PostingWithinLimits (t : Tables) (round : ℕ) (B : Book) : Type 0 where
   pub market-accepted : Accepted t
   pub guests-least : length (t .amounts) ≤ length (B .guests)
@@ -63,7 +65,9 @@ pub record PostingWithinLimits (t : Tables) (round : ℕ) (B : Book) : Type 0 wh
   pub within-after : overLimit (entered t round B) ≡ false
 
 abbrev pub PostingAcceptedReads : Type 0
-PostingAcceptedReads = (t : Tables) (round : ℕ) (B : Book) → (firstFault (postingFaults t round B) ≡ accepted) ↔ PostingWithinLimits t round B
+PostingAcceptedReads =
+    (t : Tables) (round : ℕ) (B : Book)
+    → (firstFault (postingFaults t round B) ≡ accepted) ↔ PostingWithinLimits t round B
 
 -- 1. s is in rising order; it has the numbers of l, each as often
 pub record Rising (s : List ℕ) : Type 0 where
@@ -99,14 +103,19 @@ NoBidRead = (t : Tables) (i j : ℕ) → bidAt t i j ≡ 0 → (seen t) .candida
 -- 4. the ranks of a queue's candidates are 0, 1, 2 .. without gaps or repeats, in the order of `before`
 pub record RanksInOrder (Q : Queue) : Type 0 where
   pub ordered : (k i : ℕ) → k < Q .guests → Q .candidate k ≡ true → before Q k i ≡ true → rank Q k < rank Q i
-  pub no-repeat : (k i : ℕ) → k < Q .guests → i < Q .guests → Q .candidate k ≡ true → Q .candidate i ≡ true → rank Q k ≡ rank Q i → k ≡ i
+  pub no-repeat :
+      (k i : ℕ) → k < Q .guests → i < Q .guests → Q .candidate k ≡ true → Q .candidate i ≡ true
+      → rank Q k ≡ rank Q i → k ≡ i
   pub below-all : (k : ℕ) → k < Q .guests → Q .candidate k ≡ true → rank Q k < count (Q .guests) (Q .candidate)
-  pub no-gap : (r : ℕ) → r < count (Q .guests) (Q .candidate) → (k : ℕ) × (k < Q .guests) × (Q .candidate k ≡ true) × (rank Q k ≡ r)
+  pub no-gap :
+      (r : ℕ) → r < count (Q .guests) (Q .candidate)
+      → (k : ℕ) × (k < Q .guests) × (Q .candidate k ≡ true) × (rank Q k ≡ r)
 
 abbrev pub RanksRead : Type 0
 RanksRead = (t : Tables) (j : ℕ) → RanksInOrder (queue (seen t) j)
 
--- 5. the critical total is that of the candidate whose rank is the capacity, and 0 exactly where no such candidate stands
+-- 5. the critical total is that of the candidate whose rank is the capacity, and 0 exactly where no
+-- such candidate stands
 pub record CriticalIsFirstOut (Q : Queue) : Type 0 where
   pub first-out : (k : ℕ) → k < Q .guests → Q .candidate k ≡ true → rank Q k ≡ Q .capacity → critical Q ≡ Q .total k
   pub zero-if-none : count (Q .guests) (Q .candidate) ≤ Q .capacity → critical Q ≡ 0
@@ -119,13 +128,17 @@ CriticalReads = (t : Tables) → Accepted t → (j : ℕ) → CriticalIsFirstOut
 pub record AssignedToBest (S : Screened) (D : Decision) (i : ℕ) : Type 0 where
   pub nowhere : D .assigned i ≡ 0 → (j : ℕ) → j < S .stations → provisional (queue S j) i ≡ false
   pub somewhere : (j : ℕ) → D .assigned i ≡ suc j → (j < S .stations) × (provisional (queue S j) i ≡ true)
-  pub greatest : (j k : ℕ) → D .assigned i ≡ suc j → k < S .stations → provisional (queue S k) i ≡ true → surplus S i k ≤ surplus S i j
-  pub lowest : (j k : ℕ) → D .assigned i ≡ suc j → k < j → provisional (queue S k) i ≡ true → surplus S i k < surplus S i j
+  pub greatest :
+      (j k : ℕ) → D .assigned i ≡ suc j → k < S .stations → provisional (queue S k) i ≡ true
+      → surplus S i k ≤ surplus S i j
+  pub lowest :
+      (j k : ℕ) → D .assigned i ≡ suc j → k < j → provisional (queue S k) i ≡ true → surplus S i k < surplus S i j
 
 abbrev pub AssignmentReads : Type 0
 AssignmentReads = (t : Tables) (i : ℕ) → AssignedToBest (seen t) (decided t) i
 
--- 7. less than no gain cannot occur: where a place is held the charge is at most the total, so that the surplus is their difference
+-- 7. less than no gain cannot occur: where a place is held the charge is at most the total, so that the
+-- surplus is their difference
 abbrev pub NoLoss : Type 0
 NoLoss = (t : Tables) (i j : ℕ) → i < length (t .amounts) → provisional (queue (seen t) j) i ≡ true
     → surplus (seen t) i j + charge (seen t) (decided t) i j ≡ (seen t) .total i j

@@ -34,13 +34,17 @@ seenBy rule t = screen (marketBy rule byNumber t)
 
 -- where t carries guest i's worths, i gains no more in t′
 abbrev pub GuestTruthfulBy : (rule : ℕ → ℕ) → Type 0
-GuestTruthfulBy rule = (t t′ : Tables) (i : ℕ) → Accepted t → Accepted t′ → i < length (t .amounts) → AlikeButForGuest t t′ i
-    → guestGain (seenBy rule t′) (truthful (seenBy rule t′)) (bidAt t i) i ≤ℤ guestGain (seenBy rule t) (truthful (seenBy rule t)) (bidAt t i) i
+GuestTruthfulBy rule =
+    (t t′ : Tables) (i : ℕ) → Accepted t → Accepted t′ → i < length (t .amounts) → AlikeButForGuest t t′ i
+    → guestGain (seenBy rule t′) (truthful (seenBy rule t′)) (bidAt t i) i ≤ℤ guestGain (seenBy rule t)
+    (truthful (seenBy rule t)) (bidAt t i) i
 
 -- where t carries station j's cost, j gains no more in t′
 abbrev pub StationTruthfulBy : (rule : ℕ → ℕ) → Type 0
-StationTruthfulBy rule = (t t′ : Tables) (j : ℕ) → Accepted t → Accepted t′ → j < length (t .asks) → AlikeButForStation t t′ j
-    → stationGain (seenBy rule t′) (truthful (seenBy rule t′)) (getD (t .asks) j 0) j ≤ℤ stationGain (seenBy rule t) (truthful (seenBy rule t)) (getD (t .asks) j 0) j
+StationTruthfulBy rule =
+    (t t′ : Tables) (j : ℕ) → Accepted t → Accepted t′ → j < length (t .asks) → AlikeButForStation t t′ j
+    → stationGain (seenBy rule t′) (truthful (seenBy rule t′)) (getD (t .asks) j 0) j ≤ℤ stationGain (seenBy rule t)
+    (truthful (seenBy rule t)) (getD (t .asks) j 0) j
 
 -- at any position of the cut that depends on the number of stations alone, document 01's among them
 abbrev pub GuestTruthful : Type 0
@@ -63,7 +67,8 @@ pub record Menu : Type 0 where
 unfoldable pub choice : (m : ℕ) → Menu → (total : ℕ → ℕ) → ℕ
 choice m U total = best m (λ j. U .offered j and U .bar j ≤? total j) (λ j. total j - U .price j)
 
--- U is guest i's menu in t: the open stations, each price at the bar or one below; whatever row i states, it is assigned its choice and charged the price
+-- U is guest i's menu in t: the open stations, each price at the bar or one below; whatever row i states, it is
+-- assigned its choice and charged the price
 pub record MenuOf (t : Tables) (i : ℕ) (U : Menu) : Type 0 where
   pub opens-offer : (j : ℕ) → j < length (t .asks) → U .offered j ≡ opens (market t) j
   pub priced-below : (j : ℕ) → U .price j ≤ U .bar j
@@ -82,10 +87,16 @@ pub record ClearsWithin (t : Tables) : Type 0 where
       → charged (seen t) (decided t) i ≤ bidAt t i j * getD (t .amounts) i 0
   pub unassigned-free : (i : ℕ) → (decided t) .assigned i ≡ 0 → charged (seen t) (decided t) i ≡ 0
   pub payment-covers-ask : (j : ℕ) → getD (t .asks) j 0 * sold (seen t) (decided t) j ≤ paid (seen t) (decided t) j
-  pub sold-as-assigned : (j : ℕ) → sold (seen t) (decided t) j ≡ sum (length (t .amounts)) (λ i. only ((decided t) .assigned i =? suc j) (getD (t .amounts) i 0))
+  pub sold-as-assigned :
+      (j : ℕ)
+      → sold (seen t) (decided t) j
+      ≡ sum (length (t .amounts)) (λ i. only ((decided t) .assigned i =? suc j) (getD (t .amounts) i 0))
   pub within-bays : (j : ℕ) → served (seen t) (decided t) j ≤ getD (t .bays) j 0
-  pub balanced : sum (length (t .amounts)) (charged (seen t) (decided t)) ≡ sum (length (t .asks)) (paid (seen t) (decided t)) + margin (seen t) (decided t)
-  pub covered : sum (length (t .asks)) (paid (seen t) (decided t)) ≤ sum (length (t .amounts)) (charged (seen t) (decided t))
+  pub balanced :
+      sum (length (t .amounts)) (charged (seen t) (decided t))
+      ≡ sum (length (t .asks)) (paid (seen t) (decided t)) + margin (seen t) (decided t)
+  pub covered :
+      sum (length (t .asks)) (paid (seen t) (decided t)) ≤ sum (length (t .amounts)) (charged (seen t) (decided t))
 
 abbrev pub ClearingLimits : Type 0
 ClearingLimits = (t : Tables) → Accepted t → ClearsWithin t

@@ -7,7 +7,8 @@ use Rattle.model.specs.market.Faults.{clearingFaults}
 use Rattle.model.specs.declared.answers.Clearing.{Clearing}
 use Rattle.model.specs.declared.answers.Clearing.the-variants.{Cleared, Refused}
 
--- the enum's case for each verdict, with the values that it carries; a refusal's number is `number` of specs/Numbers.antt
+-- the enum's case for each verdict, with the values that it carries; a refusal's number is `number`
+-- of specs/Numbers.antt
 unfoldable pub answerTo : Verdict → Outcome → Clearing
 answerTo accepted o = Cleared (o .cut) (o .margin)
 answerTo (refused r) o = Refused r

@@ -1,4 +1,5 @@
--- What the exported clearing promises: 0 or the refusal's number, and every out parameter, which a refusal leaves as it was.
+-- What the exported clearing promises: 0 or the refusal's number, and every out parameter, which a
+-- refusal leaves as it was.
 use Prim.Native.Nat.{ℕ}
 use mathlib.Core.Path.{_≡_}
 use Rattle.model.specs.Refusals.{Verdict, accepted, refused, firstFault, code}
@@ -12,7 +13,8 @@ unfoldable pub given : Verdict → (new old : ℕ) → ℕ
 given accepted new old = new
 given (refused r) new old = old
 
-pub record ClearsOut (t : Tables) (entry : Results) (cut margin r : ℕ) (exit : Results) (cut′ margin′ : ℕ) : Type 0 where
+pub record ClearsOut (t : Tables) (entry : Results) (cut margin r : ℕ) (exit : Results)
+    (cut′ margin′ : ℕ) : Type 0 where
   pub code-is : r ≡ code (firstFault (clearingFaults t entry))
   pub results-are : exit ≡ resultsOf (firstFault (clearingFaults t entry)) (outcome t) entry
   pub cut-is : cut′ ≡ given (firstFault (clearingFaults t entry)) ((outcome t) .cut) cut

@@ -5,11 +5,13 @@ use mathlib.Core.Path.{_≡_}
 use lib.ListN.{length}
 use Rattle.model.specs.text.Writing.{overlaid}
 
--- a bound on the length of a printed text: the cut, 200 guests, 40 stations and the margin, each number taken as 20 digits
+-- a bound on the length of a printed text: the cut, 200 guests, 40 stations and the margin, each
+-- number taken as 20 digits
 abbrev pub maxText : ℕ
 maxText = 20_093
 
--- the contract of `print_market`, and of `report::print_clearing`: the buffer holds the text as far as it reaches, and the answer is the text's length
+-- the contract of `print_market`, and of `report::print_clearing`: the buffer holds the text as far as it reaches, and
+-- the answer is the text's length
 pub record Prints (t out : List ℕ) (r : ℕ) (out′ : List ℕ) : Type 0 where
   pub buffer-is : out′ ≡ overlaid t out
   pub length-is : r ≡ length t

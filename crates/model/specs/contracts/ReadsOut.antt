@@ -1,4 +1,5 @@
--- What the exported reader promises: 0 or the refusal's number, and every out parameter, which a refusal leaves as it was.
+-- What the exported reader promises: 0 or the refusal's number, and every out parameter, which a
+-- refusal leaves as it was.
 use Prim.Native.Nat.{ℕ}
 use mathlib.Core.List.{List}
 use mathlib.Core.Path.{_≡_}
@@ -17,7 +18,8 @@ unfoldable pub counted : Content → (Tables → ℕ) → ℕ → ℕ
 counted (fault r) of old = old
 counted (tables t) of old = of t
 
-pub record ReadsOut (sheet amounts asks bays bids : List ℕ) (n m r : ℕ) (amounts′ asks′ bays′ bids′ : List ℕ) (n′ m′ : ℕ) : Type 0 where
+pub record ReadsOut (sheet amounts asks bays bids : List ℕ) (n m r : ℕ) (amounts′ asks′ bays′ bids′ : List ℕ)
+    (n′ m′ : ℕ) : Type 0 where
   pub code-is : r ≡ readCode (readInto amounts asks bays bids sheet)
   pub amounts-are : amounts′ ≡ written (readInto amounts asks bays bids sheet) (λ t. t .amounts) amounts
   pub asks-are : asks′ ≡ written (readInto amounts asks bays bids sheet) (λ t. t .asks) asks

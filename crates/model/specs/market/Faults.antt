@@ -5,7 +5,9 @@ use mathlib.Core.List.{List, [], _∷_}
 use mathlib.Core.Path.{_≡_}
 use lib.ListN.{length}
 use Rattle.model.specs.Limits.{maxGuests, maxStations, maxPrice, maxAmount, maxCapacity}
-use Rattle.model.specs.declared.refusal.Refusal.the-variants.{CountsOutOfRange, LengthsDiffer, AskOutOfRange, BaysOutOfRange, AmountOutOfRange, BidOutOfRange, LentLengths}
+use Rattle.model.specs.declared.refusal.Refusal.the-variants.{CountsOutOfRange, LengthsDiffer, AskOutOfRange}
+use Rattle.model.specs.declared.refusal.Refusal.the-variants.{BaysOutOfRange, AmountOutOfRange, BidOutOfRange}
+use Rattle.model.specs.declared.refusal.Refusal.the-variants.{LentLengths}
 use Rattle.model.specs.Counting.{_<?_, _=?_, _or_, any}
 use Rattle.model.specs.Refusals.{Row, _gives_, Verdict, accepted, firstFault}
 use Rattle.model.specs.market.Market.{Tables}
@@ -24,7 +26,8 @@ lengths n m bays bids width = (not (bays =? m) or not (bids =? n * m) or not (wi
 
 -- result lists
 unfoldable pub lent : (n m stations charges sold paid : ℕ) → Row
-lent n m stations charges sold paid = (not (stations =? n) or not (charges =? n) or not (sold =? m) or not (paid =? m)) gives LentLengths
+lent n m stations charges sold paid =
+    (not (stations =? n) or not (charges =? n) or not (sold =? m) or not (paid =? m)) gives LentLengths
 
 -- all asks, then all bays, then all amounts, then all bids
 unfoldable pub values : Tables → List Row
@@ -54,5 +57,6 @@ unfoldable pub clearingFaults : Tables → Results → List Row
 clearingFaults t r =
     counts (length (t .amounts)) (length (t .asks))
     ∷ lengths (length (t .amounts)) (length (t .asks)) (length (t .bays)) (length (t .bids)) (t .width)
-    ∷ lent (length (t .amounts)) (length (t .asks)) (length (r .stations)) (length (r .charges)) (length (r .sold)) (length (r .paid))
+    ∷ lent (length (t .amounts)) (length (t .asks)) (length (r .stations)) (length (r .charges))
+    (length (r .sold)) (length (r .paid))
     ∷ values t

@@ -36,7 +36,8 @@ pub record Market : Type 0 where
   pub bid : ℕ → ℕ → ℕ
   pub key : ℕ → ℕ
 
--- the market that tables state, by a rule for the position of the cut, which sees the number of stations alone, and a key for ties
+-- the market that tables state, by a rule for the position of the cut, which sees the number of stations
+-- alone, and a key for ties
 unfoldable pub marketBy : (rule key : ℕ → ℕ) → Tables → Market
 marketBy rule key t = record {
   guests = length (t .amounts);
@@ -61,7 +62,8 @@ byNumber i = i
 unfoldable pub market : Tables → Market
 market t = marketBy median byNumber t
 
--- 1. the cut: the greatest ask that fewer than `position` asks lie below (`CutReads`: the ask at that position in rising order)
+-- 1. the cut: the greatest ask that fewer than `position` asks lie below (`CutReads`: the ask at that
+-- position in rising order)
 unfoldable pub cut : Market → ℕ
 cut M = greatest (M .stations) (λ j. only (count (M .stations) (λ k. M .ask k <? M .ask j) <? M .position) (M .ask j))
 

@@ -21,7 +21,8 @@ abbrev pub results : (stations charges sold paid : List ℕ) → Results
 results stations charges sold paid = record { stations = stations; charges = charges; sold = sold; paid = paid }
 
 abbrev pub outcomeOf : (cut margin : ℕ) (stations charges sold paid : List ℕ) → Outcome
-outcomeOf cut margin stations charges sold paid = record { cut = cut; margin = margin; results = results stations charges sold paid }
+outcomeOf cut margin stations charges sold paid =
+    record { cut = cut; margin = margin; results = results stations charges sold paid }
 
 -- what a decision comes to
 unfoldable pub settle : Screened → Decision → Outcome

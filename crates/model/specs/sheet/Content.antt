@@ -1,5 +1,7 @@
--- What a sheet comes to: its market, or its first fault. Document 01, 'The sheet' and the reader's rows of 'Refusals by place'.
--- A sheet is a list of bytes. What its fields and its rows hold is in Fields.antt and Rows.antt; a byte past the end counts as 0, which no accepted sheet shows.
+-- What a sheet comes to: its market, or its first fault. Document 01, 'The sheet' and the reader's rows
+-- of 'Refusals by place'.
+-- A sheet is a list of bytes. What its fields and its rows hold is in Fields.antt and Rows.antt; a byte past the end
+-- counts as 0, which no accepted sheet shows.
 -- Guests and stations count from 0 here.
 use Prim.Native.Nat.{ℕ}
 use mathlib.Core.List.{List, [], _∷_, _++_}
@@ -34,7 +36,8 @@ tablesOf s = record {
   width = stations s;
 }
 
--- ---- faults, in the order of the table. Fields with no other fault between them share a row: those of the stations, the bids of a guest (`rowFaults`)
+-- ---- faults, in the order of the table. Fields with no other fault between them share a row: those of the stations,
+-- the bids of a guest (`rowFaults`)
 
 unfoldable pub sheetFaults : List ℕ → List Row
 sheetFaults s =

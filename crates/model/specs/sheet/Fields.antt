@@ -1,5 +1,6 @@
 -- The fields of a sheet. Document 01, 'The sheet'.
--- A sheet is a list of bytes. Every definition is a total function of a place in it; a byte past the end counts as 0, which no accepted sheet shows.
+-- A sheet is a list of bytes. Every definition is a total function of a place in it; a byte past the end counts as 0,
+-- which no accepted sheet shows.
 use Prim.Native.Nat.{ℕ, zero, suc, _+_, _*_, _/_, _%_, _^_}
 use mathlib.Core.Bool.{Bool}
 use mathlib.Core.List.{List}

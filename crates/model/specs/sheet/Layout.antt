@@ -67,7 +67,8 @@ Bytes s = (k : ℕ) → getD s k 0 < 256
 
 -- bytes are read as t exactly where they state t
 abbrev pub ReadsExactlyWhatIsStated : Type 0
-ReadsExactlyWhatIsStated = (s : List ℕ) (t : Tables) → Bytes s → (readSheet s ≡ tables t → States s t) × (States s t → readSheet s ≡ tables t)
+ReadsExactlyWhatIsStated =
+    (s : List ℕ) (t : Tables) → Bytes s → (readSheet s ≡ tables t → States s t) × (States s t → readSheet s ≡ tables t)
 
 -- two markets never share a sheet
 abbrev pub StatesOneMarket : Type 0

@@ -1,4 +1,5 @@
--- Where the fields of each station and of each guest's row stand in a sheet, what they hold, and a row's faults. Document 01, 'The sheet' and the reader's rows of 'Refusals by place'.
+-- Where the fields of each station and of each guest's row stand in a sheet, what they hold, and a row's faults.
+-- Document 01, 'The sheet' and the reader's rows of 'Refusals by place'.
 -- Guests and stations count from 0 here.
 use Prim.Native.Nat.{ℕ, zero, suc, _+_, _*_, _/_, _^_}
 use mathlib.Core.List.{List, [], _∷_}

@@ -4,7 +4,8 @@ use mathlib.Core.Bool.{Bool, true, false}
 use mathlib.Core.List.{List, [], _∷_, _++_}
 use Rattle.model.specs.Counting.{_<?_}
 
--- x in decimal, the highest digit first: digit d is byte 48 + d, and a number below 10 is one digit. A 64-bit number has at most 20
+-- x in decimal, the highest digit first: digit d is byte 48 + d, and a number below 10 is one digit. A 64-bit
+-- number has at most 20
 unfoldable pub higher : Bool → List ℕ → List ℕ
 higher true ds = []
 higher false ds = ds

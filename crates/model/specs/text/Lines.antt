@@ -28,7 +28,8 @@ abbrev pub lineEnd : List ℕ
 lineEnd = 10 ∷ []
 
 unfoldable pub guestLine : (guest station charge : ℕ) → List ℕ
-guestLine guest station charge = field guestWord guest ++ field atStationWord station ++ field chargeWord charge ++ lineEnd
+guestLine guest station charge =
+    field guestWord guest ++ field atStationWord station ++ field chargeWord charge ++ lineEnd
 
 unfoldable pub stationLine : (station sold paid : ℕ) → List ℕ
 stationLine station sold paid = field stationWord station ++ field soldWord sold ++ field paidWord paid ++ lineEnd

@@ -23,14 +23,22 @@ pub record Tallying (stations amounts : List ℕ) (i : ℕ) (kwh : List ℕ) : T
 
 pub tallied-none : {stations amounts kwh : List ℕ} → kwh ≡ list slots (λ _. 0) → Tallying stations amounts 0 kwh
 unfolding kwhBy sum
-tallied-none {kwh = kwh} e = record { long = ap length e ∙ length-list slots (λ _. 0); is = λ s p l. zero-at s (omega arith); small = λ s l. omega (arith, zero-at s l) }
+tallied-none {kwh = kwh} e =
+    record {
+      long = ap length e ∙ length-list slots (λ _. 0);
+      is = λ s p l. zero-at s (omega arith);
+      small = λ s l. omega (arith, zero-at s l);
+    }
   where
     zero-at : (s : ℕ) → s < slots → getD kwh s 0 ≡ 0
     zero-at s l = ap (λ l. getD l s 0) e ∙ getD-list slots (λ _. 0) s l
 
 -- guest i's kWh are added at r: its number, or past the last number where it has none
-pub tallied-more : {stations amounts : List ℕ} {i : ℕ} {kwh : List ℕ} {s r v : ℕ} → Tallying stations amounts i kwh → s ≡ getD stations i 0
-    → (r < slots) × (0 < s → r ≡ s) × (s ≡ 0 → maxStations < r) → getD amounts i 0 ≤ maxAmount → v ≡ getD kwh r 0 + getD amounts i 0
+pub tallied-more :
+    {stations amounts : List ℕ} {i : ℕ} {kwh : List ℕ} {s r v : ℕ}
+    → Tallying stations amounts i kwh → s ≡ getD stations i 0
+    → (r < slots) × (0 < s → r ≡ s) × (s ≡ 0 → maxStations < r) → getD amounts i 0 ≤ maxAmount
+    → v ≡ getD kwh r 0 + getD amounts i 0
     → Tallying stations amounts (i + 1) (set kwh r v)
 unfolding kwhBy
 tallied-more {stations} {amounts} {i} {kwh} {s} {r} {v} h e (l, here, past) a q = record {
@@ -49,17 +57,24 @@ tallied-more {stations} {amounts} {i} {kwh} {s} {r} {v} h e (l, here, past) a q 
     at-slot : (k : ℕ) → 0 < k → k ≤ maxStations → k ≡ r → getD (set kwh r v) k 0 ≡ kwhBy stations amounts (i + 1) k
     at-slot k p lk z =
         ap (λ k. getD (set kwh r v) k 0) z ∙ getD-set-same kwh r v 0 (omega (arith, h .long))
-        ∙ sum-more (λ j. only (getD stations j 0 =? k) (getD amounts j 0)) i _ v _ (ap (λ x. getD kwh x 0) (sym z) ∙ h .is k p lk) (sym (only-yes _ _ (is-eq _ _ (omega (arith, own (omega arith)))))) q
+        ∙ sum-more (λ j. only (getD stations j 0 =? k) (getD amounts j 0)) i _ v _
+        (ap (λ x. getD kwh x 0) (sym z) ∙ h .is k p lk)
+        (sym (only-yes _ _ (is-eq _ _ (omega (arith, own (omega arith)))))) q
 
     other : (k : ℕ) → 0 < k → k ≤ maxStations → (k ≡ r → ⊥) → getD (set kwh r v) k 0 ≡ kwhBy stations amounts (i + 1) k
     other k p lk z = getD-set-other kwh r k v 0 z
-        ∙ sum-more (λ j. only (getD stations j 0 =? k) (getD amounts j 0)) i _ _ 0 (h .is k p lk) (sym (only-no _ _ (not-eq _ _ (λ y. z (sym (e ∙ y) ∙ sym (here (omega arith))))))) (omega arith)
+        ∙ sum-more (λ j. only (getD stations j 0 =? k) (getD amounts j 0)) i _ _ 0 (h .is k p lk)
+        (sym (only-no _ _ (not-eq _ _ (λ y. z (sym (e ∙ y) ∙ sym (here (omega arith))))))) (omega arith)
 
-pub tallied-end : {stations amounts : List ℕ} {i : ℕ} {kwh : List ℕ} → Tallying stations amounts i kwh → i ≤ length amounts → length amounts ≤ i → Tallied stations amounts kwh
+pub tallied-end :
+    {stations amounts : List ℕ} {i : ℕ} {kwh : List ℕ} → Tallying stations amounts i kwh → i ≤ length amounts
+    → length amounts ≤ i → Tallied stations amounts kwh
 unfolding kwhAt kwhBy
 tallied-end h a b = record { long = h .long; sales-are = λ s p l. sum-end _ _ _ _ (h .is s p l) a b }
 
-pub sells : {stations amounts : List ℕ} {cut m : ℕ} {kwh sold paid : List ℕ} → Tallied stations amounts kwh → m ≤ maxStations → PaidOut (λ s. getD kwh s 0) cut m sold paid
+pub sells :
+    {stations amounts : List ℕ} {cut m : ℕ} {kwh sold paid : List ℕ} → Tallied stations amounts kwh → m ≤ maxStations
+    → PaidOut (λ s. getD kwh s 0) cut m sold paid
     → PaidOut (kwhAt stations amounts) cut m sold paid
 sells {stations} {amounts} {cut} {m} {kwh} t l h = record {
   sold-are = h .sold-are ∙ list-cong m _ _ here;

@@ -10,16 +10,28 @@ use Rattle.model.specs.text.Decimal.{field}
 use Rattle.report.specs.Wrote.{Wrote}
 use Rattle.report.proofs.text.Fields.{length-field}
 use Rattle.report.proofs.text.Writing.{wrote-then}
-use Rattle.model.specs.text.Lines.{guestWord, atStationWord, chargeWord, stationWord, soldWord, paidWord, lineEnd, guestLine, stationLine, guestLines, stationLines}
+use Rattle.model.specs.text.Lines.{guestWord, atStationWord, chargeWord, stationWord, soldWord, paidWord, lineEnd}
+use Rattle.model.specs.text.Lines.{guestLine, stationLine, guestLines, stationLines}
 
 -- three fields and the line's end
 module _ (a b c : List ℕ) (x y z : ℕ) where
-  pub wrote-line : {l l₁ l₂ l₃ l₄ : List ℕ} {p p₁ p₂ p₃ p₄ : ℕ} → Wrote l p (field a x) l₁ p₁ → Wrote l₁ p₁ (field b y) l₂ p₂ → Wrote l₂ p₂ (field c z) l₃ p₃ → Wrote l₃ p₃ lineEnd l₄ p₄
+  pub wrote-line :
+      {l l₁ l₂ l₃ l₄ : List ℕ} {p p₁ p₂ p₃ p₄ : ℕ} → Wrote l p (field a x) l₁ p₁ → Wrote l₁ p₁ (field b y) l₂ p₂
+      → Wrote l₂ p₂ (field c z) l₃ p₃ → Wrote l₃ p₃ lineEnd l₄ p₄
       → Wrote l p (field a x ++ field b y ++ field c z ++ lineEnd) l₄ p₄
   wrote-line f g h e = wrote-then (wrote-then (wrote-then f g) h) e
 
   length-line : length (field a x ++ field b y ++ field c z ++ lineEnd) ≤ length a + length b + length c + 61
-  length-line = omega (arith, length-append (field a x ++ field b y ++ field c z) lineEnd, length-append (field a x ++ field b y) (field c z), length-append (field a x) (field b y), length-field a x, length-field b y, length-field c z)
+  length-line =
+      omega (
+        arith,
+        length-append (field a x ++ field b y ++ field c z) lineEnd,
+        length-append (field a x ++ field b y) (field c z),
+        length-append (field a x) (field b y),
+        length-field a x,
+        length-field b y,
+        length-field c z,
+      )
 
 -- lines one after the other, each of at most b bytes
 module _ (f : ℕ → List ℕ) (b : ℕ) (short : (k : ℕ) → length (f k) ≤ b) where
@@ -28,11 +40,15 @@ module _ (f : ℕ → List ℕ) (b : ℕ) (short : (k : ℕ) → length (f k) �
   length-joined zero = omega arith
   length-joined (suc n) = omega (arith, length-append (joined n f) (f n), length-joined n, short n)
 
-pub wrote-joined : (f : ℕ → List ℕ) {l l′ l″ : List ℕ} {p q r : ℕ} (k : ℕ) → Wrote l p (joined k f) l′ q → Wrote l′ q (f k) l″ r → Wrote l p (joined (k + 1) f) l″ r
+pub wrote-joined :
+    (f : ℕ → List ℕ) {l l′ l″ : List ℕ} {p q r : ℕ} (k : ℕ) → Wrote l p (joined k f) l′ q → Wrote l′ q (f k) l″ r
+    → Wrote l p (joined (k + 1) f) l″ r
 unfolding joined
 wrote-joined f k a b = rw add-one (wrote-then a b)
 
-pub wrote-lines : (f : ℕ → List ℕ) {l l′ : List ℕ} {p q k n : ℕ} → Wrote l p (joined k f) l′ q → k ≤ n → n ≤ k → Wrote l p (joined n f) l′ q
+pub wrote-lines :
+    (f : ℕ → List ℕ) {l l′ : List ℕ} {p q k n : ℕ} → Wrote l p (joined k f) l′ q → k ≤ n → n ≤ k
+    → Wrote l p (joined n f) l′ q
 wrote-lines f a h g = rw (le-antisymm g h) a
 
 guest-short : (g s c : ℕ) → length (guestLine g s c) ≤ 84
@@ -52,8 +68,11 @@ unfolding stationLines
 length-station-lines sold paid m = length-joined _ 81 (λ k. station-short _ _ _) m
 
 -- where n lines end at the most
-pub guest-lines-end : {l l′ : List ℕ} (stations charges : List ℕ) {p q : ℕ} (n : ℕ) → Wrote l p (guestLines stations charges n) l′ q → q ≤ p + 84 * n
+pub guest-lines-end :
+    {l l′ : List ℕ} (stations charges : List ℕ) {p q : ℕ} (n : ℕ)
+    → Wrote l p (guestLines stations charges n) l′ q → q ≤ p + 84 * n
 guest-lines-end stations charges n a = omega (arith, a .next, length-guest-lines stations charges n)
 
-pub station-lines-end : {l l′ : List ℕ} (sold paid : List ℕ) {p q : ℕ} (m : ℕ) → Wrote l p (stationLines sold paid m) l′ q → q ≤ p + 81 * m
+pub station-lines-end :
+    {l l′ : List ℕ} (sold paid : List ℕ) {p q : ℕ} (m : ℕ) → Wrote l p (stationLines sold paid m) l′ q → q ≤ p + 81 * m
 station-lines-end sold paid m a = omega (arith, a .next, length-station-lines sold paid m)

@@ -6,84 +6,96 @@ use Rattle.report.proofs.Sheets.{read-part-long, part-fits, same-tables
 use Rattle.report.proofs.print_clearing.Statement.{statement}
 use Rattle.report.proofs.print_clearing.Tie as tie
 
-slice-aggregate-read : tie.Need-slice-aggregate-read
-slice-aggregate-read c = search needs
-
-slice-aggregate-read-2 : tie.Need-slice-aggregate-read-2
-slice-aggregate-read-2 c = search needs
-
-slice-aggregate-read-3 : tie.Need-slice-aggregate-read-3
-slice-aggregate-read-3 c = search needs
-
-slice-aggregate-read-4 : tie.Need-slice-aggregate-read-4
-slice-aggregate-read-4 c = search needs
-
-read-requires : tie.Need-read-requires
-read-requires c κs = search needs
-
-enum-known-refusal : tie.Need-enum-known-refusal
-enum-known-refusal c = search needs
-
-refusal-text-requires : tie.Need-refusal-text-requires
-refusal-text-requires c κs = search needs
-
-enum-known-guests : tie.Need-enum-known-guests
-enum-known-guests c = search needs
-
 array-share-prefix-asks : tie.Need-array-share-prefix-asks
-array-share-prefix-asks c = let t = read-tables _ _ _ _ _ _ _ _ _ _ (c .before .before .before .before .before .before .before .read .ensures) _ _ (c .before .guests .given .1) in part-fits _ _ _ (t .asks-are) (t .asks-long)
+array-share-prefix-asks c =
+    let at-read = c .before .before .before .before .before .before .before in
+    let t = read-tables _ _ _ _ _ _ _ _ _ _ (at-read .read .ensures) _ _ (c .before .guests .given .1) in
+    part-fits _ _ _ (t .asks-are) (t .asks-long)
 
 slice-aggregate-print-market : tie.Need-slice-aggregate-print-market
-slice-aggregate-print-market c = let t = read-tables _ _ _ _ _ _ _ _ _ _ (c .before .before .before .before .before .before .before .before .read .ensures) _ _ (c .before .before .guests .given .1) in read-part-long _ _ _ (t .asks-are) (t .asks-long)
+slice-aggregate-print-market c =
+    let at-read = c .before .before .before .before .before .before .before .before in
+    let t = read-tables _ _ _ _ _ _ _ _ _ _ (at-read .read .ensures) _ _ (c .before .before .guests .given .1) in
+    read-part-long _ _ _ (t .asks-are) (t .asks-long)
 
 array-share-prefix-bays : tie.Need-array-share-prefix-bays
-array-share-prefix-bays c = let t = read-tables _ _ _ _ _ _ _ _ _ _ (c .before .before .before .before .before .before .before .before .read .ensures) _ _ (c .before .before .guests .given .1) in part-fits _ _ _ (t .bays-are) (t .bays-long)
+array-share-prefix-bays c =
+    let at-read = c .before .before .before .before .before .before .before .before in
+    let t = read-tables _ _ _ _ _ _ _ _ _ _ (at-read .read .ensures) _ _ (c .before .before .guests .given .1) in
+    part-fits _ _ _ (t .bays-are) (t .bays-long)
 
 slice-aggregate-print-market-2 : tie.Need-slice-aggregate-print-market-2
-slice-aggregate-print-market-2 c = let t = read-tables _ _ _ _ _ _ _ _ _ _ (c .before .before .before .before .before .before .before .before .before .read .ensures) _ _ (c .before .before .before .guests .given .1) in read-part-long _ _ _ (t .bays-are) (t .bays-long)
+slice-aggregate-print-market-2 c =
+    let at-guests = c .before .before .before in
+    let at-read = at-guests .before .before .before .before .before .before in
+    let t = read-tables _ _ _ _ _ _ _ _ _ _ (at-read .read .ensures) _ _ (at-guests .guests .given .1) in
+    read-part-long _ _ _ (t .bays-are) (t .bays-long)
 
 array-share-prefix-amounts : tie.Need-array-share-prefix-amounts
-array-share-prefix-amounts c = let t = read-tables _ _ _ _ _ _ _ _ _ _ (c .before .before .before .before .before .before .before .before .before .read .ensures) _ _ (c .before .before .before .guests .given .1) in part-fits _ _ _ (t .amounts-are) (t .amounts-long)
+array-share-prefix-amounts c =
+    let at-guests = c .before .before .before in
+    let at-read = at-guests .before .before .before .before .before .before in
+    let t = read-tables _ _ _ _ _ _ _ _ _ _ (at-read .read .ensures) _ _ (at-guests .guests .given .1) in
+    part-fits _ _ _ (t .amounts-are) (t .amounts-long)
 
 slice-aggregate-print-market-3 : tie.Need-slice-aggregate-print-market-3
-slice-aggregate-print-market-3 c = let t = read-tables _ _ _ _ _ _ _ _ _ _ (c .before .before .before .before .before .before .before .before .before .before .read .ensures) _ _ (c .before .before .before .before .guests .given .1) in read-part-long _ _ _ (t .amounts-are) (t .amounts-long)
+slice-aggregate-print-market-3 c =
+    let at-guests = c .before .before .before .before in
+    let at-read = at-guests .before .before .before .before .before .before in
+    let t = read-tables _ _ _ _ _ _ _ _ _ _ (at-read .read .ensures) _ _ (at-guests .guests .given .1) in
+    read-part-long _ _ _ (t .amounts-are) (t .amounts-long)
 
 mul-bids : tie.Need-mul-bids
-mul-bids c = let t = read-tables _ _ _ _ _ _ _ _ _ _ (c .before .before .before .before .before .before .before .before .before .before .read .ensures) _ _ (c .before .before .before .before .guests .given .1) in omega (arith, t .room)
+mul-bids c =
+    let at-guests = c .before .before .before .before in
+    let at-read = at-guests .before .before .before .before .before .before in
+    let t = read-tables _ _ _ _ _ _ _ _ _ _ (at-read .read .ensures) _ _ (at-guests .guests .given .1) in
+    omega (arith, t .room)
 
 array-share-prefix-bids : tie.Need-array-share-prefix-bids
-array-share-prefix-bids c = let t = read-tables _ _ _ _ _ _ _ _ _ _ (c .before .before .before .before .before .before .before .before .before .before .read .ensures) _ _ (c .before .before .before .before .guests .given .1) in part-fits _ _ _ (t .bids-are) (t .bids-long)
+array-share-prefix-bids c =
+    let at-guests = c .before .before .before .before in
+    let at-read = at-guests .before .before .before .before .before .before in
+    let t = read-tables _ _ _ _ _ _ _ _ _ _ (at-read .read .ensures) _ _ (at-guests .guests .given .1) in
+    part-fits _ _ _ (t .bids-are) (t .bids-long)
 
 slice-aggregate-print-market-4 : tie.Need-slice-aggregate-print-market-4
-slice-aggregate-print-market-4 c = let t = read-tables _ _ _ _ _ _ _ _ _ _ (c .before .before .before .before .before .before .before .before .before .before .before .read .ensures) _ _ (c .before .before .before .before .before .guests .given .1) in read-part-long _ _ _ (t .bids-are) (t .bids-long)
+slice-aggregate-print-market-4 c =
+    let at-guests = c .before .before .before .before .before in
+    let at-read = at-guests .before .before .before .before .before .before in
+    let t = read-tables _ _ _ _ _ _ _ _ _ _ (at-read .read .ensures) _ _ (at-guests .guests .given .1) in
+    read-part-long _ _ _ (t .bids-are) (t .bids-long)
 
 print-market-requires : tie.Need-print-market-requires
-print-market-requires c κs = let t = read-tables _ _ _ _ _ _ _ _ _ _ (c .before .before .before .before .before .before .before .before .before .before .before .before .read .ensures) _ _ (c .before .before .before .before .before .before .guests .given .1) in (omega (arith, t .few, read-part-long _ _ _ (t .amounts-are) (t .amounts-long)), omega (arith, t .narrow, read-part-long _ _ _ (t .asks-are) (t .asks-long)))
-
-same-length : tie.Need-same-length
-same-length c = search needs
+print-market-requires c κs =
+    let at-guests = c .before .before .before .before .before .before in
+    let at-read = at-guests .before .before .before .before .before .before in
+    let t = read-tables _ _ _ _ _ _ _ _ _ _ (at-read .read .ensures) _ _ (at-guests .guests .given .1) in (
+      omega (arith, t .few, read-part-long _ _ _ (t .amounts-are) (t .amounts-long)),
+      omega (arith, t .narrow, read-part-long _ _ _ (t .asks-are) (t .asks-long)),
+    )
 
 returns : tie.Need-returns
-returns c = prints-fault _ _ (read-fault _ _ _ _ _ _ _ _ _ _ (c .before .before .before .before .before .before .before .before .before .before .before .read .ensures) _ refl refl refl refl (c .before .before .before .before .before .refusal .given .1)) (c .before .before .refusal-text .ensures)
-
-same-length-2 : tie.Need-same-length-2
-same-length-2 c = search needs
+returns c =
+    let at-refusal = c .before .before .before .before .before in
+    let at-read = at-refusal .before .before .before .before .before .before in
+    prints-fault _ _
+    (read-fault _ _ _ _ _ _ _ _ _ _ (at-read .read .ensures) _ refl refl refl refl (at-refusal .refusal .given .1))
+    (c .before .before .refusal-text .ensures)
 
 returns-2 : tie.Need-returns-2
-returns-2 c = let t = read-tables _ _ _ _ _ _ _ _ _ _ (c .before .before .before .before .before .before .before .before .before .before .before .before .before .before .before .read .ensures) _ _ (c .before .before .before .before .before .before .before .before .before .guests .given .1) in prints-sheet _ _ _ (t .reads) (same-tables t) (c .before .before .print-market .ensures)
+returns-2 c =
+    let at-guests = c .before .before .before .before .before .before .before .before .before in
+    let at-read = at-guests .before .before .before .before .before .before in
+    let t = read-tables _ _ _ _ _ _ _ _ _ _ (at-read .read .ensures) _ _ (at-guests .guests .given .1) in
+    prints-sheet _ _ _ (t .reads) (same-tables t) (c .before .before .print-market .ensures)
 
 pub print-clearing-spec : {M : Type 1} → statement M
 print-clearing-spec =
     tie.close
     (tie.spec
-    slice-aggregate-read
-    slice-aggregate-read-2
-    slice-aggregate-read-3
-    slice-aggregate-read-4
-    read-requires
-    enum-known-refusal
-    refusal-text-requires
-    enum-known-guests
+    (λ c. search needs) (λ c. search needs) (λ c. search needs) (λ c. search needs) (λ c κs. search needs)
+    (λ c. search needs) (λ c κs. search needs) (λ c. search needs)
     array-share-prefix-asks
     slice-aggregate-print-market
     array-share-prefix-bays
@@ -94,7 +106,7 @@ print-clearing-spec =
     array-share-prefix-bids
     slice-aggregate-print-market-4
     print-market-requires
-    same-length
+    (λ c. search needs)
     returns
-    same-length-2
+    (λ c. search needs)
     returns-2)

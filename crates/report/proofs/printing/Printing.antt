@@ -24,13 +24,17 @@ use Rattle.model.specs.text.MarketText.{marketText, marketTextOf}
 use Rattle.model.specs.contracts.Prints.{maxText, Prints}
 
 pub prints : {t l l′ : List ℕ} {q : ℕ} → Wrote l 0 t l′ q → length t ≤ maxText → Prints t l q l′
-prints {t} {l} {l′} {q} w h = record { buffer-is = wrote-all l t l′ q w; length-is = omega (arith, w .next); fits = omega (arith, w .next) }
+prints {t} {l} {l′} {q} w h =
+    record { buffer-is = wrote-all l t l′ q w; length-is = omega (arith, w .next); fits = omega (arith, w .next) }
 
 pub length-refusal : (r : Refusal) → length (refusalText r) ≤ maxText
 unfolding refusalText
-length-refusal r = omega (arith, length-append (field refusedWord (number r)) lineEnd, length-field refusedWord (number r))
+length-refusal r =
+    omega (arith, length-append (field refusedWord (number r)) lineEnd, length-field refusedWord (number r))
 
-length-text : (o : Outcome) → length (o .results .stations) ≤ maxGuests → length (o .results .sold) ≤ maxStations → length (text o) ≤ maxText
+length-text :
+    (o : Outcome) → length (o .results .stations) ≤ maxGuests → length (o .results .sold) ≤ maxStations
+    → length (text o) ≤ maxText
 unfolding text
 length-text o n m =
     let g = guestLines (o .results .stations) (o .results .charges) (length (o .results .stations)) in
@@ -48,18 +52,27 @@ length-text o n m =
       length-station-lines (o .results .sold) (o .results .paid) (length (o .results .sold)),
     )
 
-pub prints-refused : {l l′ : List ℕ} {q : ℕ} (t : Tables) (x : Refusal) → verdict t ≡ refused x → Wrote l 0 (refusalText x) l′ q → Prints (marketTextOf t) l q l′
+pub prints-refused :
+    {l l′ : List ℕ} {q : ℕ} (t : Tables) (x : Refusal) → verdict t ≡ refused x → Wrote l 0 (refusalText x) l′ q
+    → Prints (marketTextOf t) l q l′
 unfolding marketTextOf marketText
 prints-refused t x e w = rw e (prints w (length-refusal x))
 
-outcome-lengths : (t : Tables) → (length ((outcome t) .results .stations) ≡ length (t .amounts)) × (length ((outcome t) .results .sold) ≡ length (t .asks))
+outcome-lengths :
+    (t : Tables)
+    → (length ((outcome t) .results .stations) ≡ length (t .amounts))
+    × (length ((outcome t) .results .sold) ≡ length (t .asks))
 unfolding outcome settle seen market marketBy screen
 outcome-lengths t = (length-list _ _, length-list _ _)
 
-pub prints-cleared : {l l′ : List ℕ} {q : ℕ} (t : Tables) (k m : ℕ) (exit : Results) → ClearedAs t k m exit → length (t .amounts) ≤ maxGuests → length (t .asks) ≤ maxStations
-    → Wrote l 0 (text (outcomeOf k m (exit .stations) (exit .charges) (exit .sold) (exit .paid))) l′ q → Prints (marketTextOf t) l q l′
+pub prints-cleared :
+    {l l′ : List ℕ} {q : ℕ} (t : Tables) (k m : ℕ) (exit : Results) → ClearedAs t k m exit
+    → length (t .amounts) ≤ maxGuests → length (t .asks) ≤ maxStations
+    → Wrote l 0 (text (outcomeOf k m (exit .stations) (exit .charges) (exit .sold) (exit .paid))) l′ q
+    → Prints (marketTextOf t) l q l′
 unfolding marketTextOf marketText
 prints-cleared t k m exit c n s w =
-    let o : outcomeOf k m (exit .stations) (exit .charges) (exit .sold) (exit .paid) ≡ outcome t = λ i. record { cut = c .cut-is i; margin = c .margin-is i; results = c .results-are i } in
+    let o : outcomeOf k m (exit .stations) (exit .charges) (exit .sold) (exit .paid) ≡ outcome t = λ i.
+    record { cut = c .cut-is i; margin = c .margin-is i; results = c .results-are i } in
     let (a, b) = outcome-lengths t in
     rw (c .is-accepted) (prints (rw o at w) (length-text (outcome t) (omega arith) (omega arith)))

@@ -21,14 +21,22 @@ length-higher false ds = omega arith
 pub length-digits : (k x : ℕ) → length (digits k x) ≤ k
 unfolding digits
 length-digits zero x = omega arith
-length-digits (suc k) x = omega (arith, length-append (higher (x <? 10) (digits k (x / 10))) ((48 + x % 10) ∷ []), length-higher (x <? 10) (digits k (x / 10)), length-digits k (x / 10))
+length-digits (suc k) x =
+    omega (
+      arith,
+      length-append (higher (x <? 10) (digits k (x / 10))) ((48 + x % 10) ∷ []),
+      length-higher (x <? 10) (digits k (x / 10)),
+      length-digits k (x / 10),
+    )
 
 pub length-decimal : (x : ℕ) → length (decimal x) ≤ 20
 unfolding decimal
 length-decimal x = length-digits 20 x
 
 -- a digit alone
-pub wrote-digit : {l l′ : List ℕ} {p q : ℕ} (k x : ℕ) → x < 10 → Wrote l p ((48 + x % 10) ∷ []) l′ q → Wrote l p (digits (k + 1) x) l′ q
+pub wrote-digit :
+    {l l′ : List ℕ} {p q : ℕ} (k x : ℕ) → x < 10 → Wrote l p ((48 + x % 10) ∷ []) l′ q
+    → Wrote l p (digits (k + 1) x) l′ q
 unfolding digits higher
 wrote-digit k x h w = rw (add-one, is-lt x 10 h) w
 
@@ -38,10 +46,13 @@ digits-more k x h = rw (not-lt x 10 h)
 
 -- the digits of x / 10 and then the last
 pub wrote-last : {l l′ l″ : List ℕ} {p q r : ℕ} (k x : ℕ) → 10 ≤ x → x < 10 ^ (k + 1)
-    → ((j : ℕ) → x / 10 < 10 ^ (j + 1) → Wrote l p (digits (j + 1) (x / 10)) l′ q) → Wrote l′ q ((48 + x % 10) ∷ []) l″ r → Wrote l p (digits (k + 1) x) l″ r
+    → ((j : ℕ) → x / 10 < 10 ^ (j + 1) → Wrote l p (digits (j + 1) (x / 10)) l′ q)
+    → Wrote l′ q ((48 + x % 10) ∷ []) l″ r → Wrote l p (digits (k + 1) x) l″ r
 wrote-last zero x h b f w = absurd (let t : 10 ^ (0 + 1) ≡ 10 = refl in omega arith)
 wrote-last (suc j) x h b f w =
-    let lower : x / 10 < 10 ^ (j + 1) = div-lt-iff-lt-mul (let z : 0 < 10 = omega arith in z) .1 (let e : 10 ^ (suc j + 1) ≡ 10 ^ (j + 1) * 10 = rw (add-one (suc j), add-one j) (pow-suc 10 (suc j)) in omega arith) in
+    let lower : x / 10 < 10 ^ (j + 1) = div-lt-iff-lt-mul (let z : 0 < 10 = omega arith in z) .1
+    (let e : 10 ^ (suc j + 1) ≡ 10 ^ (j + 1) * 10 = rw (add-one (suc j), add-one j) (pow-suc 10 (suc j)) in
+    omega arith) in
     rw (add-one (suc j), digits-more (suc j) x h) (wrote-then (rw (add-one j) at (f j lower)) w)
 
 -- a 64-bit number has at most 20 digits, and a tenth of it at most 19

@@ -9,7 +9,9 @@ use Rattle.report.proofs.text.Decimal.{length-decimal, word-digits}
 use Rattle.report.proofs.text.Writing.{wrote-then}
 
 -- a word and then a number of 64 bits
-pub wrote-field : {l l′ l″ w : List ℕ} {p q r : ℕ} (x : ℕ) → x < 18446744073709551616 → Wrote l p w l′ q → ((k : ℕ) → x < 10 ^ (k + 1) → Wrote l′ q (digits (k + 1) x) l″ r) → Wrote l p (field w x) l″ r
+pub wrote-field :
+    {l l′ l″ w : List ℕ} {p q r : ℕ} (x : ℕ) → x < 18446744073709551616 → Wrote l p w l′ q
+    → ((k : ℕ) → x < 10 ^ (k + 1) → Wrote l′ q (digits (k + 1) x) l″ r) → Wrote l p (field w x) l″ r
 unfolding field decimal
 wrote-field x b a f = wrote-then a (f 19 (word-digits x b))
 

@@ -12,19 +12,23 @@ use Rattle.model.specs.text.Writing.{overlaid}
 use Rattle.report.specs.Wrote.{Wrote}
 
 pub wrote-none : (l : List ℕ) (p : ℕ) → Wrote l p [] l p
-wrote-none l p = record { same = refl; here = λ k a b. absurd (omega arith); low = λ k a. refl; high = λ k a. refl; next = omega arith }
+wrote-none l p =
+    record
+    { same = refl; here = λ k a b. absurd (omega arith); low = λ k a. refl; high = λ k a. refl; next = omega arith }
 
 pub wrote-byte : (l : List ℕ) (p b : ℕ) → p < length l → Wrote l p (b ∷ []) (set l p b) (p + 1)
 wrote-byte l p b h = record {
   same = length-set l p b;
-  here = λ k a c. let e : k ≡ 0 = omega arith in rw e (let z : p + 0 ≡ p = omega arith in rw z (getD-set-same l p b 0 h));
+  here =
+      λ k a c. let e : k ≡ 0 = omega arith in rw e (let z : p + 0 ≡ p = omega arith in rw z (getD-set-same l p b 0 h));
   low = λ k a. getD-set-other l p k b 0 (λ e. omega arith);
   high = λ k a. getD-set-other l p k b 0 (λ e. omega arith);
   next = refl;
 }
 
 pub wrote-past : (l : List ℕ) (p b : ℕ) → length l ≤ p → Wrote l p (b ∷ []) l (p + 1)
-wrote-past l p b h = record { same = refl; here = λ k a c. absurd (omega arith); low = λ k a. refl; high = λ k a. refl; next = refl }
+wrote-past l p b h =
+    record { same = refl; here = λ k a c. absurd (omega arith); low = λ k a. refl; high = λ k a. refl; next = refl }
 
 -- one text after another
 pub wrote-then : {l l′ l″ t u : List ℕ} {p q r : ℕ} → Wrote l p t l′ q → Wrote l′ q u l″ r → Wrote l p (t ++ u) l″ r
@@ -44,10 +48,13 @@ wrote-then {l} {l′} {l″} {t} {u} {p} {q} {r} a b = record {
 }
 
 -- a word, byte by byte
-pub wrote-next : {l l′ l″ : List ℕ} (w : List ℕ) {p q r : ℕ} (k : ℕ) → Wrote l p (take k w) l′ q → k < length w → Wrote l′ q (getD w k 0 ∷ []) l″ r → Wrote l p (take (k + 1) w) l″ r
+pub wrote-next :
+    {l l′ l″ : List ℕ} (w : List ℕ) {p q r : ℕ} (k : ℕ) → Wrote l p (take k w) l′ q → k < length w
+    → Wrote l′ q (getD w k 0 ∷ []) l″ r → Wrote l p (take (k + 1) w) l″ r
 wrote-next w k a h b = rw (add-one, take-suc w k 0 h) (wrote-then a b)
 
-pub wrote-word : {l l′ : List ℕ} (w : List ℕ) {p q : ℕ} (k : ℕ) → Wrote l p (take k w) l′ q → length w ≤ k → Wrote l p w l′ q
+pub wrote-word :
+    {l l′ : List ℕ} (w : List ℕ) {p q : ℕ} (k : ℕ) → Wrote l p (take k w) l′ q → length w ≤ k → Wrote l p w l′ q
 wrote-word w k a h = rw (take-all k w h) at a
 
 -- the whole text from the start
@@ -56,7 +63,13 @@ unfolding overlaid
 wrote-all l t l′ q w = ext-getD 0 l′ _ (w .same ∙ sym long) at
   where
     long : length (take (length l) t ++ drop (length t) l) ≡ length l
-    long = omega (arith, length-append (take (length l) t) (drop (length t) l), length-take (length l) t, length-drop (length t) l)
+    long =
+        omega (
+          arith,
+          length-append (take (length l) t) (drop (length t) l),
+          length-take (length l) t,
+          length-drop (length t) l,
+        )
 
     at : (i : ℕ) → i < length l′ → getD l′ i 0 ≡ getD (take (length l) t ++ drop (length t) l) i 0
     at i h = ⊎-elim
@@ -64,11 +77,13 @@ wrote-all l t l′ q w = ext-getD 0 l′ _ (w .same ∙ sym long) at
         let z : 0 + i ≡ i = omega arith in
         let e : getD l′ (0 + i) 0 ≡ getD t i 0 = w .here i c (omega (arith, w .same)) in
         ap (λ x. getD l′ x 0) (sym z) ∙ e ∙ sym (getD-take (length l) t i 0 (omega (arith, w .same)))
-        ∙ sym (List·getD-append (take (length l) t) (drop (length t) l) 0 i (omega (arith, w .same, length-take (length l) t))))
+        ∙ sym (List·getD-append (take (length l) t) (drop (length t) l) 0 i
+        (omega (arith, w .same, length-take (length l) t))))
         (λ (c : length t ≤ i).
         let m : length (take (length l) t) ≡ length t = omega (arith, w .same, length-take (length l) t) in
         let f : length (take (length l) t) + (i - length t) ≡ i = omega arith in
         let g : length t + (i - length t) ≡ i = omega arith in
         w .high i (omega arith) ∙ ap (λ x. getD l x 0) (sym g) ∙ sym (getD-drop (length t) l (i - length t) 0)
-        ∙ sym (getD-append-add (take (length l) t) (drop (length t) l) (i - length t) 0) ∙ ap (λ x. getD (take (length l) t ++ drop (length t) l) x 0) f)
+        ∙ sym (getD-append-add (take (length l) t) (drop (length t) l) (i - length t) 0)
+        ∙ ap (λ x. getD (take (length l) t ++ drop (length t) l) x 0) f)
         (lt-or-le i (length t))

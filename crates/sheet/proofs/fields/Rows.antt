@@ -11,7 +11,9 @@ use Rattle.sheet.specs.declared.fields.Cursor.{Cursor}
 use Rattle.model.proofs.sheet.Fields.{moved}
 use Rattle.model.proofs.sheet.Rows.{bids-at, MapTaken}
 
-pub map-taken : (s : List ℕ) (m p d x : ℕ) (e : Cursor) → d ≡ p + 2 → d + mapWidth m ≤ length s → Taken s d (mapWidth m) x e → MapTaken s m p x (e .at)
+pub map-taken :
+    (s : List ℕ) (m p d x : ℕ) (e : Cursor) → d ≡ p + 2 → d + mapWidth m ≤ length s → Taken s d (mapWidth m) x e
+    → MapTaken s m p x (e .at)
 unfolding mapAt
 map-taken s m p d x e f h t = record {
   within = omega (arith, bids-at m p);

@@ -10,12 +10,15 @@ use Rattle.model.proofs.Tests.{only-yes}
 use Rattle.model.specs.sheet.Fields.{number, hasBit}
 use Rattle.model.specs.sheet.Rows.{bidBy}
 
-pub bid-is : (s : List ℕ) (map q j p v : ℕ) → p ≡ q + 4 * count j (hasBit map) → v ≡ only (hasBit map j) (number s p 4) → v ≡ bidBy s map q j
+pub bid-is :
+    (s : List ℕ) (map q j p v : ℕ) → p ≡ q + 4 * count j (hasBit map)
+    → v ≡ only (hasBit map j) (number s p 4) → v ≡ bidBy s map q j
 unfolding bidBy
 bid-is s map q j p v e f = rw (← e) f
 
 -- where all bits are set the bids follow each other
-pub bid-full : (s : List ℕ) (map q m : ℕ) → count m (hasBit map) ≡ m → (j : ℕ) → j < m → number s (q + 4 * j) 4 ≡ bidBy s map q j
+pub bid-full :
+    (s : List ℕ) (map q m : ℕ) → count m (hasBit map) ≡ m → (j : ℕ) → j < m → number s (q + 4 * j) 4 ≡ bidBy s map q j
 unfolding bidBy
 bid-full s map q m e j l = let (c, b) = count-all m (hasBit map) e j l in rw c (sym (only-yes _ _ b))
 

@@ -20,22 +20,27 @@ unfolding over
 filled-none l = record { same = refl; is = refl }
 
 -- one place more
-filled-more : {xs l₀ l : List ℕ} (k v : ℕ) → Filled xs l₀ l → length xs ≡ k → k < length l₀ → Filled (xs ++ (v ∷ [])) l₀ (set l k v)
+filled-more :
+    {xs l₀ l : List ℕ} (k v : ℕ) → Filled xs l₀ l → length xs ≡ k → k < length l₀
+    → Filled (xs ++ (v ∷ [])) l₀ (set l k v)
 unfolding over
-filled-more {xs} {l₀} {l} k v f e h = let e′ : suc k ≡ length (xs ++ (v ∷ [])) = omega (arith, length-append xs (v ∷ [])) in record {
-  same = length-set l k v ∙ f .same;
-  is = ap (λ y. set y k v) (f .is ∙ ap (λ y. xs ++ y) (ap (λ n. drop n l₀) e ∙ drop-cons l₀ k 0 h))
-      ∙ set-at xs (getD l₀ k 0) (drop (suc k) l₀) v k e
-      ∙ ap (λ n. xs ++ (v ∷ drop n l₀)) e′
-      ∙ sym (append-assoc xs (v ∷ []) (drop (length (xs ++ (v ∷ []))) l₀));
-}
+filled-more {xs} {l₀} {l} k v f e h =
+    let e′ : suc k ≡ length (xs ++ (v ∷ [])) = omega (arith, length-append xs (v ∷ [])) in record {
+      same = length-set l k v ∙ f .same;
+      is = ap (λ y. set y k v) (f .is ∙ ap (λ y. xs ++ y) (ap (λ n. drop n l₀) e ∙ drop-cons l₀ k 0 h))
+          ∙ set-at xs (getD l₀ k 0) (drop (suc k) l₀) v k e
+          ∙ ap (λ n. xs ++ (v ∷ drop n l₀)) e′
+          ∙ sym (append-assoc xs (v ∷ []) (drop (length (xs ++ (v ∷ []))) l₀));
+    }
 
 -- from the start of the table
 pub filled-start : (f : ℕ → ℕ) (l : List ℕ) → Filled (list 0 f) l l
 unfolding list
 filled-start f l = filled-none l
 
-pub filled-turn : (f : ℕ → ℕ) (l₀ l : List ℕ) (j v : ℕ) → Filled (list j f) l₀ l → j < length l₀ → v ≡ f j → Filled (list (j + 1) f) l₀ (set l j v)
+pub filled-turn :
+    (f : ℕ → ℕ) (l₀ l : List ℕ) (j v : ℕ) → Filled (list j f) l₀ l → j < length l₀ → v ≡ f j
+    → Filled (list (j + 1) f) l₀ (set l j v)
 filled-turn f l₀ l j v g h e = rw (list-step j f, ← e) (filled-more j v g (length-list j f) h)
 
 pub filled-end : (f : ℕ → ℕ) (l₀ l : List ℕ) (j m : ℕ) → Filled (list j f) l₀ l → j ≡ m → l ≡ over (list m f) l₀
@@ -44,23 +49,31 @@ filled-end f l₀ l j m g e = rw (← e) (g .is)
 -- a row of the table, from base on
 pub row-start : (f : ℕ → ℕ) (l : List ℕ) (base : ℕ) → base ≤ length l → Filled (take base l ++ list 0 f) l l
 unfolding list over
-row-start f l base h = rw append-nil (record { same = refl; is = sym (ap (λ n. take base l ++ drop n l) (length-take-le base l h) ∙ take-append-drop base l) })
+row-start f l base h =
+    rw append-nil (record
+    { same = refl; is = sym (ap (λ n. take base l ++ drop n l) (length-take-le base l h) ∙ take-append-drop base l) })
 
-pub row-turn : (f : ℕ → ℕ) (l₀ l : List ℕ) (base j v : ℕ) → Filled (take base l₀ ++ list j f) l₀ l → base + j < length l₀ → v ≡ f j
+pub row-turn :
+    (f : ℕ → ℕ) (l₀ l : List ℕ) (base j v : ℕ) → Filled (take base l₀ ++ list j f) l₀ l → base + j < length l₀ → v ≡ f j
     → Filled (take base l₀ ++ list (j + 1) f) l₀ (set l (base + j) v)
 row-turn f l₀ l base j v g h e =
-    rw (list-step j f, ← e, ← append-assoc) (filled-more (base + j) v g (length-append (take base l₀) (list j f) ∙ omega (arith, length-list j f, length-take-le base l₀ (omega arith))) h)
+    rw (list-step j f, ← e, ← append-assoc) (filled-more (base + j) v g (length-append (take base l₀) (list j f)
+    ∙ omega (arith, length-list j f, length-take-le base l₀ (omega arith))) h)
 
-pub row-end : (f : ℕ → ℕ) (l₀ l : List ℕ) (base j m : ℕ) → Filled (take base l₀ ++ list j f) l₀ l → j ≡ m → l ≡ placed base m f l₀
+pub row-end :
+    (f : ℕ → ℕ) (l₀ l : List ℕ) (base j m : ℕ) → Filled (take base l₀ ++ list j f) l₀ l → j ≡ m → l ≡ placed base m f l₀
 unfolding placed
 row-end f l₀ l base j m g e = rw (← e) (g .is)
 
-pub placed-cong : (base m : ℕ) (f g : ℕ → ℕ) (l : List ℕ) → ((j : ℕ) → j < m → f j ≡ g j) → placed base m f l ≡ placed base m g l
+pub placed-cong :
+    (base m : ℕ) (f g : ℕ → ℕ) (l : List ℕ) → ((j : ℕ) → j < m → f j ≡ g j) → placed base m f l ≡ placed base m g l
 unfolding placed
 placed-cong base m f g l h = ap (λ y. over (take base l ++ y) l) (list-cong m f g h)
 
 -- a whole row more
-pub filled-row : {xs l₀ l : List ℕ} (l′ : List ℕ) (f : ℕ → ℕ) (k m : ℕ) → Filled xs l₀ l → length xs ≡ k → length l′ ≡ length l → l′ ≡ placed k m f l → Filled (xs ++ list m f) l₀ l′
+pub filled-row :
+    {xs l₀ l : List ℕ} (l′ : List ℕ) (f : ℕ → ℕ) (k m : ℕ) → Filled xs l₀ l → length xs ≡ k → length l′ ≡ length l
+    → l′ ≡ placed k m f l → Filled (xs ++ list m f) l₀ l′
 unfolding placed over
 filled-row {xs} {l₀} {l} l′ f k m g e t h = record {
   same = t ∙ g .same;
@@ -71,4 +84,6 @@ filled-row {xs} {l₀} {l} l′ f k m g e t h = record {
     front = ap (take k) (g .is) ∙ take-at xs (drop (length xs) l₀) k e
 
     back : drop (length (xs ++ list m f)) l ≡ drop (length (xs ++ list m f)) l₀
-    back = rw (length-append xs (list m f)) (ap (drop (length xs + length (list m f))) (g .is) ∙ drop-append-add xs (drop (length xs) l₀) (length (list m f)) ∙ drop-drop (length (list m f)) (length xs) l₀)
+    back =
+        rw (length-append xs (list m f)) (ap (drop (length xs + length (list m f))) (g .is)
+        ∙ drop-append-add xs (drop (length xs) l₀) (length (list m f)) ∙ drop-drop (length (list m f)) (length xs) l₀)

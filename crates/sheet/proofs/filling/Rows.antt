@@ -18,13 +18,18 @@ pub rows-start : (f : ℕ → ℕ → ℕ) (m : ℕ) (l : List ℕ) → Filled (
 unfolding joined list
 rows-start f m l = filled-start (λ k. 0) l
 
-pub rows-turn : (s : List ℕ) (m i p x q : ℕ) (l₀ l l′ : List ℕ) → Filled (joined i (λ i. list m (bidOf s m i))) l₀ l → p ≡ rowAt s m i → MapTaken s m p x q
-    → length l′ ≡ length l → l′ ≡ placed (i * m) m (bidBy s x q) l → Filled (joined (i + 1) (λ i. list m (bidOf s m i))) l₀ l′
+pub rows-turn :
+    (s : List ℕ) (m i p x q : ℕ) (l₀ l l′ : List ℕ) → Filled (joined i (λ i. list m (bidOf s m i))) l₀ l
+    → p ≡ rowAt s m i → MapTaken s m p x q
+    → length l′ ≡ length l → l′ ≡ placed (i * m) m (bidBy s x q) l
+    → Filled (joined (i + 1) (λ i. list m (bidOf s m i))) l₀ l′
 unfolding joined bidOf
 rows-turn s m i p x q l₀ l l′ g e t h z =
     rw (add-one i, ← e, ← t .map, ← t .to) (filled-row l′ (bidBy s x q) (i * m) m g (joined-length i m (bidOf s m)) h z)
 
-pub rows-end : (f : ℕ → ℕ → ℕ) (m i n : ℕ) (l₀ l : List ℕ) → Filled (joined i (λ i. list m (f i))) l₀ l → i ≡ n → l ≡ over (joined n (λ i. list m (f i))) l₀
+pub rows-end :
+    (f : ℕ → ℕ → ℕ) (m i n : ℕ) (l₀ l : List ℕ) → Filled (joined i (λ i. list m (f i))) l₀ l → i ≡ n
+    → l ≡ over (joined n (λ i. list m (f i))) l₀
 rows-end f m i n l₀ l g e = rw (← e) (g .is)
 
 -- room for a row

@@ -6,12 +6,9 @@ use Rattle.model.specs.contracts.Reads.{lentTables}
 use Rattle.sheet.proofs.mislent.Statement.{statement}
 use Rattle.sheet.proofs.mislent.Tie as tie
 
-mul-result : tie.Need-mul-result
-mul-result c = search needs
-
 returns : tie.Need-returns
 unfolding lentTables _=?_ _or_
 returns c = refl
 
 pub mislent-spec : {M : Type 1} → statement M
-mislent-spec = tie.close (tie.spec mul-result returns)
+mislent-spec = tie.close (tie.spec (λ c. search needs) returns)

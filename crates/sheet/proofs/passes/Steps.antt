@@ -17,7 +17,8 @@ pub step-next : (v : Verdict) (p : ℕ) (c : Cursor) → v ≡ accepted → c .a
 unfolding stepBy
 step-next v p c e f = rw (e, ← f) refl
 
-pub told-next : (v : Verdict) (p : ℕ) (c : Cursor) (r : Step) → r ≡ stepBy v p → r ≡ Next c → (v ≡ accepted) × (c .at ≡ p)
+pub told-next :
+    (v : Verdict) (p : ℕ) (c : Cursor) (r : Step) → r ≡ stepBy v p → r ≡ Next c → (v ≡ accepted) × (c .at ≡ p)
 unfolding stepBy
 told-next accepted p c r e f = let g : c ≡ record { at = p } = cc in (refl, ap (λ (d : Cursor). d .at) g)
 told-next (refused x) p c r e f = let z : _≡_ {A = ℕ} 0 1 = cc in absurd (omega arith)

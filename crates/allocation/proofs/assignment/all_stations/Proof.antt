@@ -12,37 +12,52 @@ use Rattle.allocation.proofs.assignment.all_stations.Tie as tie
 use Rattle.allocation.proofs.assignment.Assignment.{after-end}
 
 abbrev Inv-loop : tie.InvT-loop
-Inv-loop asks bays amounts bids cut least totals₀ chosen₀ gains₀ criticals₀ j₀ totals chosen gains criticals j = (j ≤ length asks) × (length totals ≡ length amounts) × After (seen (regular asks bays amounts bids)) (length amounts) j chosen gains criticals
+Inv-loop asks bays amounts bids cut least totals₀ chosen₀ gains₀ criticals₀ j₀ totals chosen gains criticals j =
+    (j ≤ length asks) × (length totals ≡ length amounts)
+    × After (seen (regular asks bays amounts bids)) (length amounts) j chosen gains criticals
 
 abbrev μ-loop : tie.MeasureT-loop
-μ-loop asks bays amounts bids cut least totals₀ chosen₀ gains₀ criticals₀ j₀ totals chosen gains criticals j = length asks - j
+μ-loop asks bays amounts bids cut least totals₀ chosen₀ gains₀ criticals₀ j₀ totals chosen gains criticals j =
+    length asks - j
 
 loop-holds : tie.Need-loop-holds Inv-loop μ-loop
-loop-holds c = (search needs, c .before .before .before .before .before .before .before .before .before .pre .1 .0, c .before .before .before .before .before .before .before .before .before .pre .1 .1)
+loop-holds c =
+    let entry = c .before .before .before .before .before .before .before .before .before in
+    (search needs, entry .pre .1 .0, entry .pre .1 .1)
+
+abbrev entry-before-loop : tie.At-loop Inv-loop μ-loop → tie.Start Inv-loop μ-loop
+entry-before-loop p = p .before .before .before .before .before .before .before .before .before .before
 
 station-requires : tie.Need-station-requires Inv-loop μ-loop
-station-requires c κs = (c .before .before .before .before .before .before .before .before .before .before .before .before .before .before .before .pre .0, ((c .before .before .before .before .loop-test .taken, c .before .before .before .before .before .loop .inv .1), c .before .before .before .before .before .loop .inv .2))
-
-add-j : tie.Need-add-j Inv-loop μ-loop
-add-j c = search needs
-
-loop-less : tie.Need-loop-less Inv-loop μ-loop
-loop-less c = search needs
+station-requires c κs =
+    let at-loop-test = c .before .before .before .before in
+    let at-loop = at-loop-test .before in
+    let entry = entry-before-loop at-loop in
+    (entry .pre .0, ((at-loop-test .loop-test .taken, at-loop .loop .inv .1), at-loop .loop .inv .2))
 
 loop-again : tie.Need-loop-again Inv-loop μ-loop
-loop-again c = (omega arith, omega (arith, c .before .before .before .before .before .before .before .before .station .kept .1 .1 .1 .1 .1 .1 .1 .0, c .before .before .before .before .before .before .before .before .before .before .before .before .before .before .loop .inv .1), c .before .before .before .before .before .before .before .before .station .ensures .0)
-
-same-length : tie.Need-same-length Inv-loop μ-loop
-same-length c = search needs
+loop-again c =
+    let at-station = c .before .before .before .before .before .before .before .before in
+    let at-loop = at-station .before .before .before .before .before .before in (
+      omega arith,
+      omega (arith, at-station .station .kept .1 .1 .1 .1 .1 .1 .1 .0, at-loop .loop .inv .1),
+      at-station .station .ensures .0,
+    )
 
 same-length-2 : tie.Need-same-length-2 Inv-loop μ-loop
-same-length-2 c = long _ _ (c .before .loop .inv .2 .chosen-are) ∙ sym (long _ _ (c .before .before .before .before .before .before .before .before .before .before .before .pre .1 .1 .chosen-are))
+same-length-2 c =
+    let entry = entry-before-loop (c .before) in
+    long _ _ (c .before .loop .inv .2 .chosen-are) ∙ sym (long _ _ (entry .pre .1 .1 .chosen-are))
 
 same-length-3 : tie.Need-same-length-3 Inv-loop μ-loop
-same-length-3 c = long _ _ (c .before .loop .inv .2 .gains-are) ∙ sym (long _ _ (c .before .before .before .before .before .before .before .before .before .before .before .pre .1 .1 .gains-are))
+same-length-3 c =
+    let entry = entry-before-loop (c .before) in
+    long _ _ (c .before .loop .inv .2 .gains-are) ∙ sym (long _ _ (entry .pre .1 .1 .gains-are))
 
 same-length-4 : tie.Need-same-length-4 Inv-loop μ-loop
-same-length-4 c = c .before .loop .inv .2 .criticals-long ∙ sym (c .before .before .before .before .before .before .before .before .before .before .before .pre .1 .1 .criticals-long)
+same-length-4 c =
+    let entry = entry-before-loop (c .before) in
+    c .before .loop .inv .2 .criticals-long ∙ sym (entry .pre .1 .1 .criticals-long)
 
 returns : tie.Need-returns Inv-loop μ-loop
 returns c = after-end (c .before .loop .inv .2) (c .before .loop .inv .0) (c .loop-test .left)
@@ -55,10 +70,9 @@ all-stations-spec =
     μ-loop
     loop-holds
     station-requires
-    add-j
-    loop-less
+    (λ c. search needs) (λ c. search needs)
     loop-again
-    same-length
+    (λ c. search needs)
     same-length-2
     same-length-3
     same-length-4

@@ -5,31 +5,32 @@ use Rattle.allocation.proofs.assignment.assign.Tie as tie
 use Rattle.allocation.proofs.assignment.Assignment.{chargeable, assigned}
 
 all-stations-requires : tie.Need-all-stations-requires
-all-stations-requires c κs = (c .before .before .before .before .before .before .before .before .before .before .before .before .before .before .before .pre .0, (c .before .before .before .before .before .before .before .before .before .before .before .before .before .before .before .pre .1 .0, c .before .before .before .before .before .before .before .before .before .before .before .before .before .before .before .pre .1 .1 .0))
+all-stations-requires c κs =
+    let entry = c .before .before .before .before .before .before .before .before .before .before .before .before
+    .before .before .before in
+    (entry .pre .0, (entry .pre .1 .0, entry .pre .1 .1 .0))
+
+abbrev entry-before-all-stations : tie.After-all-stations → tie.Start
+entry-before-all-stations p =
+    p .before .before .before .before .before .before .before .before .before .before .before .before
+    .before .before .before .before
 
 charge-guests-requires : tie.Need-charge-guests-requires
-charge-guests-requires c κs = chargeable (regular _ _ _ _) (c .before .before .before .before .before .before .before .before .before .before .before .before .before .before .before .before .before .before .before .before .before .before .before .before .before .before .before .before .pre .0) (c .before .before .before .before .before .before .before .before .before .before .before .before .all-stations .ensures) (c .before .before .before .before .before .before .before .before .before .before .before .before .before .before .before .before .before .before .before .before .before .before .before .before .before .before .before .before .pre .1 .1 .1 .0) (c .before .before .before .before .before .before .before .before .before .before .before .before .before .before .before .before .before .before .before .before .before .before .before .before .before .before .before .before .pre .1 .1 .1 .1)
-
-same-length : tie.Need-same-length
-same-length c = search needs
-
-same-length-2 : tie.Need-same-length-2
-same-length-2 c = search needs
-
-same-length-3 : tie.Need-same-length-3
-same-length-3 c = search needs
-
-same-length-4 : tie.Need-same-length-4
-same-length-4 c = search needs
-
-same-length-5 : tie.Need-same-length-5
-same-length-5 c = search needs
-
-same-length-6 : tie.Need-same-length-6
-same-length-6 c = search needs
+charge-guests-requires c κs =
+    let at-all-stations = c .before .before .before .before .before .before .before .before .before
+    .before .before .before in
+    let entry = entry-before-all-stations at-all-stations in
+    chargeable (regular _ _ _ _) (entry .pre .0) (at-all-stations .all-stations .ensures)
+    (entry .pre .1 .1 .1 .0) (entry .pre .1 .1 .1 .1)
 
 returns : tie.Need-returns
-returns c = assigned (regular _ _ _ _) (c .before .before .before .before .before .before .before .before .before .before .before .before .before .before .before .before .before .before .before .before .before .before .before .before .before .before .before .before .before .before .before .before .before .pre .0) (c .before .before .before .before .before .before .before .before .before .before .before .before .before .before .before .before .before .all-stations .ensures) (c .before .before .before .before .charge-guests .ensures)
+returns c =
+    let at-charge-guests = c .before .before .before .before in
+    let at-all-stations = at-charge-guests .before .before .before .before .before .before .before .before .before
+    .before .before .before .before in
+    let entry = entry-before-all-stations at-all-stations in
+    assigned (regular _ _ _ _) (entry .pre .0) (at-all-stations .all-stations .ensures)
+    (at-charge-guests .charge-guests .ensures)
 
 pub assign-spec : {M : Type 1} → statement M
 assign-spec =
@@ -37,10 +38,6 @@ assign-spec =
     (tie.spec
     all-stations-requires
     charge-guests-requires
-    same-length
-    same-length-2
-    same-length-3
-    same-length-4
-    same-length-5
-    same-length-6
+    (λ c. search needs) (λ c. search needs) (λ c. search needs) (λ c. search needs) (λ c. search needs)
+    (λ c. search needs)
     returns)

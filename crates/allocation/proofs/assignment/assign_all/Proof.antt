@@ -6,53 +6,38 @@ use Rattle.allocation.proofs.assignment.assign_all.Statement.{statement
 use Rattle.allocation.proofs.assignment.assign_all.Tie as tie
 use Rattle.allocation.proofs.assignment.Assignment.{after-none}
 
-array-borrow-prefix-totals : tie.Need-array-borrow-prefix-totals
-array-borrow-prefix-totals c = search needs
-
 slice-aggregate-assign : tie.Need-slice-aggregate-assign
-slice-aggregate-assign c = zeros-long maxGuests _ (c .before .before .before .before .before .before .before .before .pre .0 .within .guests-most)
-
-array-borrow-prefix-chosen : tie.Need-array-borrow-prefix-chosen
-array-borrow-prefix-chosen c = search needs
+slice-aggregate-assign c =
+    let entry = c .before .before .before .before .before .before .before .before in
+    zeros-long maxGuests _ (entry .pre .0 .within .guests-most)
 
 slice-aggregate-assign-2 : tie.Need-slice-aggregate-assign-2
-slice-aggregate-assign-2 c = zeros-long maxGuests _ (c .before .before .before .before .before .before .before .before .before .pre .0 .within .guests-most)
-
-array-borrow-prefix-gains : tie.Need-array-borrow-prefix-gains
-array-borrow-prefix-gains c = search needs
+slice-aggregate-assign-2 c =
+    let entry = c .before .before .before .before .before .before .before .before .before in
+    zeros-long maxGuests _ (entry .pre .0 .within .guests-most)
 
 slice-aggregate-assign-3 : tie.Need-slice-aggregate-assign-3
-slice-aggregate-assign-3 c = zeros-long maxGuests _ (c .before .before .before .before .before .before .before .before .before .before .pre .0 .within .guests-most)
-
-slice-aggregate-assign-4 : tie.Need-slice-aggregate-assign-4
-slice-aggregate-assign-4 c = search needs
+slice-aggregate-assign-3 c =
+    let entry = c .before .before .before .before .before .before .before .before .before .before in
+    zeros-long maxGuests _ (entry .pre .0 .within .guests-most)
 
 assign-requires : tie.Need-assign-requires
 assign-requires c κs =
-    let most = c .before .before .before .before .before .before .before .before .before .before .before .before .before .pre .0 .within .guests-most in
-    (c .before .before .before .before .before .before .before .before .before .before .before .before .before .pre .0, (sym (zeros-long maxGuests _ most), (after-none most, c .before .before .before .before .before .before .before .before .before .before .before .before .before .pre .1)))
-
-same-length : tie.Need-same-length
-same-length c = search needs
-
-same-length-2 : tie.Need-same-length-2
-same-length-2 c = search needs
-
-returns : tie.Need-returns
-returns c = search needs
+    let entry = c .before .before .before .before .before .before .before .before .before .before
+    .before .before .before in
+    let most = entry .pre .0 .within .guests-most in
+    (entry .pre .0, (sym (zeros-long maxGuests _ most), (after-none most, entry .pre .1)))
 
 pub assign-all-spec : {M : Type 1} → statement M
 assign-all-spec =
     tie.close
     (tie.spec
-    array-borrow-prefix-totals
+    (λ c. search needs)
     slice-aggregate-assign
-    array-borrow-prefix-chosen
+    (λ c. search needs)
     slice-aggregate-assign-2
-    array-borrow-prefix-gains
+    (λ c. search needs)
     slice-aggregate-assign-3
-    slice-aggregate-assign-4
+    (λ c. search needs)
     assign-requires
-    same-length
-    same-length-2
-    returns)
+    (λ c. search needs) (λ c. search needs) (λ c. search needs))

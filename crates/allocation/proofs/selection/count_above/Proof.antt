@@ -20,28 +20,25 @@ abbrev μ-loop : tie.MeasureT-loop
 loop-holds : tie.Need-loop-holds Inv-loop μ-loop
 loop-holds c = (search needs, search needs, sym (count-start _))
 
-mul-below : tie.Need-mul-below Inv-loop μ-loop
-mul-below c = search needs
-
-shared-slice-read-below : tie.Need-shared-slice-read-below Inv-loop μ-loop
-shared-slice-read-below c = search needs
-
 below-requires : tie.Need-below-requires Inv-loop μ-loop
-below-requires c κs = (omega (arith, c .before .before .before .before .pre .2), omega (arith, c .before .before .before .before .pre .1 _ (c .before .loop-test .taken)))
-
-add-n : tie.Need-add-n Inv-loop μ-loop
-add-n c = search needs
-
-add-i : tie.Need-add-i Inv-loop μ-loop
-add-i c = search needs
-
-loop-less : tie.Need-loop-less Inv-loop μ-loop
-loop-less c = search needs
+below-requires c κs =
+    let entry = c .before .before .before .before in
+    (omega (arith, entry .pre .2), omega (arith, entry .pre .1 _ (c .before .loop-test .taken)))
 
 loop-again : tie.Need-loop-again Inv-loop μ-loop
-loop-again c = ⊎-elim
-    (λ w. (omega arith, omega arith, w .1 ∙ count-hit _ _ _ (c .before .before .before .before .loop .inv .2) (sym (c .before .below .ensures) ∙ w .0 .taken)))
-    (λ w. (omega arith, omega arith, w .1 ∙ count-miss _ _ _ (c .before .before .before .before .loop .inv .2) (sym (c .before .below .ensures) ∙ w .0 .left)))
+loop-again c =
+    let at-loop = c .before .before .before .before in
+    ⊎-elim
+    (λ w. (
+      omega arith,
+      omega arith,
+      w .1 ∙ count-hit _ _ _ (at-loop .loop .inv .2) (sym (c .before .below .ensures) ∙ w .0 .taken),
+    ))
+    (λ w. (
+      omega arith,
+      omega arith,
+      w .1 ∙ count-miss _ _ _ (at-loop .loop .inv .2) (sym (c .before .below .ensures) ∙ w .0 .left),
+    ))
     (c .if1 .came)
 
 returns : tie.Need-returns Inv-loop μ-loop
@@ -55,11 +52,8 @@ count-above-spec =
     Inv-loop
     μ-loop
     loop-holds
-    mul-below
-    shared-slice-read-below
+    (λ c. search needs) (λ c. search needs)
     below-requires
-    add-n
-    add-i
-    loop-less
+    (λ c. search needs) (λ c. search needs) (λ c. search needs)
     loop-again
     returns)

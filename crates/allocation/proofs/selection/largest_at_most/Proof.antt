@@ -21,29 +21,32 @@ abbrev μ-loop : tie.MeasureT-loop
 loop-holds : tie.Need-loop-holds Inv-loop μ-loop
 loop-holds c = (search needs, greatest-none _)
 
-mul-capped : tie.Need-mul-capped Inv-loop μ-loop
-mul-capped c = search needs
-
-shared-slice-read-capped : tie.Need-shared-slice-read-capped Inv-loop μ-loop
-shared-slice-read-capped c = search needs
-
 capped-requires : tie.Need-capped-requires Inv-loop μ-loop
-capped-requires c κs = (c .before .before .before .before .pre .0 _ (c .before .loop-test .taken), c .before .before .before .before .pre .1)
+capped-requires c κs =
+    let entry = c .before .before .before .before in
+    (entry .pre .0 _ (c .before .loop-test .taken), entry .pre .1)
 
 larger-requires : tie.Need-larger-requires Inv-loop μ-loop
 larger-requires c κs =
-    let p = c .before .before .before .before .before .pre .0 in
-    let l = greatest-low (c .before .before .before .before .before .args .xs .now) (c .before .before .before .before .before .args .t) (c .before .before .before .loop .i) p (c .before .before .before .loop .inv .0) in
-    (omega (arith, c .before .before .before .loop .inv .1, l), omega (arith, c .capped .ensures, only-le (getD (c .before .before .before .before .before .args .xs .now) (c .before .before .before .loop .i) 0 ≤? c .before .before .before .before .before .args .t) _ maxTotal (λ _. p _ (c .before .before .loop-test .taken))))
-
-add-i : tie.Need-add-i Inv-loop μ-loop
-add-i c = search needs
-
-loop-less : tie.Need-loop-less Inv-loop μ-loop
-loop-less c = search needs
+    let at-loop = c .before .before .before in
+    let entry = at-loop .before .before in
+    let p = entry .pre .0 in
+    let l = greatest-low (entry .args .xs .now) (entry .args .t) (at-loop .loop .i) p (at-loop .loop .inv .0) in (
+      omega (arith, at-loop .loop .inv .1, l),
+      omega (
+        arith,
+        c .capped .ensures,
+        only-le (getD (entry .args .xs .now) (at-loop .loop .i) 0 ≤? entry .args .t) _ maxTotal
+            (λ _. p _ (c .before .before .loop-test .taken)),
+      ),
+    )
 
 loop-again : tie.Need-loop-again Inv-loop μ-loop
-loop-again c = (omega arith, greatest-more _ _ _ _ _ (c .before .before .before .before .loop .inv .1) (c .before .capped .ensures) (c .larger .ensures))
+loop-again c = (
+  omega arith,
+  greatest-more _ _ _ _ _ (c .before .before .before .before .loop .inv .1) (c .before .capped .ensures)
+      (c .larger .ensures),
+)
 
 returns : tie.Need-returns Inv-loop μ-loop
 unfolding greatestUpTo
@@ -56,11 +59,9 @@ largest-at-most-spec =
     Inv-loop
     μ-loop
     loop-holds
-    mul-capped
-    shared-slice-read-capped
+    (λ c. search needs) (λ c. search needs)
     capped-requires
     larger-requires
-    add-i
-    loop-less
+    (λ c. search needs) (λ c. search needs)
     loop-again
     returns)

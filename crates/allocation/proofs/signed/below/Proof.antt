@@ -7,15 +7,9 @@ use Rattle.model.specs.Counting.{_<?_}
 use Rattle.allocation.proofs.signed.below.Statement.{statement}
 use Rattle.allocation.proofs.signed.below.Tie as tie
 
-cast-result : tie.Need-cast-result
-cast-result c = search needs
-
-cast-result-2 : tie.Need-cast-result-2
-cast-result-2 c = search needs
-
 returns : tie.Need-returns
 unfolding _<?_
 returns c = ap₂ ltZ (toZ-pos w32 _ (c .pre .0)) (toZ-pos w32 _ (c .pre .1))
 
 pub below-spec : {M : Type 1} → statement M
-below-spec = tie.close (tie.spec cast-result cast-result-2 returns)
+below-spec = tie.close (tie.spec (λ c. search needs) (λ c. search needs) returns)

@@ -23,40 +23,26 @@ returns c = no-tie (c .if1 .taken)
 loop-holds : tie.Need-loop-holds Inv-loop μ-loop
 loop-holds c = (omega arith, omega arith, ties-none (c .before .before .args .totals .now) _ _, below-none _)
 
-cast-result : tie.Need-cast-result Inv-loop μ-loop
-cast-result c = search needs
-
 returns-2 : tie.Need-returns-2 Inv-loop μ-loop
-returns-2 c = bound-here (c .before .before .loop .inv .0) (c .before .before .before .if1 .left) (c .before .before .loop .inv .2) (c .before .before .loop .inv .3) (inl (c .if2 .taken))
-
-mul-tally : tie.Need-mul-tally Inv-loop μ-loop
-mul-tally c = search needs
-
-shared-slice-read-tally : tie.Need-shared-slice-read-tally Inv-loop μ-loop
-shared-slice-read-tally c = search needs
-
-tally-requires : tie.Need-tally-requires Inv-loop μ-loop
-tally-requires c κs = search needs
-
-add-i : tie.Need-add-i Inv-loop μ-loop
-add-i c = search needs
-
-loop-less : tie.Need-loop-less Inv-loop μ-loop
-loop-less c = search needs
+returns-2 c =
+    bound-here (c .before .before .loop .inv .0) (c .before .before .before .if1 .left)
+    (c .before .before .loop .inv .2) (c .before .before .loop .inv .3) (inl (c .if2 .taken))
 
 loop-again : tie.Need-loop-again Inv-loop μ-loop
-loop-again c = (
-  omega arith,
-  omega (arith, c .tally .ensures .1),
-  ties-more (c .before .before .before .before .before .before .before .args .totals .now) _ _ _ _ _ (c .before .before .before .before .loop .inv .2) (c .tally .ensures .0),
-  room-more (c .before .before .before .before .before .before .before .args .totals .now) _ _ _ _ _ (c .before .before .before .before .loop .inv .2) (c .before .before .if2 .left) (c .before .before .before .before .loop .inv .3),
-)
-
-cast-result-2 : tie.Need-cast-result-2 Inv-loop μ-loop
-cast-result-2 c = search needs
+loop-again c =
+    let at-loop = c .before .before .before .before in
+    let entry = at-loop .before .before .before in (
+      omega arith,
+      omega (arith, c .tally .ensures .1),
+      ties-more (entry .args .totals .now) _ _ _ _ _ (at-loop .loop .inv .2) (c .tally .ensures .0),
+      room-more (entry .args .totals .now) _ _ _ _ _ (at-loop .loop .inv .2)
+          (c .before .before .if2 .left) (at-loop .loop .inv .3),
+    )
 
 returns-3 : tie.Need-returns-3 Inv-loop μ-loop
-returns-3 c = bound-here (c .before .loop .inv .0) (c .before .before .if1 .left) (c .before .loop .inv .2) (c .before .loop .inv .3) (inr (c .loop-test .left))
+returns-3 c =
+    bound-here (c .before .loop .inv .0) (c .before .before .if1 .left) (c .before .loop .inv .2)
+    (c .before .loop .inv .3) (inr (c .loop-test .left))
 
 pub tie-bound-spec : {M : Type 1} → statement M
 tie-bound-spec =
@@ -66,13 +52,9 @@ tie-bound-spec =
     μ-loop
     returns
     loop-holds
-    cast-result
+    (λ c. search needs)
     returns-2
-    mul-tally
-    shared-slice-read-tally
-    tally-requires
-    add-i
-    loop-less
+    (λ c. search needs) (λ c. search needs) (λ c κs. search needs) (λ c. search needs) (λ c. search needs)
     loop-again
-    cast-result-2
+    (λ c. search needs)
     returns-3)

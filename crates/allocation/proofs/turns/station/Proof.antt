@@ -9,102 +9,91 @@ use Rattle.model.proofs.Loops.{long}
 use Rattle.allocation.specs.Stages.{gatheredIf}
 use Rattle.allocation.proofs.turns.station.Statement.{statement}
 use Rattle.allocation.proofs.turns.station.Tie as tie
-use Rattle.allocation.proofs.turns.Turns.{few-above, offerable, all-low, none-above, top-low, critical-low, shut, turned}
+use Rattle.allocation.proofs.turns.Turns.{few-above, offerable, all-low, none-above, top-low, critical-low, shut}
+use Rattle.allocation.proofs.turns.Turns.{turned}
 
-mul-ask : tie.Need-mul-ask
-mul-ask c = search needs
-
-shared-slice-read-ask : tie.Need-shared-slice-read-ask
-shared-slice-read-ask c = search needs
-
-below-requires : tie.Need-below-requires
-below-requires c κs = search needs
-
-gather-requires : tie.Need-gather-requires
-gather-requires c κs = search needs
-
-mul-b : tie.Need-mul-b
-mul-b c = search needs
-
-shared-slice-read-b : tie.Need-shared-slice-read-b
-shared-slice-read-b c = search needs
+abbrev entry-before-below : tie.After-below → tie.Start
+entry-before-below p = p .before .before .before .before .before .before .before .before .before .before .before
 
 cast-b : tie.Need-cast-b
-cast-b c = omega (arith, c .shared-slice-known7 .given (c .before .before .before .before .before .before .before .before .before .before .before .before .before .before .before .before .before .args .j))
+cast-b c =
+    let entry = entry-before-below (c .before .before .before .before .before .before) in
+    omega (arith, c .shared-slice-known7 .given (entry .args .j))
 
 critical-total-requires : tie.Need-critical-total-requires
 critical-total-requires c κs =
-    let g = c .before .before .before .before .gather .ensures in
-    let low = all-low (regular _ _ _ _) _ _ (c .before .before .before .before .before .before .before .before .before .before .before .before .before .before .before .before .before .before .pre .0) _ (c .before .before .before .before .before .before .before .before .before .before .before .before .before .before .before .before .before .before .pre .1 .0 .0) (ltb-true _ _ (sym (c .before .before .before .before .before .before .before .below .ensures) ∙ c .before .before .before .before .before .before .if1 .taken)) _ (g .totals-are) in
-    ((omega (arith, long _ _ (g .totals-are), c .before .before .before .before .before .before .before .before .before .before .before .before .before .before .before .before .before .before .pre .0 .within .guests-most), none-above g), (low, top-low g low))
+    let at-gather = c .before .before .before .before in
+    let at-if1 = at-gather .before .before in
+    let at-below = at-if1 .before in
+    let entry = entry-before-below at-below in
+    let g = at-gather .gather .ensures in
+    let low = all-low (regular _ _ _ _) _ _ (entry .pre .0) _ (entry .pre .1 .0 .0)
+    (ltb-true _ _ (sym (at-below .below .ensures) ∙ at-if1 .if1 .taken)) _ (g .totals-are) in
+    ((omega (arith, long _ _ (g .totals-are), entry .pre .0 .within .guests-most), none-above g), (low, top-low g low))
 
 tie-bound-requires : tie.Need-tie-bound-requires
-tie-bound-requires c κs = (omega (arith, long _ _ (c .before .before .before .before .before .before .gather .ensures .totals-are), c .before .before .before .before .before .before .before .before .before .before .before .before .before .before .before .before .before .before .before .before .pre .0 .within .guests-most), few-above maxGuests (c .before .critical-total .ensures) (omega (arith, long _ _ (c .before .before .before .before .before .before .gather .ensures .totals-are), c .before .before .before .before .before .before .before .before .before .before .before .before .before .before .before .before .before .before .before .before .pre .0 .within .guests-most)))
-
-add-s : tie.Need-add-s
-add-s c = search needs
-
-mul-criticals : tie.Need-mul-criticals
-mul-criticals c = search needs
-
-slice-write-criticals : tie.Need-slice-write-criticals
-slice-write-criticals c = search needs
-
-cast-offer : tie.Need-cast-offer
-cast-offer c = search needs
+tie-bound-requires c κs =
+    let at-gather = c .before .before .before .before .before .before in
+    let entry = entry-before-below (at-gather .before .before .before) in (
+      omega (arith, long _ _ (at-gather .gather .ensures .totals-are), entry .pre .0 .within .guests-most),
+      few-above maxGuests (c .before .critical-total .ensures)
+          (omega (arith, long _ _ (at-gather .gather .ensures .totals-are), entry .pre .0 .within .guests-most)),
+    )
 
 offer-requires : tie.Need-offer-requires
 offer-requires c κs =
-    let g = c .before .before .before .before .before .before .before .before .before .before .gather .ensures in
-    let low = all-low (regular _ _ _ _) _ _ (c .before .before .before .before .before .before .before .before .before .before .before .before .before .before .before .before .before .before .before .before .before .before .before .before .pre .0) _ (c .before .before .before .before .before .before .before .before .before .before .before .before .before .before .before .before .before .before .before .before .before .before .before .before .pre .1 .0 .0) (ltb-true _ _ (sym (c .before .before .before .before .before .before .before .before .before .before .before .before .before .below .ensures) ∙ c .before .before .before .before .before .before .before .before .before .before .before .before .if1 .taken)) _ (g .totals-are) in
-    offerable (regular _ _ _ _) _ _ (c .before .before .before .before .before .before .before .before .before .before .before .before .before .before .before .before .before .before .before .before .before .before .before .before .pre .0) (c .before .before .before .before .before .before .before .before .before .before .before .before .before .before .before .before .before .before .before .before .before .before .before .before .pre .1 .0 .0) (g .totals-are) low (critical-low g low (c .before .before .before .before .before .critical-total .ensures)) (c .before .before .before .tie-bound .ensures) (c .before .before .before .before .before .before .before .before .before .before .before .before .before .before .before .before .before .before .before .before .before .before .before .before .pre .1 .1)
-
-same-length : tie.Need-same-length
-same-length c = search needs
-
-same-length-2 : tie.Need-same-length-2
-same-length-2 c = search needs
-
-same-length-3 : tie.Need-same-length-3
-same-length-3 c = search needs
-
-same-length-4 : tie.Need-same-length-4
-same-length-4 c = search needs
+    let at-tie-bound = c .before .before .before in
+    let at-critical-total = at-tie-bound .before .before in
+    let at-gather = at-critical-total .before .before .before .before .before in
+    let at-if1 = at-gather .before .before in
+    let at-below = at-if1 .before in
+    let entry = entry-before-below at-below in
+    let g = at-gather .gather .ensures in
+    let low = all-low (regular _ _ _ _) _ _ (entry .pre .0) _ (entry .pre .1 .0 .0)
+    (ltb-true _ _ (sym (at-below .below .ensures) ∙ at-if1 .if1 .taken)) _ (g .totals-are) in
+    offerable (regular _ _ _ _) _ _ (entry .pre .0) (entry .pre .1 .0 .0) (g .totals-are) low
+    (critical-low g low (at-critical-total .critical-total .ensures))
+    (at-tie-bound .tie-bound .ensures) (entry .pre .1 .1)
 
 returns : tie.Need-returns
 unfolding gatheredIf _<?_
 returns c =
-    let critical = c .before .before .before .before .before .before .before .before .before .before .critical-total .ensures in (
-      turned (regular _ _ _ _) _ _ (c .before .before .before .before .before .before .before .before .before .before .before .before .before .before .before .before .before .before .before .before .before .before .before .before .before .before .before .before .before .pre .0) _ (c .before .before .before .before .before .before .before .before .before .before .before .before .before .before .before .before .before .before .before .before .before .before .before .before .before .before .before .before .before .pre .1 .0 .0) (ltb-true _ _ (sym (c .before .before .before .before .before .before .before .before .before .before .before .before .before .before .before .before .before .before .below .ensures) ∙ c .before .before .before .before .before .before .before .before .before .before .before .before .before .before .before .before .before .if1 .taken))
-          _ (c .before .before .before .before .before .before .before .before .before .before .before .before .before .before .before .gather .ensures .totals-are) _ _ _ refl (critical .least-few) (rw (← critical .counted) (c .before .before .before .before .before .before .before .before .tie-bound .ensures)) _ refl (c .before .before .before .before .before .before .before .before .before .before .before .before .before .before .before .before .before .before .before .before .before .before .before .before .before .before .before .before .before .pre .1 .1) (c .before .before .before .before .offer .ensures),
-      rw (sym (c .before .before .before .before .before .before .before .before .before .before .before .before .before .before .before .before .before .before .below .ensures) ∙ c .before .before .before .before .before .before .before .before .before .before .before .before .before .before .before .before .before .if1 .taken) (c .before .before .before .before .before .before .before .before .before .before .before .before .before .before .before .gather .ensures .totals-are),
+    let at-offer = c .before .before .before .before in
+    let at-tie-bound = at-offer .before .before .before .before in
+    let at-critical-total = at-tie-bound .before .before in
+    let at-gather = at-critical-total .before .before .before .before .before in
+    let at-if1 = at-gather .before .before in
+    let at-below = at-if1 .before in
+    let entry = entry-before-below at-below in
+    let critical = at-critical-total .critical-total .ensures in (
+      turned (regular _ _ _ _) _ _ (entry .pre .0) _ (entry .pre .1 .0 .0)
+          (ltb-true _ _ (sym (at-below .below .ensures) ∙ at-if1 .if1 .taken))
+          _ (at-gather .gather .ensures .totals-are) _ _ _ refl (critical .least-few)
+          (rw (← critical .counted) (at-tie-bound .tie-bound .ensures)) _ refl (entry .pre .1 .1)
+          (at-offer .offer .ensures),
+      rw (sym (at-below .below .ensures) ∙ at-if1 .if1 .taken) (at-gather .gather .ensures .totals-are),
     )
 
 returns-2 : tie.Need-returns-2
 unfolding gatheredIf _<?_
-returns-2 c = (shut (regular _ _ _ _) _ _ (c .before .before .before .before .before .before .before .before .before .before .before .before .pre .0) (ltb-false _ _ (sym (c .before .below .ensures) ∙ c .if1 .left)) (c .before .before .before .before .before .before .before .before .before .before .before .before .pre .1 .1), rw (sym (c .before .below .ensures) ∙ c .if1 .left) refl)
+returns-2 c =
+    let entry = entry-before-below (c .before) in (
+      shut (regular _ _ _ _) _ _ (entry .pre .0) (ltb-false _ _ (sym (c .before .below .ensures) ∙ c .if1 .left))
+          (entry .pre .1 .1),
+      rw (sym (c .before .below .ensures) ∙ c .if1 .left) refl,
+    )
 
 pub station-spec : {M : Type 1} → statement M
 station-spec =
     tie.close
     (tie.spec
-    mul-ask
-    shared-slice-read-ask
-    below-requires
-    gather-requires
-    mul-b
-    shared-slice-read-b
+    (λ c. search needs) (λ c. search needs) (λ c κs. search needs) (λ c κs. search needs) (λ c. search needs)
+    (λ c. search needs)
     cast-b
     critical-total-requires
     tie-bound-requires
-    add-s
-    mul-criticals
-    slice-write-criticals
-    cast-offer
+    (λ c. search needs) (λ c. search needs) (λ c. search needs) (λ c. search needs)
     offer-requires
-    same-length
-    same-length-2
-    same-length-3
-    same-length-4
+    (λ c. search needs) (λ c. search needs) (λ c. search needs) (λ c. search needs)
     returns
     returns-2)

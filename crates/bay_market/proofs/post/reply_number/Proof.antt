@@ -5,15 +5,6 @@ use Rattle.model.specs.contracts.Replies.{verdictOf}
 use Rattle.bay_market.proofs.post.reply_number.Statement.{statement}
 use Rattle.bay_market.proofs.post.reply_number.Tie as tie
 
-enum-told : tie.Need-enum-told
-enum-told c = search needs
-
-enum-known-reply : tie.Need-enum-known-reply
-enum-known-reply c = search needs
-
-number-requires : tie.Need-number-requires
-number-requires c κs = search needs
-
 returns : tie.Need-returns
 unfolding code verdictOf
 returns c = ap (λ r. code (verdictOf r)) (sym (c .enum-told .given .1))
@@ -23,4 +14,5 @@ unfolding code verdictOf
 returns-2 c = c .number .ensures ∙ ap (λ r. code (verdictOf r)) (sym (c .before .before .reply .given .1))
 
 pub reply-number-spec : {M : Type 1} → statement M
-reply-number-spec = tie.close (tie.spec enum-told enum-known-reply number-requires returns returns-2)
+reply-number-spec =
+    tie.close (tie.spec (λ c. search needs) (λ c. search needs) (λ c κs. search needs) returns returns-2)

@@ -8,9 +8,5 @@ use Rattle.clearing.proofs.faults.bad_lengths.Tie as tie
 mul-result : tie.Need-mul-result
 mul-result c = omega (arith, product-fits _ _ (c .pre .0) (c .pre .1))
 
-returns : tie.Need-returns
-unfolding _or_ _=?_
-returns c = search needs
-
 pub bad-lengths-spec : {M : Type 1} → statement M
-bad-lengths-spec = tie.close (tie.spec mul-result returns)
+bad-lengths-spec = tie.close (tie.spec mul-result (λ c. unfold _or_ _=?_ in search needs))

@@ -7,9 +7,6 @@ use Rattle.clearing.specs.Verdicts.{asVerdict}
 use Rattle.clearing.proofs.faults.first_fault.Statement.{statement}
 use Rattle.clearing.proofs.faults.first_fault.Tie as tie
 
-bad-counts-requires : tie.Need-bad-counts-requires
-bad-counts-requires c κs = search needs
-
 returns : tie.Need-returns
 unfolding clearingFaults counts lengths lent asVerdict
 returns c = sym (ap asVerdict (fault-here _ (sym (c .before .bad-counts .ensures) ∙ c .if1 .taken)))
@@ -19,31 +16,42 @@ bad-lengths-requires c κs = let k = counted _ _ (sym (c .before .bad-counts .en
 
 returns-2 : tie.Need-returns-2
 unfolding clearingFaults counts lengths lent asVerdict
-returns-2 c = sym (ap asVerdict (fault-later _ _ (sym (c .before .before .before .bad-counts .ensures) ∙ c .before .before .if1 .left) ∙ fault-here _ (sym (c .before .bad-lengths .ensures) ∙ c .if2 .taken)))
-
-bad-lent-requires : tie.Need-bad-lent-requires
-bad-lent-requires c κs = search needs
+returns-2 c =
+    sym (ap asVerdict (fault-later _ _
+    (sym (c .before .before .before .bad-counts .ensures) ∙ c .before .before .if1 .left)
+    ∙ fault-here _ (sym (c .before .bad-lengths .ensures) ∙ c .if2 .taken)))
 
 returns-3 : tie.Need-returns-3
 unfolding clearingFaults counts lengths lent asVerdict
-returns-3 c = sym (ap asVerdict (fault-later _ _ (sym (c .before .before .before .before .before .bad-counts .ensures) ∙ c .before .before .before .before .if1 .left) ∙ fault-later _ _ (sym (c .before .before .before .bad-lengths .ensures) ∙ c .before .before .if2 .left) ∙ fault-here _ (sym (c .before .bad-lent .ensures) ∙ c .if3 .taken)))
-
-value-fault-requires : tie.Need-value-fault-requires
-value-fault-requires c κs = search needs
+returns-3 c =
+    let at-bad-lengths = c .before .before .before in
+    let at-if1 = at-bad-lengths .before in
+    let at-bad-counts = at-if1 .before in
+    sym (ap asVerdict (fault-later _ _ (sym (at-bad-counts .bad-counts .ensures) ∙ at-if1 .if1 .left)
+    ∙ fault-later _ _ (sym (at-bad-lengths .bad-lengths .ensures) ∙ c .before .before .if2 .left)
+    ∙ fault-here _ (sym (c .before .bad-lent .ensures) ∙ c .if3 .taken)))
 
 returns-4 : tie.Need-returns-4
 unfolding clearingFaults counts lengths lent values
-returns-4 c = c .value-fault .ensures ∙ sym (ap asVerdict (fault-later _ _ (sym (c .before .before .before .before .before .before .bad-counts .ensures) ∙ c .before .before .before .before .before .if1 .left) ∙ fault-later _ _ (sym (c .before .before .before .before .bad-lengths .ensures) ∙ c .before .before .before .if2 .left) ∙ fault-later _ _ (sym (c .before .before .bad-lent .ensures) ∙ c .before .if3 .left)))
+returns-4 c =
+    let at-if2 = c .before .before .before in
+    let at-bad-lengths = at-if2 .before in
+    let at-if1 = at-bad-lengths .before in
+    let at-bad-counts = at-if1 .before in
+    c .value-fault .ensures
+    ∙ sym (ap asVerdict (fault-later _ _ (sym (at-bad-counts .bad-counts .ensures) ∙ at-if1 .if1 .left)
+    ∙ fault-later _ _ (sym (at-bad-lengths .bad-lengths .ensures) ∙ at-if2 .if2 .left)
+    ∙ fault-later _ _ (sym (c .before .before .bad-lent .ensures) ∙ c .before .if3 .left)))
 
 pub first-fault-spec : {M : Type 1} → statement M
 first-fault-spec =
     tie.close
     (tie.spec
-    bad-counts-requires
+    (λ c κs. search needs)
     returns
     bad-lengths-requires
     returns-2
-    bad-lent-requires
+    (λ c κs. search needs)
     returns-3
-    value-fault-requires
+    (λ c κs. search needs)
     returns-4)

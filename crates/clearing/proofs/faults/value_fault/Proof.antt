@@ -6,48 +6,63 @@ use Rattle.clearing.specs.Verdicts.{asVerdict}
 use Rattle.clearing.proofs.faults.value_fault.Statement.{statement}
 use Rattle.clearing.proofs.faults.value_fault.Tie as tie
 
-any-outside32-requires : tie.Need-any-outside32-requires
-any-outside32-requires c κs = search needs
-
 returns : tie.Need-returns
 unfolding values asVerdict
 returns c = sym (ap asVerdict (fault-here _ (sym (c .before .any-outside32 .ensures) ∙ c .if1 .taken)))
 
-any-outside16-requires : tie.Need-any-outside16-requires
-any-outside16-requires c κs = search needs
-
 returns-2 : tie.Need-returns-2
 unfolding values asVerdict
-returns-2 c = sym (ap asVerdict (fault-later _ _ (sym (c .before .before .before .any-outside32 .ensures) ∙ c .before .before .if1 .left) ∙ fault-here _ (sym (c .before .any-outside16 .ensures) ∙ c .if2 .taken)))
-
-any-outside16-requires-2 : tie.Need-any-outside16-requires-2
-any-outside16-requires-2 c κs = search needs
+returns-2 c =
+    sym (ap asVerdict (fault-later _ _
+    (sym (c .before .before .before .any-outside32 .ensures) ∙ c .before .before .if1 .left)
+    ∙ fault-here _ (sym (c .before .any-outside16 .ensures) ∙ c .if2 .taken)))
 
 returns-3 : tie.Need-returns-3
 unfolding values asVerdict
-returns-3 c = sym (ap asVerdict (fault-later _ _ (sym (c .before .before .before .before .before .any-outside32 .ensures) ∙ c .before .before .before .before .if1 .left) ∙ fault-later _ _ (sym (c .before .before .before .any-outside16 .ensures) ∙ c .before .before .if2 .left) ∙ fault-here _ (sym (c .before .any-outside162 .ensures) ∙ c .if3 .taken)))
-
-any-outside32-requires-2 : tie.Need-any-outside32-requires-2
-any-outside32-requires-2 c κs = search needs
+returns-3 c =
+    let at-any-outside16 = c .before .before .before in
+    let at-if1 = at-any-outside16 .before in
+    let at-any-outside32 = at-if1 .before in
+    sym (ap asVerdict (fault-later _ _ (sym (at-any-outside32 .any-outside32 .ensures) ∙ at-if1 .if1 .left)
+    ∙ fault-later _ _ (sym (at-any-outside16 .any-outside16 .ensures) ∙ c .before .before .if2 .left)
+    ∙ fault-here _ (sym (c .before .any-outside162 .ensures) ∙ c .if3 .taken)))
 
 returns-4 : tie.Need-returns-4
 unfolding values asVerdict
-returns-4 c = sym (ap asVerdict (fault-later _ _ (sym (c .before .before .before .before .before .before .before .any-outside32 .ensures) ∙ c .before .before .before .before .before .before .if1 .left) ∙ fault-later _ _ (sym (c .before .before .before .before .before .any-outside16 .ensures) ∙ c .before .before .before .before .if2 .left) ∙ fault-later _ _ (sym (c .before .before .before .any-outside162 .ensures) ∙ c .before .before .if3 .left) ∙ fault-here _ (sym (c .before .any-outside322 .ensures) ∙ c .if4 .taken)))
+returns-4 c =
+    let at-any-outside162 = c .before .before .before in
+    let at-if2 = at-any-outside162 .before in
+    let at-any-outside16 = at-if2 .before in
+    let at-if1 = at-any-outside16 .before in
+    let at-any-outside32 = at-if1 .before in
+    sym (ap asVerdict (fault-later _ _ (sym (at-any-outside32 .any-outside32 .ensures) ∙ at-if1 .if1 .left)
+    ∙ fault-later _ _ (sym (at-any-outside16 .any-outside16 .ensures) ∙ at-if2 .if2 .left)
+    ∙ fault-later _ _ (sym (at-any-outside162 .any-outside162 .ensures) ∙ c .before .before .if3 .left)
+    ∙ fault-here _ (sym (c .before .any-outside322 .ensures) ∙ c .if4 .taken)))
 
 returns-5 : tie.Need-returns-5
 unfolding values asVerdict
-returns-5 c = sym (ap asVerdict (fault-later _ _ (sym (c .before .before .before .before .before .before .before .any-outside32 .ensures) ∙ c .before .before .before .before .before .before .if1 .left) ∙ fault-later _ _ (sym (c .before .before .before .before .before .any-outside16 .ensures) ∙ c .before .before .before .before .if2 .left) ∙ fault-later _ _ (sym (c .before .before .before .any-outside162 .ensures) ∙ c .before .before .if3 .left) ∙ fault-later _ _ (sym (c .before .any-outside322 .ensures) ∙ c .if4 .left) ∙ fault-none))
+returns-5 c =
+    let at-any-outside162 = c .before .before .before in
+    let at-if2 = at-any-outside162 .before in
+    let at-any-outside16 = at-if2 .before in
+    let at-if1 = at-any-outside16 .before in
+    let at-any-outside32 = at-if1 .before in
+    sym (ap asVerdict (fault-later _ _ (sym (at-any-outside32 .any-outside32 .ensures) ∙ at-if1 .if1 .left)
+    ∙ fault-later _ _ (sym (at-any-outside16 .any-outside16 .ensures) ∙ at-if2 .if2 .left)
+    ∙ fault-later _ _ (sym (at-any-outside162 .any-outside162 .ensures) ∙ c .before .before .if3 .left)
+    ∙ fault-later _ _ (sym (c .before .any-outside322 .ensures) ∙ c .if4 .left) ∙ fault-none))
 
 pub value-fault-spec : {M : Type 1} → statement M
 value-fault-spec =
     tie.close
     (tie.spec
-    any-outside32-requires
+    (λ c κs. search needs)
     returns
-    any-outside16-requires
+    (λ c κs. search needs)
     returns-2
-    any-outside16-requires-2
+    (λ c κs. search needs)
     returns-3
-    any-outside32-requires-2
+    (λ c κs. search needs)
     returns-4
     returns-5)

@@ -18,23 +18,16 @@ abbrev μ-loop : tie.MeasureT-loop
 loop-holds : tie.Need-loop-holds Inv-loop μ-loop
 loop-holds c = (search needs, scan-none _)
 
-mul-y : tie.Need-mul-y Inv-loop μ-loop
-mul-y c = search needs
-
-shared-slice-read-y : tie.Need-shared-slice-read-y Inv-loop μ-loop
-shared-slice-read-y c = search needs
-
-add-i : tie.Need-add-i Inv-loop μ-loop
-add-i c = search needs
-
-loop-less : tie.Need-loop-less Inv-loop μ-loop
-loop-less c = search needs
-
 loop-again : tie.Need-loop-again Inv-loop μ-loop
-loop-again c = (search needs, scan-more (c .before .before .before .args .xs .now) _ _ _ _ (c .before .before .loop .inv .1))
+loop-again c = (
+  search needs,
+  scan-more (c .before .before .before .args .xs .now) _ _ _ _ (c .before .before .loop .inv .1),
+)
 
 returns : tie.Need-returns Inv-loop μ-loop
-returns c = scan-end (c .before .before .args .xs .now) _ (c .before .loop .inv .1) (c .before .loop .inv .0) (c .loop-test .left)
+returns c =
+    scan-end (c .before .before .args .xs .now) _ (c .before .loop .inv .1)
+    (c .before .loop .inv .0) (c .loop-test .left)
 
 pub any-outside16-spec : {M : Type 1} → statement M
 any-outside16-spec =
@@ -43,9 +36,6 @@ any-outside16-spec =
     Inv-loop
     μ-loop
     loop-holds
-    mul-y
-    shared-slice-read-y
-    add-i
-    loop-less
+    (λ c. search needs) (λ c. search needs) (λ c. search needs) (λ c. search needs)
     loop-again
     returns)

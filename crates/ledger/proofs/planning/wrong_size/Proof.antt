@@ -5,9 +5,5 @@ use Rattle.model.specs.book.Faults.{bookSize}
 use Rattle.ledger.proofs.planning.wrong_size.Statement.{statement}
 use Rattle.ledger.proofs.planning.wrong_size.Tie as tie
 
-returns : tie.Need-returns
-unfolding bookSize _or_ outside _<?_
-returns c = search needs
-
 pub wrong-size-spec : {M : Type 1} → statement M
-wrong-size-spec = tie.close (tie.spec returns)
+wrong-size-spec = tie.close (tie.spec (λ c. unfold bookSize _or_ outside _<?_ in search needs))

@@ -10,7 +10,8 @@ use Rattle.ledger.proofs.room.any_exceeds.Statement.{statement}
 use Rattle.ledger.proofs.room.any_exceeds.Tie as tie
 
 abbrev Inv-loop : tie.InvT-loop
-Inv-loop accounts adds found₀ k₀ found k = (k ≤ length accounts) × (found ≡ some k (λ x. maxAccount <? getD accounts x 0 + getD adds x 0))
+Inv-loop accounts adds found₀ k₀ found k =
+    (k ≤ length accounts) × (found ≡ some k (λ x. maxAccount <? getD accounts x 0 + getD adds x 0))
 
 abbrev μ-loop : tie.MeasureT-loop
 μ-loop accounts adds found₀ k₀ found k = length accounts - k
@@ -18,26 +19,15 @@ abbrev μ-loop : tie.MeasureT-loop
 loop-holds : tie.Need-loop-holds Inv-loop μ-loop
 loop-holds c = (search needs, scan-none _)
 
-mul-exceeds : tie.Need-mul-exceeds Inv-loop μ-loop
-mul-exceeds c = search needs
-
-shared-slice-read-exceeds : tie.Need-shared-slice-read-exceeds Inv-loop μ-loop
-shared-slice-read-exceeds c = search needs
-
-at-requires : tie.Need-at-requires Inv-loop μ-loop
-at-requires c κs = search needs
-
-exceeds-requires : tie.Need-exceeds-requires Inv-loop μ-loop
-exceeds-requires c κs = search needs
-
-add-k : tie.Need-add-k Inv-loop μ-loop
-add-k c = search needs
-
-loop-less : tie.Need-loop-less Inv-loop μ-loop
-loop-less c = search needs
-
 loop-again : tie.Need-loop-again Inv-loop μ-loop
-loop-again c = (search needs, scan-turn _ _ _ _ (c .before .before .before .before .loop .inv .1) (c .exceeds .ensures ∙ ap (λ a. maxAccount <? getD (c .before .before .before .before .before .before .before .args .accounts .now) (c .before .before .before .before .loop .k) 0 + a) (c .before .at .ensures)))
+loop-again c =
+    let at-loop = c .before .before .before .before in
+    let entry = at-loop .before .before .before in (
+      search needs,
+      scan-turn _ _ _ _ (at-loop .loop .inv .1) (c .exceeds .ensures
+          ∙ ap (λ a. maxAccount <? getD (entry .args .accounts .now) (at-loop .loop .k) 0 + a)
+          (c .before .at .ensures)),
+    )
 
 returns : tie.Need-returns Inv-loop μ-loop
 unfolding exceeding
@@ -50,11 +40,7 @@ any-exceeds-spec =
     Inv-loop
     μ-loop
     loop-holds
-    mul-exceeds
-    shared-slice-read-exceeds
-    at-requires
-    exceeds-requires
-    add-k
-    loop-less
+    (λ c. search needs) (λ c. search needs) (λ c κs. search needs) (λ c κs. search needs) (λ c. search needs)
+    (λ c. search needs)
     loop-again
     returns)

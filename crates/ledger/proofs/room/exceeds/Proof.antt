@@ -14,7 +14,8 @@ returns c = sym (is-lt _ _ (omega arith))
 returns-2 : tie.Need-returns-2
 returns-2 c = ⊎-elim
     (λ (h : maxAccount - c .before .args .account < c .before .args .add). lt-ltb _ _ h ∙ sym (is-lt _ _ (omega arith)))
-    (λ (h : c .before .args .add ≤ maxAccount - c .before .args .account). le-ltb _ _ h ∙ sym (not-lt _ _ (omega arith)))
+    (λ (h : c .before .args .add ≤ maxAccount - c .before .args .account). le-ltb _ _ h
+    ∙ sym (not-lt _ _ (omega arith)))
     (lt-or-le (maxAccount - c .before .args .account) (c .before .args .add))
 
 pub exceeds-spec : {M : Type 1} → statement M

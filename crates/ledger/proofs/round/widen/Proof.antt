@@ -17,26 +17,8 @@ abbrev μ-loop : tie.MeasureT-loop
 loop-holds : tie.Need-loop-holds Inv-loop μ-loop
 loop-holds c = (search needs, filled-none)
 
-mul-ys : tie.Need-mul-ys Inv-loop μ-loop
-mul-ys c = search needs
-
-shared-slice-read-ys : tie.Need-shared-slice-read-ys Inv-loop μ-loop
-shared-slice-read-ys c = search needs
-
 cast-ys : tie.Need-cast-ys Inv-loop μ-loop
 cast-ys c = omega (arith, c .shared-slice-known .given (c .before .before .loop .k))
-
-mul-ys-2 : tie.Need-mul-ys-2 Inv-loop μ-loop
-mul-ys-2 c = search needs
-
-slice-write-ys : tie.Need-slice-write-ys Inv-loop μ-loop
-slice-write-ys c = search needs
-
-add-k : tie.Need-add-k Inv-loop μ-loop
-add-k c = search needs
-
-loop-less : tie.Need-loop-less Inv-loop μ-loop
-loop-less c = search needs
 
 loop-again : tie.Need-loop-again Inv-loop μ-loop
 loop-again c = (omega arith, filled-more (c .before .before .loop .inv .1) (omega arith) refl)
@@ -45,7 +27,9 @@ same-length : tie.Need-same-length Inv-loop μ-loop
 same-length c = c .before .loop .inv .1 .same
 
 returns : tie.Need-returns Inv-loop μ-loop
-returns c = ext-getD 0 _ _ (c .before .loop .inv .1 .same ∙ c .before .before .pre) (λ k l. c .before .loop .inv .1 .done k (omega (arith, c .before .loop .inv .1 .same)))
+returns c =
+    ext-getD 0 _ _ (c .before .loop .inv .1 .same ∙ c .before .before .pre)
+    (λ k l. c .before .loop .inv .1 .done k (omega (arith, c .before .loop .inv .1 .same)))
 
 pub widen-spec : {M : Type 1} → statement M
 widen-spec =
@@ -54,13 +38,9 @@ widen-spec =
     Inv-loop
     μ-loop
     loop-holds
-    mul-ys
-    shared-slice-read-ys
+    (λ c. search needs) (λ c. search needs)
     cast-ys
-    mul-ys-2
-    slice-write-ys
-    add-k
-    loop-less
+    (λ c. search needs) (λ c. search needs) (λ c. search needs) (λ c. search needs)
     loop-again
     same-length
     returns)

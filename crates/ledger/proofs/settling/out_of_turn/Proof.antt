@@ -12,12 +12,9 @@ returns : tie.Need-returns
 unfolding outOfTurn
 returns c = ap (λ b. b gives RoundOutOfTurn) (sym (or-left _ _ (is-le _ _ (c .if1 .taken))))
 
-add-result : tie.Need-add-result
-add-result c = search needs
-
 returns-2 : tie.Need-returns-2
 unfolding outOfTurn _=?_
 returns-2 c = ap (λ b. b gives RoundOutOfTurn) (sym (or-skip _ (not-le _ _ (c .if1 .left))))
 
 pub out-of-turn-spec : {M : Type 1} → statement M
-out-of-turn-spec = tie.close (tie.spec returns add-result returns-2)
+out-of-turn-spec = tie.close (tie.spec returns (λ c. search needs) returns-2)

@@ -1,4 +1,5 @@
--- A walk of the MIR: each turn opens the borrow, takes record j out of the row, has `credited` make the new one, stores that, and closes the borrow.
+-- A walk of the MIR: each turn opens the borrow, takes record j out of the row, has `credited` make the new one, stores
+-- that, and closes the borrow.
 use Prim.Native.Nat.{ℕ, _+_, _*_, _-_, _<_, _≤_, _^_, zero-le}
 use mathlib.Core.Path.{_≡_, refl, sym, ap, subst}
 use mathlib.Core.Bool.{Bool, true, false}
@@ -14,8 +15,11 @@ use mir.Val.{Fits, WT, hasTy, Val, vunit, vbool, vint, vptr, vstruct, vnil, vcon
 use prog.Memory.{Memory}
 use prog.Routine.{Routine}
 use prog.Wp.{Heap, Out, Env, Calls, Loops, Wp, WpFn, Tables, afterTurn, afterBlock, afterSeq, atReturn}
-use types.Kit.{Given, Item, Sq, ‵, raw, _⊛_, ⋆, some, later, runs, anyQ, atRet, _$_, _∵_, !, qed, by, move, keep, drop, use1, split, join, pick, rewrite, fsplit, fjoin, feqI, suffices, frame, await, done}
-use types.Run.{look, look-raw, init, store, store-raw, forget, stop, hop, fld, from, load, lit, unit-lit, of-opd, and-then, no-more, bin, assigns, assigns-last, land, stays, leaves-loop, first, blocks, loops, again, Below, exec, returns, enter, alloc1, alloc0, params1, pass1, pass0, free1, free0}
+use types.Kit.{Given, Item, Sq, ‵, raw, _⊛_, ⋆, some, later, runs, anyQ, atRet, _$_, _∵_, !, qed, by, move, keep, drop}
+use types.Kit.{use1, split, join, pick, rewrite, fsplit, fjoin, feqI, suffices, frame, await, done}
+use types.Run.{look, look-raw, init, store, store-raw, forget, stop, hop, fld, from, load, lit, unit-lit, of-opd}
+use types.Run.{and-then, no-more, bin, assigns, assigns-last, land, stays, leaves-loop, first, blocks, loops, again}
+use types.Run.{Below, exec, returns, enter, alloc1, alloc0, params1, pass1, pass0, free1, free0}
 use types.Part.{whole, sub, look-in}
 use denote.RattleType.{owns}
 use denote.Shadow.{pureI}
@@ -36,7 +40,8 @@ use denote.Triple.Clauses.{ensured, lasts}
 use denote.Triple.Entry.{Vals, onEntry}
 use denote.Triple.Spec.{Meets, tripleOf}
 use denote.Triple.Table.{entered, cited}
-use denote.Triple.Walked.{says, Stays, stay-slice, stay-none, walkOf, goes-slice, goes-none, Walks, ends-at, walked, walk-meets}
+use denote.Triple.Walked.{says, Stays, stay-slice, stay-none, walkOf, goes-slice, goes-none, Walks, ends-at, walked}
+use denote.Triple.Walked.{walk-meets}
 use denote.Exit.{yes}
 use contract.Monad.{Fun, fact}
 use contract.Running.{givenOf, tables, tablesOf}
@@ -88,10 +93,13 @@ abbrev valR : Round → Val
 valR r = LL.tuple-val R.the-type R′.the-laws (R.the-type .to r)
 
 -- the contract that the proof cites
-abbrev Credited : {M : Type 1} (𝓤 : URA M) (H : Heap 𝓤) (A : Atoms 𝓤) (mem : Memory → SProp 𝓤) (run : Routine → Fun 𝓤) → Contract 𝓤
+abbrev Credited :
+    {M : Type 1} (𝓤 : URA M) (H : Heap 𝓤) (A : Atoms 𝓤) (mem : Memory → SProp 𝓤) (run : Routine → Fun 𝓤) → Contract 𝓤
 Credited 𝓤 H A mem run = tripleOf 𝓤 H A g.signature (g.spec 𝓤 H A mem run)
 
-module _ {M : Type 1} (𝓤 : URA M) (H : Heap 𝓤) (A : Atoms 𝓤) (W : Given 𝓤 H A) (mem : Memory → SProp 𝓤) (run : Routine → Fun 𝓤) (κ : Lft) (q : Share) (b o : ℕ) (γ : GName) (ys : List StationAccount) (d : Round) (v : Val) (gd : Is R.the-row d (v ∷ [])) where
+module _ {M : Type 1} (𝓤 : URA M) (H : Heap 𝓤) (A : Atoms 𝓤) (W : Given 𝓤 H A) (mem : Memory → SProp 𝓤)
+    (run : Routine → Fun 𝓤) (κ : Lft) (q : Share) (b o : ℕ) (γ : GName) (ys : List StationAccount) (d : Round) (v : Val)
+    (gd : Is R.the-row d (v ∷ [])) where
   abbrev n : ℕ
   n = length ys
 
@@ -120,13 +128,19 @@ module _ {M : Type 1} (𝓤 : URA M) (H : Heap 𝓤) (A : Atoms 𝓤) (W : Given
   abbrev Post : Val → SProp 𝓤
   Post = walkOf 𝓤 H A f.ended stayed (f.clauses 𝓤 H A mem run) .post (((κ, tt), (q, tt), tt, a, at), tt)
 
-  exits : Room T.the-row n → (zs : List StationAccount) → length zs ≡ n → zs ≡ L n → ent 𝓤 (⋆ 𝓤 H A (‵ (Obs zs) ∷ ‵ (Bor zs) ∷ ‵ (flft κ q) ∷ [])) (Post vunit)
+  exits :
+      Room T.the-row n → (zs : List StationAccount) → length zs ≡ n → zs ≡ L n
+      → ent 𝓤 (⋆ 𝓤 H A (‵ (Obs zs) ∷ ‵ (Bor zs) ∷ ‵ (flft κ q) ∷ [])) (Post vunit)
   exits gn zs len e =
       qed W (‵ (Obs zs) ∷ ‵ (Bor zs) ∷ ‵ (flft κ q) ∷ []) ∵
-      suffices ! _ (ends-at 𝓤 H A f.ended stayed (f.clauses 𝓤 H A mem run) W (((κ, tt), (q, tt), tt, a, at), tt) vunit tt (zs, (tt, tt)) (len, (tt, tt))) $ says ! e $
+      suffices ! _ (ends-at 𝓤 H A f.ended stayed (f.clauses 𝓤 H A mem run) W (((κ, tt), (q, tt), tt, a, at), tt) vunit
+      tt (zs, (tt, tt)) (len, (tt, tt))) $ says ! e $
       nothing ! $ move ! (3 ∷ 0 ∷ []) $ join ! $ frame ! $
-      fjoin ! $ pureI ! (at-slice T.the-row (x zs) (at .0)) (tt, (tt, tt)) (ap (λ (m : ℕ). sliceVal (b, o) m ∷ []) (sym len), subst (Room T.the-row) (sym len) gn) $ fjoin ! $
-      nothing ! $ owned ! R.the-row (Is R.the-row) ((LL.makes R.the-type R′.the-plain) 𝓤 H A) d _ gd $ fjoin ! $ move ! (1 ∷ 0 ∷ []) $ fjoin ! $ frame ! $ feqI ! (List Val) (vunit ∷ []) (vunit ∷ []) refl $ done !
+      fjoin ! $
+      pureI ! (at-slice T.the-row (x zs) (at .0)) (tt, (tt, tt))
+      (ap (λ (m : ℕ). sliceVal (b, o) m ∷ []) (sym len), subst (Room T.the-row) (sym len) gn) $ fjoin ! $
+      nothing ! $ owned ! R.the-row (Is R.the-row) ((LL.makes R.the-type R′.the-plain) 𝓤 H A) d _ gd $ fjoin ! $
+      move ! (1 ∷ 0 ∷ []) $ fjoin ! $ frame ! $ feqI ! (List Val) (vunit ∷ []) (vunit ∷ []) refl $ done !
 
   -- the call of `credited`: what it is passed, what it asks, and what is known of its result
   abbrev GArg : Type 0
@@ -141,13 +155,19 @@ module _ {M : Type 1} (𝓤 : URA M) (H : Heap 𝓤) (A : Atoms 𝓤) (W : Given
   abbrev to : StationAccount → ℕ → Credited 𝓤 H A mem run .Ghost
   to e j = ((tt, tt, tt, args e j, passed e j), tt)
 
-  goes : (e : StationAccount) (j : ℕ) → j < 2 ^ 64 → ent 𝓤 (sem 𝓤 H A (T.the-row .own e (mach e ∷ []))) (Credited 𝓤 H A mem run .pre (to e j))
+  goes :
+      (e : StationAccount) (j : ℕ) → j < 2 ^ 64
+      → ent 𝓤 (sem 𝓤 H A (T.the-row .own e (mach e ∷ []))) (Credited 𝓤 H A mem run .pre (to e j))
   goes e j fits =
       qed W (‵ (T.the-row .own e (mach e ∷ [])) ∷ []) ∵
-      nothing ! $ owned ! usize (Is usize) (uint-makes 𝓤 H A W w64) j _ (refl, fits) $ fjoin ! $ owned ! R.the-row (Is R.the-row) ((LL.makes R.the-type R′.the-plain) 𝓤 H A) d _ gd $ fjoin ! $ move ! (1 ∷ 0 ∷ []) $ fjoin ! $
+      nothing ! $ owned ! usize (Is usize) (uint-makes 𝓤 H A W w64) j _ (refl, fits) $ fjoin ! $
+      owned ! R.the-row (Is R.the-row) ((LL.makes R.the-type R′.the-plain) 𝓤 H A) d _ gd $ fjoin ! $
+      move ! (1 ∷ 0 ∷ []) $ fjoin ! $
       nothing ! $ join ! $ frame ! $ done !
 
-  said : (e : StationAccount) (j : ℕ) (r : StationAccount) → ent 𝓤 (ensured 𝓤 H A g.ended (g.clauses 𝓤 H A mem run) tt (args e j) tt r) (fact 𝓤 (r ≡ credited d j e))
+  said :
+      (e : StationAccount) (j : ℕ) (r : StationAccount)
+      → ent 𝓤 (ensured 𝓤 H A g.ended (g.clauses 𝓤 H A mem run) tt (args e j) tt r) (fact 𝓤 (r ≡ credited d j e))
   said e j r = exE 𝓤 _ (λ ws. snd∗ 𝓤 (sem 𝓤 H A (lasts g.ended tt (args e j) ws)) (fact 𝓤 (r ≡ credited d j e)))
 
   -- the loop's variable, and the order in which it ends
@@ -160,7 +180,8 @@ module _ {M : Type 1} (𝓤 : URA M) (H : Heap 𝓤) (A : Atoms 𝓤) (W : Given
   Nearer-wf : WellFounded Nearer
   Nearer-wf = InvImage·wf (λ (j : Upto). n - j .0) (Nat·lt-wfRel .wf)
 
-  module _ (𝓣 : Tables 𝓤 H) (known : Triple 𝓤 (𝓣 .C #ledger·stations·credited) (Credited 𝓤 H A mem run)) (gn : Room T.the-row n) (wt : Holds (hasTy R′.mir v) × WT v) where
+  module _ (𝓣 : Tables 𝓤 H) (known : Triple 𝓤 (𝓣 .C #ledger·stations·credited) (Credited 𝓤 H A mem run))
+      (gn : Room T.the-row n) (wt : Holds (hasTy R′.mir v) × WT v) where
     module _ (l₀ l₁ l₂ l₃ l₄ l₅ l₆ l₇ l₈ l₉ l₁₀ : ℕ) where
       abbrev C : Calls 𝓤 H
       C = 𝓣 .C
@@ -169,49 +190,80 @@ module _ {M : Type 1} (𝓤 : URA M) (H : Heap 𝓤) (A : Atoms 𝓤) (W : Given
       Λ = 𝓣 .Λ
 
       abbrev En : Env 𝓤 H
-      En = (tyUnit, l₀) ∷ (rowTy, l₁) ∷ (R′.mir, l₂) ∷ (word, l₃) ∷ (word, l₄) ∷ (tyBool, l₅) ∷ (T′.mir, l₆) ∷ (tyPtr, l₇) ∷ (T′.mir, l₈) ∷ (word, l₉) ∷ (tyPtr, l₁₀) ∷ []
+      En =
+          (tyUnit, l₀) ∷ (rowTy, l₁) ∷ (R′.mir, l₂) ∷ (word, l₃) ∷ (word, l₄) ∷ (tyBool, l₅) ∷ (T′.mir, l₆)
+          ∷ (tyPtr, l₇) ∷ (T′.mir, l₈) ∷ (word, l₉) ∷ (tyPtr, l₁₀) ∷ []
 
       -- the invariant
       abbrev At : Upto → List (Item 𝓤)
       At j = ‵ (Obs (L (j .0))) ∷ ‵ (Bor (L (j .0))) ∷ ‵ (flft κ q)
-          ∷ ‵ (froom tyPtr l₁₀ 0) ∷ ‵ (fdies tyPtr l₁₀) ∷ ‵ (froom word l₉ 0) ∷ ‵ (fdies word l₉) ∷ ‵ (froom T′.mir l₈ 0) ∷ ‵ (fdies T′.mir l₈) ∷ ‵ (froom tyPtr l₇ 0) ∷ ‵ (fdies tyPtr l₇)
-          ∷ ‵ (froom T′.mir l₆ 0) ∷ ‵ (fdies T′.mir l₆) ∷ ‵ (froom tyBool l₅ 0) ∷ ‵ (fdies tyBool l₅) ∷ ‵ (froom word l₄ 0) ∷ ‵ (fdies word l₄) ∷ ‵ (fat fullShare word l₃ 0 (vint w64 (j .0))) ∷ ‵ (fdies word l₃)
-          ∷ ‵ (fat fullShare R′.mir l₂ 0 (v)) ∷ ‵ (fdies R′.mir l₂) ∷ ‵ (fat fullShare rowTy l₁ 0 (sliceVal (b, o) n)) ∷ ‵ (fdies rowTy l₁) ∷ ‵ (froom tyUnit l₀ 0) ∷ ‵ (fdies tyUnit l₀) ∷ []
+          ∷ ‵ (froom tyPtr l₁₀ 0) ∷ ‵ (fdies tyPtr l₁₀) ∷ ‵ (froom word l₉ 0) ∷ ‵ (fdies word l₉)
+          ∷ ‵ (froom T′.mir l₈ 0) ∷ ‵ (fdies T′.mir l₈) ∷ ‵ (froom tyPtr l₇ 0) ∷ ‵ (fdies tyPtr l₇)
+          ∷ ‵ (froom T′.mir l₆ 0) ∷ ‵ (fdies T′.mir l₆) ∷ ‵ (froom tyBool l₅ 0) ∷ ‵ (fdies tyBool l₅)
+          ∷ ‵ (froom word l₄ 0) ∷ ‵ (fdies word l₄)
+          ∷ ‵ (fat fullShare word l₃ 0 (vint w64 (j .0))) ∷ ‵ (fdies word l₃)
+          ∷ ‵ (fat fullShare R′.mir l₂ 0 (v)) ∷ ‵ (fdies R′.mir l₂) ∷ ‵ (fat fullShare rowTy l₁ 0 (sliceVal (b, o) n))
+          ∷ ‵ (fdies rowTy l₁) ∷ ‵ (froom tyUnit l₀ 0) ∷ ‵ (fdies tyUnit l₀) ∷ []
 
       abbrev Turned : Upto → Out → SProp 𝓤
-      Turned j = afterTurn 𝓤 H (Below 𝓤 H A Nearer At j) (afterBlock 𝓤 H (afterSeq 𝓤 H (Wp 𝓤 H C Λ En mirᶜ.t-3 (atReturn 𝓤 H En Post)) (atReturn 𝓤 H En Post)))
+      Turned j =
+          afterTurn 𝓤 H (Below 𝓤 H A Nearer At j)
+          (afterBlock 𝓤 H (afterSeq 𝓤 H (Wp 𝓤 H C Λ En mirᶜ.t-3 (atReturn 𝓤 H En Post)) (atReturn 𝓤 H En Post)))
 
       more : (j : Upto) → ltb (j .0) n ≡ true → Sq W (At j) (runs C Λ En mirᶜ.turn-1 (anyQ (Turned j)))
       unfolding afterTurn
       more j e =
-          assigns ! (of-opd ! (load ! (from ! (fld ! refl (stop !))) (look-in ! 21 (sub ! 1 refl (whole !))))) (from ! (stop !)) (init ! 15 refl (tt, record { fits = gn .0 })) $
-          assigns ! (bin ! (load ! (from ! (stop !)) (look ! 17 refl)) (load ! (from ! (stop !)) (look ! 15 refl)) tt) (from ! (stop !)) (init ! 13 refl (tt, tt)) $
+          assigns ! (of-opd ! (load ! (from ! (fld ! refl (stop !))) (look-in ! 21 (sub ! 1 refl (whole !)))))
+          (from ! (stop !)) (init ! 15 refl (tt, record { fits = gn .0 })) $
+          assigns ! (bin ! (load ! (from ! (stop !)) (look ! 17 refl)) (load ! (from ! (stop !)) (look ! 15 refl)) tt)
+          (from ! (stop !)) (init ! 13 refl (tt, tt)) $
           rewrite ! 13 (λ (t : Bool). ‵ (fat fullShare tyBool l₅ 0 (vbool t))) e refl $
           stays ! (load ! (from ! (stop !)) (look ! 13 refl)) $
-          assigns ! (bin ! (load ! (from ! (stop !)) (look ! 17 refl)) (lit ! tt) scaled) (from ! (stop !)) (store ! 15 refl (tt, scaled)) $
-          assigns ! (bin ! (load ! (from ! (fld ! refl (stop !))) (look-in ! 21 (sub ! 0 refl (whole !)))) (load ! (from ! (stop !)) (look ! 15 refl)) tt) (from ! (stop !)) (init ! 9 refl (tt, tt)) $
+          assigns ! (bin ! (load ! (from ! (stop !)) (look ! 17 refl)) (lit ! tt) scaled) (from ! (stop !))
+          (store ! 15 refl (tt, scaled)) $
+          assigns ! (bin ! (load ! (from ! (fld ! refl (stop !))) (look-in ! 21 (sub ! 0 refl (whole !))))
+          (load ! (from ! (stop !)) (look ! 15 refl)) tt) (from ! (stop !)) (init ! 9 refl (tt, tt)) $
           rewrite ! 9 (λ (k : ℕ). ‵ (fat fullShare tyPtr l₇ 0 (vptr b k))) (sym (place-is 16 o (j .0))) refl $
-          opens-slice ! tt T.the-row (L (j .0)) b o $ elem-out ! T.the-row (Is T.the-row) (shows 𝓤 H A T.the-row) (LL.vals T.the-type T′.the-laws) (LL.tells T.the-type T′.the-laws) fullShare (L (j .0)) (j .0) (account 0 0) b o within (λ is₀.
-          -- [the record's cell; what it owns; the others; the open borrow; obs; auth; _10; …; _9; …; _8; …; _7; …; _6; …; _5; …; _4; …; _3; …; _2; …; _1; …; _0; …]
-          assigns ! (of-opd ! (load ! (from ! (hop ! (look ! 12 refl) (stop !))) (look-raw ! 0 refl))) (from ! (stop !)) (init ! 10 refl (LL.lawful T.the-type T′.the-laws 𝓤 H A W .typed (elemAt (j .0)) _ is₀ .0)) $
-          move ! (1 ∷ []) $ use1 W (raw (Credited 𝓤 H A mem run .pre (to (elemAt (j .0)) (j .0)))) (goes (elemAt (j .0)) (j .0) j-fits) $
+          opens-slice ! tt T.the-row (L (j .0)) b o $
+          elem-out ! T.the-row (Is T.the-row) (shows 𝓤 H A T.the-row) (LL.vals T.the-type T′.the-laws)
+          (LL.tells T.the-type T′.the-laws) fullShare (L (j .0)) (j .0) (account 0 0) b o within (λ is₀.
+          -- [the record's cell; what it owns; the others; the open borrow; obs; auth; _10; …; _9; …; _8; …; _7; …; _6;
+          -- …; _5; …; _4; …; _3; …; _2; …; _1; …; _0; …]
+          assigns ! (of-opd ! (load ! (from ! (hop ! (look ! 12 refl) (stop !))) (look-raw ! 0 refl))) (from ! (stop !))
+          (init ! 10 refl (LL.lawful T.the-type T′.the-laws 𝓤 H A W .typed (elemAt (j .0)) _ is₀ .0)) $
+          move ! (1 ∷ []) $
+          use1 W (raw (Credited 𝓤 H A mem run .pre (to (elemAt (j .0)) (j .0))))
+          (goes (elemAt (j .0)) (j .0) j-fits) $
           -- [what `credited` asks; the record's cell; the others; the open borrow; obs; auth; _10; …]
-          calls-at ! (fmOf 𝓤 H (W .laws) 𝓣) (Credited 𝓤 H A mem run) known (to (elemAt (j .0)) (j .0)) (and-then ! (load ! (from ! (stop !)) (look ! 10 refl)) (and-then ! (load ! (from ! (stop !)) (look ! 22 refl)) (and-then ! (load ! (from ! (stop !)) (look ! 20 refl)) (no-more !)))) (λ u.
-          use1 W (later (some (λ (r : StationAccount). (‵ ftrue ⊛ ‵ (T.the-row .own r (u ∷ []))) ⊛ raw (ensured 𝓤 H A g.ended (g.clauses 𝓤 H A mem run) tt (args (elemAt (j .0)) (j .0)) tt r)))) (id⊢ 𝓤 _) $ await ! tt $ pick ! (λ r.
-          split ! $ move ! (1 ∷ []) $ use1 W (raw (fact 𝓤 (r ≡ credited d (j .0) (elemAt (j .0))))) (said (elemAt (j .0)) (j .0) r) $ heard ! (r ≡ credited d (j .0) (elemAt (j .0))) (λ e′. split ! $ drop ! $
+          calls-at ! (fmOf 𝓤 H (W .laws) 𝓣) (Credited 𝓤 H A mem run) known (to (elemAt (j .0)) (j .0))
+          (and-then ! (load ! (from ! (stop !)) (look ! 10 refl)) (and-then !
+          (load ! (from ! (stop !)) (look ! 22 refl))
+          (and-then ! (load ! (from ! (stop !)) (look ! 20 refl)) (no-more !)))) (λ u.
+          use1 W (later (some (λ (r : StationAccount). (‵ ftrue ⊛ ‵ (T.the-row .own r (u ∷ []))) ⊛ raw
+          (ensured 𝓤 H A g.ended (g.clauses 𝓤 H A mem run) tt (args (elemAt (j .0)) (j .0)) tt r)))) (id⊢ 𝓤 _) $
+          await ! tt $ pick ! (λ r.
+          split ! $ move ! (1 ∷ []) $
+          use1 W (raw (fact 𝓤 (r ≡ credited d (j .0) (elemAt (j .0))))) (said (elemAt (j .0)) (j .0) r) $
+          heard ! (r ≡ credited d (j .0) (elemAt (j .0))) (λ e′. split ! $ drop ! $
           -- [what the result owns; the record's cell; the others; the open borrow; obs; auth; _10; …]
           peeks ! T.the-row (Is T.the-row) (shows 𝓤 H A T.the-row) r (u ∷ []) (λ is.
           land ! (from ! (stop !)) (init ! 14 refl (LL.lawful T.the-type T′.the-laws 𝓤 H A W .typed r _ is .0)) $
-          assigns ! (bin ! (load ! (from ! (stop !)) (look ! 20 refl)) (lit ! tt) scaled) (from ! (stop !)) (init ! 8 refl (tt, scaled)) $
-          assigns ! (bin ! (load ! (from ! (fld ! refl (stop !))) (look-in ! 24 (sub ! 0 refl (whole !)))) (load ! (from ! (stop !)) (look ! 8 refl)) tt) (from ! (stop !)) (init ! 6 refl (tt, tt)) $
+          assigns ! (bin ! (load ! (from ! (stop !)) (look ! 20 refl)) (lit ! tt) scaled) (from ! (stop !))
+          (init ! 8 refl (tt, scaled)) $
+          assigns ! (bin ! (load ! (from ! (fld ! refl (stop !))) (look-in ! 24 (sub ! 0 refl (whole !))))
+          (load ! (from ! (stop !)) (look ! 8 refl)) tt) (from ! (stop !)) (init ! 6 refl (tt, tt)) $
           rewrite ! 6 (λ (k : ℕ). ‵ (fat fullShare tyPtr l₁₀ 0 (vptr b k))) (sym (place-is 16 o (j .0))) refl $
-          assigns ! (of-opd ! (load ! (from ! (stop !)) (look ! 14 refl))) (from ! (hop ! (look ! 6 refl) (stop !))) (store-raw ! 1 refl (LL.lawful T.the-type T′.the-laws 𝓤 H A W .typed r _ is .0)) $
+          assigns ! (of-opd ! (load ! (from ! (stop !)) (look ! 14 refl))) (from ! (hop ! (look ! 6 refl) (stop !)))
+          (store-raw ! 1 refl (LL.lawful T.the-type T′.the-laws 𝓤 H A W .typed r _ is .0)) $
           move ! (1 ∷ 0 ∷ 2 ∷ []) $ elem-put ! T.the-row fullShare (L (j .0)) (j .0) r (u ∷ []) b o within $
           closes-slice ! tt T.the-row (L (j .0)) (set (L (j .0)) (j .0) r) (length-set (L (j .0)) (j .0) r) b o $
           -- [obs; the borrow; the token; _10; …]
-          assigns-last ! (bin ! (load ! (from ! (stop !)) (look ! 17 refl)) (lit ! tt) (record { fits = next-fits })) (from ! (stop !)) (store ! 17 refl (tt, record { fits = next-fits })) $
-          forget ! 3 refl $ forget ! 5 refl $ forget ! 7 refl $ forget ! 9 refl $ forget ! 11 refl $ forget ! 13 refl $ forget ! 15 refl $
-          rewrite ! 0 (λ (l : List StationAccount). ‵ (Obs l)) (credited-more d ys (j .0) r e′) refl $ rewrite ! 1 (λ (l : List StationAccount). ‵ (Bor l)) (credited-more d ys (j .0) r e′) refl $
+          assigns-last ! (bin ! (load ! (from ! (stop !)) (look ! 17 refl)) (lit ! tt) (record { fits = next-fits }))
+          (from ! (stop !)) (store ! 17 refl (tt, record { fits = next-fits })) $
+          forget ! 3 refl $ forget ! 5 refl $ forget ! 7 refl $ forget ! 9 refl $ forget ! 11 refl $
+          forget ! 13 refl $ forget ! 15 refl $
+          rewrite ! 0 (λ (l : List StationAccount). ‵ (Obs l)) (credited-more d ys (j .0) r e′) refl $
+          rewrite ! 1 (λ (l : List StationAccount). ‵ (Bor l)) (credited-more d ys (j .0) r e′) refl $
           again ! Nearer At j (j .0 + 1, omega (arith, less)) (omega (arith, less)))))))
         where
           less : j .0 < n
@@ -232,13 +284,19 @@ module _ {M : Type 1} (𝓤 : URA M) (H : Heap 𝓤) (A : Atoms 𝓤) (W : Given
       ends : (j : Upto) → ltb (j .0) n ≡ false → Sq W (At j) (runs C Λ En mirᶜ.turn-1 (anyQ (Turned j)))
       unfolding afterTurn
       ends j e =
-          assigns ! (of-opd ! (load ! (from ! (fld ! refl (stop !))) (look-in ! 21 (sub ! 1 refl (whole !))))) (from ! (stop !)) (init ! 15 refl (tt, record { fits = gn .0 })) $
-          assigns ! (bin ! (load ! (from ! (stop !)) (look ! 17 refl)) (load ! (from ! (stop !)) (look ! 15 refl)) tt) (from ! (stop !)) (init ! 13 refl (tt, tt)) $
+          assigns ! (of-opd ! (load ! (from ! (fld ! refl (stop !))) (look-in ! 21 (sub ! 1 refl (whole !)))))
+          (from ! (stop !)) (init ! 15 refl (tt, record { fits = gn .0 })) $
+          assigns ! (bin ! (load ! (from ! (stop !)) (look ! 17 refl)) (load ! (from ! (stop !)) (look ! 15 refl)) tt)
+          (from ! (stop !)) (init ! 13 refl (tt, tt)) $
           rewrite ! 13 (λ (t : Bool). ‵ (fat fullShare tyBool l₅ 0 (vbool t))) e refl $
           leaves-loop ! (load ! (from ! (stop !)) (look ! 13 refl)) $ exec ! C Λ En mirᶜ.t-3 (atRet En Post) $
           assigns ! (of-opd ! (unit-lit !)) (from ! (stop !)) (init ! 23 refl (tt, tt)) $
-          returns ! (look ! 23 refl) $ forget ! 13 refl $ forget ! 15 refl $ forget ! 17 refl $ forget ! 19 refl $ forget ! 21 refl $ forget ! 23 refl $
-          move ! (23 ∷ 24 ∷ []) $ free1 ! $ move ! (21 ∷ 22 ∷ []) $ free1 ! $ move ! (19 ∷ 20 ∷ []) $ free1 ! $ move ! (17 ∷ 18 ∷ []) $ free1 ! $ move ! (15 ∷ 16 ∷ []) $ free1 ! $ move ! (13 ∷ 14 ∷ []) $ free1 ! $ move ! (11 ∷ 12 ∷ []) $ free1 ! $ move ! (9 ∷ 10 ∷ []) $ free1 ! $ move ! (7 ∷ 8 ∷ []) $ free1 ! $ move ! (5 ∷ 6 ∷ []) $ free1 ! $ move ! (3 ∷ 4 ∷ []) $ free1 ! $ free0 ! $
+          returns ! (look ! 23 refl) $ forget ! 13 refl $ forget ! 15 refl $ forget ! 17 refl $ forget ! 19 refl $
+          forget ! 21 refl $ forget ! 23 refl $
+          move ! (23 ∷ 24 ∷ []) $ free1 ! $ move ! (21 ∷ 22 ∷ []) $ free1 ! $ move ! (19 ∷ 20 ∷ []) $ free1 ! $
+          move ! (17 ∷ 18 ∷ []) $ free1 ! $ move ! (15 ∷ 16 ∷ []) $ free1 ! $ move ! (13 ∷ 14 ∷ []) $ free1 ! $
+          move ! (11 ∷ 12 ∷ []) $ free1 ! $ move ! (9 ∷ 10 ∷ []) $ free1 ! $ move ! (7 ∷ 8 ∷ []) $ free1 ! $
+          move ! (5 ∷ 6 ∷ []) $ free1 ! $ move ! (3 ∷ 4 ∷ []) $ free1 ! $ free0 ! $
           by ! (exits gn (L (j .0)) (credited-length d ys (j .0)) (ap L (le-antisymm (j .1) (ltb-false (j .0) n e))))
 
       turns-by : (j : Upto) (t : Bool) → ltb (j .0) n ≡ t → Sq W (At j) (runs C Λ En mirᶜ.turn-1 (anyQ (Turned j)))
@@ -251,33 +309,56 @@ module _ {M : Type 1} (𝓤 : URA M) (H : Heap 𝓤) (A : Atoms 𝓤) (W : Given
       looped : Sq W (At (0, zero-le)) (runs C Λ En mirᶜ.t-2 (atRet En Post))
       looped = first ! $ blocks ! $ loops ! 𝓣 Nearer Nearer-wf At turns (0, zero-le)
 
-    walk : ent 𝓤 (onEntry 𝓤 H A f.signature (κ, tt) (q, tt) a at) (WpFn 𝓤 H (𝓣 .C) (𝓣 .Λ) code.function (sliceVal (b, o) n ∷ v ∷ []) Post)
+    walk :
+        ent 𝓤 (onEntry 𝓤 H A f.signature (κ, tt) (q, tt) a at)
+        (WpFn 𝓤 H (𝓣 .C) (𝓣 .Λ) code.function (sliceVal (b, o) n ∷ v ∷ []) Post)
     walk =
-        qed W ((‵ (flft κ q) ⊛ ‵ ftrue) ∷ ‵ (owns (MutSlice (named 0) κ T.the-row ∷ R.the-row ∷ []) a at) ∷ []) ∵ enter ! (𝓣 .C) (𝓣 .Λ) code.function (sliceVal (b, o) n ∷ v ∷ []) _ $
-        alloc1 ! (λ l₀. alloc1 ! (λ l₁. alloc1 ! (λ l₂. alloc1 ! (λ l₃. alloc1 ! (λ l₄. alloc1 ! (λ l₅. alloc1 ! (λ l₆. alloc1 ! (λ l₇. alloc1 ! (λ l₈. alloc1 ! (λ l₉. alloc1 ! (λ l₁₀. alloc0 ! $ params1 ! $
+        qed W ((‵ (flft κ q) ⊛ ‵ ftrue) ∷ ‵ (owns (MutSlice (named 0) κ T.the-row ∷ R.the-row ∷ []) a at) ∷ []) ∵
+        enter ! (𝓣 .C) (𝓣 .Λ) code.function (sliceVal (b, o) n ∷ v ∷ []) _ $
+        alloc1 ! (λ l₀. alloc1 ! (λ l₁. alloc1 ! (λ l₂. alloc1 ! (λ l₃. alloc1 ! (
+        λ l₄. alloc1 ! (λ l₅. alloc1 ! (
+        λ l₆. alloc1 ! (λ l₇. alloc1 ! (λ l₈. alloc1 ! (λ l₉. alloc1 ! (λ l₁₀. alloc0 ! $ params1 ! $
         pass1 ! (init ! 18 refl (tt, (tt, (record { fits = gn .0 }, tt)))) $ pass1 ! (init ! 16 refl wt) $ pass0 ! $
         assigns ! (of-opd ! (lit ! tt)) (from ! (stop !)) (init ! 14 refl (tt, record { fits = lit< tt })) $
         move ! (23 ∷ []) $ fsplit ! $ fsplit ! $ move ! (1 ∷ []) $ fsplit ! $ move ! (26 ∷ []) $ split ! $
         -- [the token; true; obs; the borrow; the slice's fact; the round's; _10; …]
-        keep ! (2 ∷ 3 ∷ 0 ∷ 6 ∷ 7 ∷ 8 ∷ 9 ∷ 10 ∷ 11 ∷ 12 ∷ 13 ∷ 14 ∷ 15 ∷ 16 ∷ 17 ∷ 18 ∷ 19 ∷ 20 ∷ 21 ∷ 22 ∷ 23 ∷ 24 ∷ 25 ∷ 26 ∷ 27 ∷ []) $
-        rewrite ! 0 (λ (l : List StationAccount). ‵ (Obs l)) (credited-none d ys) refl $ rewrite ! 1 (λ (l : List StationAccount). ‵ (Bor l)) (credited-none d ys) refl $
+        keep ! (2 ∷ 3 ∷ 0 ∷ 6 ∷ 7 ∷ 8 ∷ 9 ∷ 10 ∷ 11 ∷ 12 ∷ 13 ∷ 14 ∷ 15 ∷ 16 ∷ 17 ∷ 18 ∷ 19 ∷ 20 ∷ 21 ∷ 22 ∷ 23
+        ∷ 24 ∷ 25 ∷ 26 ∷ 27 ∷ []) $
+        rewrite ! 0 (λ (l : List StationAccount). ‵ (Obs l)) (credited-none d ys) refl $
+        rewrite ! 1 (λ (l : List StationAccount). ‵ (Bor l)) (credited-none d ys) refl $
         looped l₀ l₁ l₂ l₃ l₄ l₅ l₆ l₇ l₈ l₉ l₁₀)))))))))))
 
-module _ {M : Type 1} (𝓤 : URA M) (H : Heap 𝓤) (A : Atoms 𝓤) (W : Given 𝓤 H A) (mem : Memory → SProp 𝓤) (run : Routine → Fun 𝓤) where
-  add-sales-walks : (𝓣 : Tables 𝓤 H) → Triple 𝓤 (𝓣 .C #ledger·stations·credited) (Credited 𝓤 H A mem run) → Walks 𝓤 H A f.ended stayed (WpFn 𝓤 H (𝓣 .C) (𝓣 .Λ) code.function) (f.clauses 𝓤 H A mem run)
+module _ {M : Type 1} (𝓤 : URA M) (H : Heap 𝓤) (A : Atoms 𝓤) (W : Given 𝓤 H A) (mem : Memory → SProp 𝓤)
+    (run : Routine → Fun 𝓤) where
+  add-sales-walks :
+      (𝓣 : Tables 𝓤 H) → Triple 𝓤 (𝓣 .C #ledger·stations·credited) (Credited 𝓤 H A mem run)
+      → Walks 𝓤 H A f.ended stayed (WpFn 𝓤 H (𝓣 .C) (𝓣 .Λ) code.function) (f.clauses 𝓤 H A mem run)
   add-sales-walks 𝓣 known = walked 𝓤 H A f.ended stayed (f.clauses 𝓤 H A mem run) (WpFn 𝓤 H (𝓣 .C) (𝓣 .Λ) code.function)
-      (λ κs. (slice-vals, (LL.vals R.the-type R′.the-laws, tt))) (λ κs. (mut-slice-tells (named 0) (κs .0) T.the-row, (LL.tells R.the-type R′.the-laws, tt)))
-      (λ κs qs bounds a g are. via 𝓤 _ (fst∗ 𝓤 _ (emp 𝓤)) (walk 𝓤 H A W mem run (κs .0) (qs .0) (a .0 .ptr .0) (a .0 .ptr .1) (a .0 .name) (a .0 .now) (a .1 .0) (valR (a .1 .0)) (are .1 .0) 𝓣 known (are .0 .0 .1) (LL.lawful R.the-type R′.the-laws 𝓤 H A W .typed (a .1 .0) _ (are .1 .0) .0)))
+      (λ κs. (slice-vals, (LL.vals R.the-type R′.the-laws, tt)))
+      (λ κs. (mut-slice-tells (named 0) (κs .0) T.the-row, (LL.tells R.the-type R′.the-laws, tt)))
+      (λ κs qs bounds a g are. via 𝓤 _ (fst∗ 𝓤 _ (emp 𝓤)) (walk 𝓤 H A W mem run (κs .0) (qs .0) (a .0 .ptr .0)
+      (a .0 .ptr .1) (a .0 .name) (a .0 .now) (a .1 .0) (valR (a .1 .0)) (are .1 .0) 𝓣 known (are .0 .0 .1)
+      (LL.lawful R.the-type R′.the-laws 𝓤 H A W .typed (a .1 .0) _ (are .1 .0) .0)))
 
-add-sales-meets : {M : Type 1} (𝓤 : URA M) (H : Heap 𝓤) (A : Atoms 𝓤) → Given 𝓤 H A → (mem : Memory → SProp 𝓤) (run : Routine → Fun 𝓤) (𝓣 : Tables 𝓤 H) → Triple 𝓤 (𝓣 .C #ledger·stations·credited) (Credited 𝓤 H A mem run)
+add-sales-meets :
+    {M : Type 1} (𝓤 : URA M) (H : Heap 𝓤) (A : Atoms 𝓤) → Given 𝓤 H A
+    → (mem : Memory → SProp 𝓤) (run : Routine → Fun 𝓤) (𝓣 : Tables 𝓤 H)
+    → Triple 𝓤 (𝓣 .C #ledger·stations·credited) (Credited 𝓤 H A mem run)
     → Meets 𝓤 H A f.signature (WpFn 𝓤 H (𝓣 .C) (𝓣 .Λ) code.function) (f.spec 𝓤 H A mem run)
-add-sales-meets 𝓤 H A W mem run 𝓣 known = walk-meets 𝓤 H A f.ended stayed W (goes-slice 𝓤 H A W 1 0 tt (plain (λ _. T.the-row)), (goes-none 𝓤 H A W 1 (λ _. R.the-row) yes (λ κs x f. refl), tt)) (f.clauses 𝓤 H A mem run)
-    (WpFn 𝓤 H (𝓣 .C) (𝓣 .Λ) code.function) (WpFn-mono 𝓤 H (W .laws) 𝓣 code.function) (add-sales-walks 𝓤 H A W mem run 𝓣 known)
+add-sales-meets 𝓤 H A W mem run 𝓣 known =
+    walk-meets 𝓤 H A f.ended stayed W (
+      goes-slice 𝓤 H A W 1 0 tt (plain (λ _. T.the-row)),
+      (goes-none 𝓤 H A W 1 (λ _. R.the-row) yes (λ κs x f. refl), tt),
+    ) (f.clauses 𝓤 H A mem run)
+    (WpFn 𝓤 H (𝓣 .C) (𝓣 .Λ) code.function) (WpFn-mono 𝓤 H (W .laws) 𝓣 code.function)
+    (add-sales-walks 𝓤 H A W mem run 𝓣 known)
 
 pub add-sales-spec : {M : Type 1} → stated.statement M
 unfolding code.routine tablesOf
 add-sales-spec 𝓤 H 𝓜 𝓖 𝓡 =
     entered 𝓤 H (tripleOf 𝓤 H (𝓖 .A) f.signature (f.spec 𝓤 H (𝓖 .A) (𝓜 .mem) (𝓡 .run)))
-    (tables 𝓤 H 𝓜 𝓡 code.env .C) (tables 𝓤 H 𝓜 𝓡 code.env .Λ) #ledger·stations·add-sales code.function (code.unfolded 𝓤 H 𝓜 𝓡)
+    (tables 𝓤 H 𝓜 𝓡 code.env .C) (tables 𝓤 H 𝓜 𝓡 code.env .Λ) #ledger·stations·add-sales
+    code.function (code.unfolded 𝓤 H 𝓜 𝓡)
     (add-sales-meets 𝓤 H (𝓖 .A) (givenOf 𝓤 H 𝓜 𝓖) (𝓜 .mem) (𝓡 .run) (tablesOf 𝓤 H 𝓜 (tables 𝓤 H 𝓜 𝓡 code.env))
-    (cited 𝓤 H (Credited 𝓤 H (𝓖 .A) (𝓜 .mem) (𝓡 .run)) 𝓜 𝓡 code.env #ledger·stations·credited g-def.routine code.calls-ledger·stations·credited (g-thm.met 𝓤 H 𝓜 𝓖 𝓡)))
+    (cited 𝓤 H (Credited 𝓤 H (𝓖 .A) (𝓜 .mem) (𝓡 .run)) 𝓜 𝓡 code.env #ledger·stations·credited g-def.routine
+    code.calls-ledger·stations·credited (g-thm.met 𝓤 H 𝓜 𝓖 𝓡)))

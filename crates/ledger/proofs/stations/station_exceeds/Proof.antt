@@ -3,35 +3,18 @@ use Rattle.ledger.proofs.stations.Stations.{exceeds-is}
 use Rattle.ledger.proofs.stations.station_exceeds.Statement.{statement}
 use Rattle.ledger.proofs.stations.station_exceeds.Tie as tie
 
-slice-aggregate-at : tie.Need-slice-aggregate-at
-slice-aggregate-at c = search needs
-
-at-requires : tie.Need-at-requires
-at-requires c κs = search needs
-
-exceeds-requires : tie.Need-exceeds-requires
-exceeds-requires c κs = search needs
-
-slice-aggregate-at-2 : tie.Need-slice-aggregate-at-2
-slice-aggregate-at-2 c = search needs
-
-at-requires-2 : tie.Need-at-requires-2
-at-requires-2 c κs = search needs
-
-exceeds-requires-2 : tie.Need-exceeds-requires-2
-exceeds-requires-2 c κs = search needs
-
 returns : tie.Need-returns
-returns c = exceeds-is _ _ _ (c .before .before .before .before .before .before .before .before .args .before) _ _ (c .before .before .before .before .at .ensures) (c .before .at2 .ensures) (c .before .before .before .exceeds .ensures) (c .exceeds2 .ensures)
+returns c =
+    let at-exceeds = c .before .before .before in
+    let at-at = at-exceeds .before in
+    let entry = at-at .before .before .before .before in
+    exceeds-is _ _ _ (entry .args .before) _ _ (at-at .at .ensures) (c .before .at2 .ensures)
+    (at-exceeds .exceeds .ensures) (c .exceeds2 .ensures)
 
 pub station-exceeds-spec : {M : Type 1} → statement M
 station-exceeds-spec =
     tie.close
     (tie.spec
-    slice-aggregate-at
-    at-requires
-    exceeds-requires
-    slice-aggregate-at-2
-    at-requires-2
-    exceeds-requires-2
+    (λ c. search needs) (λ c κs. search needs) (λ c κs. search needs) (λ c. search needs)
+    (λ c κs. search needs) (λ c κs. search needs)
     returns)

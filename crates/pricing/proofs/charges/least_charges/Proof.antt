@@ -17,29 +17,16 @@ abbrev μ-loop : tie.MeasureT-loop
 loop-holds : tie.Need-loop-holds Inv-loop μ-loop
 loop-holds c = (search needs, filled-none)
 
-mul-least-charge : tie.Need-mul-least-charge Inv-loop μ-loop
-mul-least-charge c = search needs
-
-shared-slice-read-least-charge : tie.Need-shared-slice-read-least-charge Inv-loop μ-loop
-shared-slice-read-least-charge c = search needs
-
 least-charge-requires : tie.Need-least-charge-requires Inv-loop μ-loop
-least-charge-requires c κs = (c .before .before .before .before .before .pre .0 .1, c .before .before .before .before .before .pre .1 _ (c .before .loop-test .taken))
-
-mul-least : tie.Need-mul-least Inv-loop μ-loop
-mul-least c = search needs
-
-slice-write-least : tie.Need-slice-write-least Inv-loop μ-loop
-slice-write-least c = search needs
-
-add-i : tie.Need-add-i Inv-loop μ-loop
-add-i c = search needs
-
-loop-less : tie.Need-loop-less Inv-loop μ-loop
-loop-less c = search needs
+least-charge-requires c κs =
+    let entry = c .before .before .before .before .before in
+    (entry .pre .0 .1, entry .pre .1 _ (c .before .loop-test .taken))
 
 loop-again : tie.Need-loop-again Inv-loop μ-loop
-loop-again c = (omega arith, filled-more (c .before .before .before .loop .inv .1) (omega arith) (c .least-charge .ensures))
+loop-again c = (
+  omega arith,
+  filled-more (c .before .before .before .loop .inv .1) (omega arith) (c .least-charge .ensures),
+)
 
 same-length : tie.Need-same-length Inv-loop μ-loop
 same-length c = c .before .loop .inv .1 .same
@@ -54,13 +41,9 @@ least-charges-spec =
     Inv-loop
     μ-loop
     loop-holds
-    mul-least-charge
-    shared-slice-read-least-charge
+    (λ c. search needs) (λ c. search needs)
     least-charge-requires
-    mul-least
-    slice-write-least
-    add-i
-    loop-less
+    (λ c. search needs) (λ c. search needs) (λ c. search needs) (λ c. search needs)
     loop-again
     same-length
     returns)

@@ -22,25 +22,12 @@ abbrev μ-loop : tie.MeasureT-loop
 loop-holds : tie.Need-loop-holds Inv-loop μ-loop
 loop-holds c = (search needs, search needs, sym (count-start _))
 
-mul-if1 : tie.Need-mul-if1 Inv-loop μ-loop
-mul-if1 c = search needs
-
-shared-slice-read-if1 : tie.Need-shared-slice-read-if1 Inv-loop μ-loop
-shared-slice-read-if1 c = search needs
-
-add-n : tie.Need-add-n Inv-loop μ-loop
-add-n c = search needs
-
-add-i : tie.Need-add-i Inv-loop μ-loop
-add-i c = search needs
-
-loop-less : tie.Need-loop-less Inv-loop μ-loop
-loop-less c = search needs
-
 loop-again : tie.Need-loop-again Inv-loop μ-loop
-loop-again c = ⊎-elim
-    (λ w. (omega arith, omega arith, w .1 ∙ count-hit _ _ _ (c .before .before .before .loop .inv .2) (is-lt _ _ (w .0 .taken))))
-    (λ w. (omega arith, omega arith, w .1 ∙ count-miss _ _ _ (c .before .before .before .loop .inv .2) (not-lt _ _ (w .0 .left))))
+loop-again c =
+    let at-loop = c .before .before .before in
+    ⊎-elim
+    (λ w. (omega arith, omega arith, w .1 ∙ count-hit _ _ _ (at-loop .loop .inv .2) (is-lt _ _ (w .0 .taken))))
+    (λ w. (omega arith, omega arith, w .1 ∙ count-miss _ _ _ (at-loop .loop .inv .2) (not-lt _ _ (w .0 .left))))
     (c .if1 .came)
 
 returns : tie.Need-returns Inv-loop μ-loop
@@ -54,10 +41,6 @@ count-below-spec =
     Inv-loop
     μ-loop
     loop-holds
-    mul-if1
-    shared-slice-read-if1
-    add-n
-    add-i
-    loop-less
+    (λ c. search needs) (λ c. search needs) (λ c. search needs) (λ c. search needs) (λ c. search needs)
     loop-again
     returns)

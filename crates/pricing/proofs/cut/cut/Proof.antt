@@ -17,33 +17,19 @@ Inv-loop asks position r₀ i₀ r i =
 abbrev μ-loop : tie.MeasureT-loop
 μ-loop asks position r₀ i₀ r i = length asks - i
 
-add-position : tie.Need-add-position Inv-loop μ-loop
-add-position c = search needs
-
 loop-holds : tie.Need-loop-holds Inv-loop μ-loop
 loop-holds c = (omega arith, greatest-none _)
 
-mul-t7 : tie.Need-mul-t7 Inv-loop μ-loop
-mul-t7 c = search needs
-
-shared-slice-read-t10 : tie.Need-shared-slice-read-t10 Inv-loop μ-loop
-shared-slice-read-t10 c = search needs
-
-raised-requires : tie.Need-raised-requires Inv-loop μ-loop
-raised-requires c κs = search needs
-
-add-i : tie.Need-add-i Inv-loop μ-loop
-add-i c = search needs
-
-loop-less : tie.Need-loop-less Inv-loop μ-loop
-loop-less c = search needs
-
 loop-again : tie.Need-loop-again Inv-loop μ-loop
-loop-again c = (omega arith, greatest-more _ _ _ _ _ (c .before .before .before .loop .inv .1) refl (c .raised .ensures))
+loop-again c = (
+  omega arith,
+  greatest-more _ _ _ _ _ (c .before .before .before .loop .inv .1) refl (c .raised .ensures),
+)
 
 returns : tie.Need-returns Inv-loop μ-loop
 unfolding medianAsk
-returns c = rw (← median-is) (greatest-end _ _ _ _ (c .before .loop .inv .1) (c .before .loop .inv .0) (c .loop-test .left))
+returns c =
+    rw (← median-is) (greatest-end _ _ _ _ (c .before .loop .inv .1) (c .before .loop .inv .0) (c .loop-test .left))
 
 pub cut-spec : {M : Type 1} → statement M
 cut-spec =
@@ -51,12 +37,8 @@ cut-spec =
     (tie.spec
     Inv-loop
     μ-loop
-    add-position
+    (λ c. search needs)
     loop-holds
-    mul-t7
-    shared-slice-read-t10
-    raised-requires
-    add-i
-    loop-less
+    (λ c. search needs) (λ c. search needs) (λ c κs. search needs) (λ c. search needs) (λ c. search needs)
     loop-again
     returns)

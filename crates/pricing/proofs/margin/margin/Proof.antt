@@ -18,36 +18,34 @@ abbrev μ-loop : tie.MeasureT-loop
 loop-holds : tie.Need-loop-holds Inv-loop μ-loop
 loop-holds c = (omega arith, omega arith, sum-none _)
 
-mul-excess : tie.Need-mul-excess Inv-loop μ-loop
-mul-excess c = search needs
-
-shared-slice-read-excess : tie.Need-shared-slice-read-excess Inv-loop μ-loop
-shared-slice-read-excess c = search needs
-
-mul-excess-2 : tie.Need-mul-excess-2 Inv-loop μ-loop
-mul-excess-2 c = search needs
-
-shared-slice-read-excess-2 : tie.Need-shared-slice-read-excess-2 Inv-loop μ-loop
-shared-slice-read-excess-2 c = search needs
-
-excess-requires : tie.Need-excess-requires Inv-loop μ-loop
-excess-requires c κs = search needs
-
 plus-requires : tie.Need-plus-requires Inv-loop μ-loop
-plus-requires c κs = omega (arith, c .excess .ensures, c .before .before .shared-slice-known3 .given (c .before .before .before .before .loop .i), c .before .before .before .before .loop .inv .1, c .before .before .before .loop-test .taken, c .before .before .before .before .before .before .before .pre .1)
-
-add-i : tie.Need-add-i Inv-loop μ-loop
-add-i c = search needs
-
-loop-less : tie.Need-loop-less Inv-loop μ-loop
-loop-less c = search needs
+plus-requires c κs =
+    let at-loop-test = c .before .before .before in
+    let at-loop = at-loop-test .before in
+    let entry = at-loop .before .before .before in
+    omega (
+      arith,
+      c .excess .ensures,
+      c .before .before .shared-slice-known3 .given (at-loop .loop .i),
+      at-loop .loop .inv .1,
+      at-loop-test .loop-test .taken,
+      entry .pre .1,
+    )
 
 loop-again : tie.Need-loop-again Inv-loop μ-loop
-loop-again c = (
-  omega arith,
-  omega (arith, c .plus .ensures, c .before .excess .ensures, c .before .before .before .shared-slice-known3 .given (c .before .before .before .before .before .loop .i), c .before .before .before .before .before .loop .inv .1),
-  sum-more _ _ _ _ _ (c .before .before .before .before .before .loop .inv .2) (c .before .excess .ensures) (c .plus .ensures),
-)
+loop-again c =
+    let at-shared-slice-known3 = c .before .before .before in
+    let at-loop = at-shared-slice-known3 .before .before in (
+      omega arith,
+      omega (
+        arith,
+        c .plus .ensures,
+        c .before .excess .ensures,
+        at-shared-slice-known3 .shared-slice-known3 .given (at-loop .loop .i),
+        at-loop .loop .inv .1,
+      ),
+      sum-more _ _ _ _ _ (at-loop .loop .inv .2) (c .before .excess .ensures) (c .plus .ensures),
+    )
 
 returns : tie.Need-returns Inv-loop μ-loop
 returns c = sum-end _ _ _ _ (c .before .loop .inv .2) (c .before .loop .inv .0) (c .loop-test .left)
@@ -59,13 +57,8 @@ margin-spec =
     Inv-loop
     μ-loop
     loop-holds
-    mul-excess
-    shared-slice-read-excess
-    mul-excess-2
-    shared-slice-read-excess-2
-    excess-requires
+    (λ c. search needs) (λ c. search needs) (λ c. search needs) (λ c. search needs) (λ c κs. search needs)
     plus-requires
-    add-i
-    loop-less
+    (λ c. search needs) (λ c. search needs)
     loop-again
     returns)

@@ -5,35 +5,34 @@ use Rattle.pricing.proofs.sales.sell.Statement.{statement}
 use Rattle.pricing.proofs.sales.sell.Tie as tie
 use Rattle.pricing.proofs.sales.Sales.{sells}
 
-slice-aggregate-tally-sales : tie.Need-slice-aggregate-tally-sales
-slice-aggregate-tally-sales c = search needs
-
 tally-sales-requires : tie.Need-tally-sales-requires
-tally-sales-requires c κs = (c .before .before .before .before .before .pre .0, (c .before .before .before .before .before .pre .1 .0, (c .before .before .before .before .before .pre .1 .1 .0, zeros 45)))
+tally-sales-requires c κs =
+    let entry = c .before .before .before .before .before in
+    (entry .pre .0, (entry .pre .1 .0, (entry .pre .1 .1 .0, zeros 45)))
 
-slice-aggregate-pay-out : tie.Need-slice-aggregate-pay-out
-slice-aggregate-pay-out c = search needs
+abbrev entry-before-tally-sales : tie.After-tally-sales → tie.Start
+entry-before-tally-sales p = p .before .before .before .before .before .before
 
 pay-out-requires : tie.Need-pay-out-requires
-pay-out-requires c κs = (omega (arith, c .before .before .before .before .tally-sales .ensures .long, c .before .before .before .before .before .before .before .before .before .before .pre .1 .1 .1 .0), c .before .before .before .before .before .before .before .before .before .before .pre .1 .1 .1 .1)
-
-same-length : tie.Need-same-length
-same-length c = search needs
-
-same-length-2 : tie.Need-same-length-2
-same-length-2 c = search needs
+pay-out-requires c κs =
+    let at-tally-sales = c .before .before .before .before in
+    let entry = entry-before-tally-sales at-tally-sales in
+    (omega (arith, at-tally-sales .tally-sales .ensures .long, entry .pre .1 .1 .1 .0), entry .pre .1 .1 .1 .1)
 
 returns : tie.Need-returns
-returns c = sells (c .before .before .before .before .before .before .before .before .before .tally-sales .ensures) (c .before .before .before .before .before .before .before .before .before .before .before .before .before .before .before .pre .1 .1 .1 .0) (c .before .before .before .before .pay-out .ensures)
+returns c =
+    let at-pay-out = c .before .before .before .before in
+    let at-tally-sales = at-pay-out .before .before .before .before .before in
+    let entry = entry-before-tally-sales at-tally-sales in
+    sells (at-tally-sales .tally-sales .ensures) (entry .pre .1 .1 .1 .0) (at-pay-out .pay-out .ensures)
 
 pub sell-spec : {M : Type 1} → statement M
 sell-spec =
     tie.close
     (tie.spec
-    slice-aggregate-tally-sales
+    (λ c. search needs)
     tally-sales-requires
-    slice-aggregate-pay-out
+    (λ c. search needs)
     pay-out-requires
-    same-length
-    same-length-2
+    (λ c. search needs) (λ c. search needs)
     returns)

@@ -18,53 +18,68 @@ abbrev μ-loop : tie.MeasureT-loop
 loop-holds : tie.Need-loop-holds Inv-loop μ-loop
 loop-holds c = (omega arith, tallied-none (c .before .before .before .pre .1 .1 .1))
 
-mul-slot : tie.Need-mul-slot Inv-loop μ-loop
-mul-slot c = search needs
-
-shared-slice-read-slot : tie.Need-shared-slice-read-slot Inv-loop μ-loop
-shared-slice-read-slot c = search needs
+abbrev entry-before-loop : tie.At-loop Inv-loop μ-loop → tie.Start Inv-loop μ-loop
+entry-before-loop p = p .before .before .before .before
 
 cast-slot : tie.Need-cast-slot Inv-loop μ-loop
-cast-slot c = omega (arith, c .before .before .before .before .before .before .pre .1 .1 .0 _ (c .before .loop-test .taken))
+cast-slot c =
+    let entry = entry-before-loop (c .before .before) in
+    omega (arith, entry .pre .1 .1 .0 _ (c .before .loop-test .taken))
 
 slot-requires : tie.Need-slot-requires Inv-loop μ-loop
-slot-requires c κs = c .before .before .before .before .before .before .pre .1 .1 .0 _ (c .before .loop-test .taken)
-
-mul-x : tie.Need-mul-x Inv-loop μ-loop
-mul-x c = search needs
-
-shared-slice-read-x : tie.Need-shared-slice-read-x Inv-loop μ-loop
-shared-slice-read-x c = search needs
+slot-requires c κs =
+    let entry = entry-before-loop (c .before .before) in
+    entry .pre .1 .1 .0 _ (c .before .loop-test .taken)
 
 cast-x : tie.Need-cast-x Inv-loop μ-loop
-cast-x c = omega (arith, c .before .before .before .before .before .before .before .before .pre .1 .0 _ (c .before .before .before .loop-test .taken))
+cast-x c =
+    let at-loop-test = c .before .before .before in
+    let entry = entry-before-loop (at-loop-test .before) in
+    omega (arith, entry .pre .1 .0 _ (at-loop-test .loop-test .taken))
 
 mul-kwh : tie.Need-mul-kwh Inv-loop μ-loop
 mul-kwh c = omega (arith, c .before .slot .ensures .0)
 
 slice-read-kwh : tie.Need-slice-read-kwh Inv-loop μ-loop
-slice-read-kwh c = omega (arith, c .before .before .slot .ensures .0, c .before .before .before .before .before .loop .inv .1 .long)
+slice-read-kwh c =
+    let at-loop = c .before .before .before .before .before in
+    omega (arith, c .before .before .slot .ensures .0, at-loop .loop .inv .1 .long)
 
 add-kwh : tie.Need-add-kwh Inv-loop μ-loop
-add-kwh c = omega (arith, c .before .before .before .before .before .before .before .before .before .pre .1 .0 _ (c .before .before .before .before .loop-test .taken), c .before .before .before .before .before .loop .inv .1 .small _ (c .before .before .slot .ensures .0), c .before .before .before .before .before .loop .inv .0, c .before .before .before .before .before .before .before .before .before .pre .0 .1)
+add-kwh c =
+    let loop-test = c .before .before .before .before .loop-test in
+    let loop = c .before .before .before .before .before .loop in
+    let pre = c .before .before .before .before .before .before .before .before .before .pre in
+    omega (
+      arith,
+      pre .1 .0 _ (loop-test .taken),
+      loop .inv .1 .small _ (c .before .before .slot .ensures .0),
+      loop .inv .0,
+      pre .0 .1,
+    )
 
 mul-kwh-2 : tie.Need-mul-kwh-2 Inv-loop μ-loop
 mul-kwh-2 c = omega (arith, c .before .before .slot .ensures .0)
 
 slice-write-kwh : tie.Need-slice-write-kwh Inv-loop μ-loop
-slice-write-kwh c = omega (arith, c .before .before .slot .ensures .0, c .before .before .before .before .before .loop .inv .1 .long)
-
-add-i : tie.Need-add-i Inv-loop μ-loop
-add-i c = search needs
-
-loop-less : tie.Need-loop-less Inv-loop μ-loop
-loop-less c = search needs
+slice-write-kwh c =
+    let at-loop = c .before .before .before .before .before in
+    omega (arith, c .before .before .slot .ensures .0, at-loop .loop .inv .1 .long)
 
 loop-again : tie.Need-loop-again Inv-loop μ-loop
-loop-again c = (omega arith, tallied-more (c .before .before .before .before .before .loop .inv .1) refl (c .before .before .slot .ensures) (c .before .before .before .before .before .before .before .before .before .pre .1 .0 _ (c .before .before .before .before .loop-test .taken)) refl)
+loop-again c =
+    let at-loop-test = c .before .before .before .before in
+    let at-loop = at-loop-test .before in
+    let entry = entry-before-loop at-loop in (
+      omega arith,
+      tallied-more (at-loop .loop .inv .1) refl (c .before .before .slot .ensures)
+          (entry .pre .1 .0 _ (at-loop-test .loop-test .taken)) refl,
+    )
 
 same-length : tie.Need-same-length Inv-loop μ-loop
-same-length c = omega (arith, c .before .loop .inv .1 .long, ap length (c .before .before .before .before .before .pre .1 .1 .1), length-list slots (λ _. 0))
+same-length c =
+    let entry = entry-before-loop (c .before) in
+    omega (arith, c .before .loop .inv .1 .long, ap length (entry .pre .1 .1 .1), length-list slots (λ _. 0))
 
 returns : tie.Need-returns Inv-loop μ-loop
 returns c = tallied-end (c .before .loop .inv .1) (c .before .loop .inv .0) (c .loop-test .left)
@@ -76,20 +91,17 @@ tally-sales-spec =
     Inv-loop
     μ-loop
     loop-holds
-    mul-slot
-    shared-slice-read-slot
+    (λ c. search needs) (λ c. search needs)
     cast-slot
     slot-requires
-    mul-x
-    shared-slice-read-x
+    (λ c. search needs) (λ c. search needs)
     cast-x
     mul-kwh
     slice-read-kwh
     add-kwh
     mul-kwh-2
     slice-write-kwh
-    add-i
-    loop-less
+    (λ c. search needs) (λ c. search needs)
     loop-again
     same-length
     returns)

@@ -11,7 +11,8 @@ use Rattle.report.proofs.lines.guest_lines.Statement.{statement}
 use Rattle.report.proofs.lines.guest_lines.Tie as tie
 
 abbrev Inv-loop : tie.InvT-loop
-Inv-loop out₀ at stations charges p₀ k₀ out p k = (k ≤ length stations) × Wrote out₀ at (guestLines stations charges k) out p
+Inv-loop out₀ at stations charges p₀ k₀ out p k =
+    (k ≤ length stations) × Wrote out₀ at (guestLines stations charges k) out p
 
 abbrev μ-loop : tie.MeasureT-loop
 μ-loop out₀ at stations charges p₀ k₀ out p k = length stations - k
@@ -20,39 +21,23 @@ loop-holds : tie.Need-loop-holds Inv-loop μ-loop
 unfolding guestLines joined
 loop-holds c = (search needs, wrote-none _ _)
 
-mul-station : tie.Need-mul-station Inv-loop μ-loop
-mul-station c = search needs
-
-shared-slice-read-station : tie.Need-shared-slice-read-station Inv-loop μ-loop
-shared-slice-read-station c = search needs
-
 cast-station : tie.Need-cast-station Inv-loop μ-loop
 cast-station c = omega (arith, c .shared-slice-known3 .given (c .before .before .loop .k))
-
-mul-charge : tie.Need-mul-charge Inv-loop μ-loop
-mul-charge c = search needs
-
-shared-slice-read-charge : tie.Need-shared-slice-read-charge Inv-loop μ-loop
-shared-slice-read-charge c = search needs
 
 cast-charge : tie.Need-cast-charge Inv-loop μ-loop
 cast-charge c = omega (arith, c .shared-slice-known4 .given (c .before .before .before .loop .k))
 
-add-guest-line : tie.Need-add-guest-line Inv-loop μ-loop
-add-guest-line c = search needs
-
 guest-line-requires : tie.Need-guest-line-requires Inv-loop μ-loop
-guest-line-requires c κs = omega (arith, guest-lines-end _ _ _ (c .before .before .before .before .loop .inv .1), c .before .before .before .before .before .before .before .before .pre)
-
-add-k : tie.Need-add-k Inv-loop μ-loop
-add-k c = search needs
-
-loop-less : tie.Need-loop-less Inv-loop μ-loop
-loop-less c = search needs
+guest-line-requires c κs =
+    let at-loop = c .before .before .before .before in
+    let entry = at-loop .before .before .before .before in
+    omega (arith, guest-lines-end _ _ _ (at-loop .loop .inv .1), entry .pre)
 
 loop-again : tie.Need-loop-again Inv-loop μ-loop
 unfolding guestLines
-loop-again c = (omega arith, wrote-joined _ _ (c .before .before .before .before .before .before .before .loop .inv .1) (c .before .before .guest-line .ensures))
+loop-again c =
+    let at-loop = c .before .before .before .before .before .before .before in
+    (omega arith, wrote-joined _ _ (at-loop .loop .inv .1) (c .before .before .guest-line .ensures))
 
 same-length : tie.Need-same-length Inv-loop μ-loop
 same-length c = c .before .loop .inv .1 .same
@@ -68,16 +53,13 @@ guest-lines-spec =
     Inv-loop
     μ-loop
     loop-holds
-    mul-station
-    shared-slice-read-station
+    (λ c. search needs) (λ c. search needs)
     cast-station
-    mul-charge
-    shared-slice-read-charge
+    (λ c. search needs) (λ c. search needs)
     cast-charge
-    add-guest-line
+    (λ c. search needs)
     guest-line-requires
-    add-k
-    loop-less
+    (λ c. search needs) (λ c. search needs)
     loop-again
     same-length
     returns)

@@ -20,36 +20,20 @@ loop-holds : tie.Need-loop-holds Inv-loop μ-loop
 unfolding stationLines joined
 loop-holds c = (search needs, wrote-none _ _)
 
-mul-kwh : tie.Need-mul-kwh Inv-loop μ-loop
-mul-kwh c = search needs
-
-shared-slice-read-kwh : tie.Need-shared-slice-read-kwh Inv-loop μ-loop
-shared-slice-read-kwh c = search needs
-
 cast-kwh : tie.Need-cast-kwh Inv-loop μ-loop
 cast-kwh c = omega (arith, c .shared-slice-known3 .given (c .before .before .loop .k))
 
-mul-payment : tie.Need-mul-payment Inv-loop μ-loop
-mul-payment c = search needs
-
-shared-slice-read-payment : tie.Need-shared-slice-read-payment Inv-loop μ-loop
-shared-slice-read-payment c = search needs
-
-add-station-line : tie.Need-add-station-line Inv-loop μ-loop
-add-station-line c = search needs
-
 station-line-requires : tie.Need-station-line-requires Inv-loop μ-loop
-station-line-requires c κs = omega (arith, station-lines-end _ _ _ (c .before .before .before .before .loop .inv .1), c .before .before .before .before .before .before .before .before .pre)
-
-add-k : tie.Need-add-k Inv-loop μ-loop
-add-k c = search needs
-
-loop-less : tie.Need-loop-less Inv-loop μ-loop
-loop-less c = search needs
+station-line-requires c κs =
+    let at-loop = c .before .before .before .before in
+    let entry = at-loop .before .before .before .before in
+    omega (arith, station-lines-end _ _ _ (at-loop .loop .inv .1), entry .pre)
 
 loop-again : tie.Need-loop-again Inv-loop μ-loop
 unfolding stationLines
-loop-again c = (omega arith, wrote-joined _ _ (c .before .before .before .before .before .before .before .loop .inv .1) (c .before .before .station-line .ensures))
+loop-again c =
+    let at-loop = c .before .before .before .before .before .before .before in
+    (omega arith, wrote-joined _ _ (at-loop .loop .inv .1) (c .before .before .station-line .ensures))
 
 same-length : tie.Need-same-length Inv-loop μ-loop
 same-length c = c .before .loop .inv .1 .same
@@ -65,15 +49,11 @@ station-lines-spec =
     Inv-loop
     μ-loop
     loop-holds
-    mul-kwh
-    shared-slice-read-kwh
+    (λ c. search needs) (λ c. search needs)
     cast-kwh
-    mul-payment
-    shared-slice-read-payment
-    add-station-line
+    (λ c. search needs) (λ c. search needs) (λ c. search needs)
     station-line-requires
-    add-k
-    loop-less
+    (λ c. search needs) (λ c. search needs)
     loop-again
     same-length
     returns)

@@ -6,36 +6,21 @@ use Rattle.model.specs.text.Text.{refusalText}
 use Rattle.report.proofs.page.refusal_text.Statement.{statement}
 use Rattle.report.proofs.page.refusal_text.Tie as tie
 
-slice-aggregate-put-field : tie.Need-slice-aggregate-put-field
-slice-aggregate-put-field c = search needs
-
-number-requires : tie.Need-number-requires
-number-requires c κs = search needs
-
-cast-put-field : tie.Need-cast-put-field
-cast-put-field c = search needs
-
-put-field-requires : tie.Need-put-field-requires
-put-field-requires c κs = search needs
-
 put-requires : tie.Need-put-requires
 put-requires c κs = omega (arith, field-end _ _ (c .before .before .before .put-field .ensures))
 
-same-length : tie.Need-same-length
-same-length c = search needs
-
 returns : tie.Need-returns
 unfolding refusalText
-returns c = wrote-then (rw (c .before .before .before .before .before .before .before .number .ensures) at (c .before .before .before .before .before .before .put-field .ensures)) (c .before .before .put .ensures)
+returns c =
+    let at-put-field = c .before .before .before .before .before .before in
+    let at-number = at-put-field .before in
+    wrote-then (rw (at-number .number .ensures) at (at-put-field .put-field .ensures)) (c .before .before .put .ensures)
 
 pub refusal-text-spec : {M : Type 1} → statement M
 refusal-text-spec =
     tie.close
     (tie.spec
-    slice-aggregate-put-field
-    number-requires
-    cast-put-field
-    put-field-requires
+    (λ c. search needs) (λ c κs. search needs) (λ c. search needs) (λ c κs. search needs)
     put-requires
-    same-length
+    (λ c. search needs)
     returns)

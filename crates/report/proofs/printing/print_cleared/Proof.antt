@@ -4,77 +4,38 @@ use Rattle.report.proofs.printing.Printing.{prints-refused, prints-clea
 use Rattle.report.proofs.printing.print_cleared.Statement.{statement}
 use Rattle.report.proofs.printing.print_cleared.Tie as tie
 
-clear-requires : tie.Need-clear-requires
-clear-requires c κs = search needs
-
-enum-known-answer : tie.Need-enum-known-answer
-enum-known-answer c = search needs
-
-refusal-text-requires : tie.Need-refusal-text-requires
-refusal-text-requires c κs = search needs
-
-enum-known-answer-2 : tie.Need-enum-known-answer-2
-enum-known-answer-2 c = search needs
-
-clearing-text-requires : tie.Need-clearing-text-requires
-clearing-text-requires c κs = search needs
-
-same-length : tie.Need-same-length
-same-length c = search needs
-
-same-length-2 : tie.Need-same-length-2
-same-length-2 c = search needs
-
-same-length-3 : tie.Need-same-length-3
-same-length-3 c = search needs
-
-same-length-4 : tie.Need-same-length-4
-same-length-4 c = search needs
-
-same-length-5 : tie.Need-same-length-5
-same-length-5 c = search needs
+abbrev entry-before-clear : tie.After-clear → tie.Start
+entry-before-clear p =
+    p .before .before .before .before .before .before .before .before .before .before .before .before .before .before
 
 returns : tie.Need-returns
-returns c = let l = c .before .before .before .before .before .before .before .before .before .before .before .before .before .before .before .before .before .before .before .before .before .before .before .before .before .before .before .before .before .pre .1 in
-    prints-refused _ _ (clear-refused _ _ _ _ (c .before .before .before .before .before .before .before .before .before .before .before .before .before .before .before .clear .ensures) (record { stations-long = l .0; charges-long = l .1; sold-long = l .2; paid-long = l .3 }) _ (c .before .before .before .before .before .answer .given .1)) (c .before .before .refusal-text .ensures)
-
-same-length-6 : tie.Need-same-length-6
-same-length-6 c = search needs
-
-same-length-7 : tie.Need-same-length-7
-same-length-7 c = search needs
-
-same-length-8 : tie.Need-same-length-8
-same-length-8 c = search needs
-
-same-length-9 : tie.Need-same-length-9
-same-length-9 c = search needs
-
-same-length-10 : tie.Need-same-length-10
-same-length-10 c = search needs
+returns c =
+    let at-answer = c .before .before .before .before .before in
+    let at-clear = at-answer .before .before .before .before .before .before .before .before .before .before in
+    let entry = entry-before-clear at-clear in
+    let l = entry .pre .1 in
+    prints-refused _ _ (clear-refused _ _ _ _ (at-clear .clear .ensures)
+    (record { stations-long = l .0; charges-long = l .1; sold-long = l .2; paid-long = l .3 }) _
+    (at-answer .answer .given .1)) (c .before .before .refusal-text .ensures)
 
 returns-2 : tie.Need-returns-2
-returns-2 c = let l = c .before .before .before .before .before .before .before .before .before .before .before .before .before .before .before .before .before .before .before .before .before .before .before .before .before .before .before .before .before .before .before .before .before .pre .1 in
-    prints-cleared _ _ _ _ (clear-cleared _ _ _ _ (c .before .before .before .before .before .before .before .before .before .before .before .before .before .before .before .before .before .before .before .clear .ensures) (record { stations-long = l .0; charges-long = l .1; sold-long = l .2; paid-long = l .3 }) _ _ (c .before .before .before .before .before .before .before .before .before .answer2 .given .1)) (c .before .before .before .before .before .before .before .before .before .before .before .before .before .before .before .before .before .before .before .before .before .before .before .before .before .before .before .before .before .before .before .before .before .pre .0 .0) (c .before .before .before .before .before .before .before .before .before .before .before .before .before .before .before .before .before .before .before .before .before .before .before .before .before .before .before .before .before .before .before .before .before .pre .0 .1) (c .before .before .clearing-text .ensures)
+returns-2 c =
+    let at-answer2 = c .before .before .before .before .before .before .before .before .before in
+    let at-clear = at-answer2 .before .before .before .before .before .before .before .before .before .before in
+    let entry = entry-before-clear at-clear in
+    let l = entry .pre .1 in
+    prints-cleared _ _ _ _ (clear-cleared _ _ _ _ (at-clear .clear .ensures)
+    (record { stations-long = l .0; charges-long = l .1; sold-long = l .2; paid-long = l .3 }) _ _
+    (at-answer2 .answer2 .given .1)) (entry .pre .0 .0) (entry .pre .0 .1)
+    (c .before .before .clearing-text .ensures)
 
 pub print-cleared-spec : {M : Type 1} → statement M
 print-cleared-spec =
     tie.close
     (tie.spec
-    clear-requires
-    enum-known-answer
-    refusal-text-requires
-    enum-known-answer-2
-    clearing-text-requires
-    same-length
-    same-length-2
-    same-length-3
-    same-length-4
-    same-length-5
+    (λ c κs. search needs) (λ c. search needs) (λ c κs. search needs) (λ c. search needs)
+    (λ c κs. search needs) (λ c. search needs) (λ c. search needs) (λ c. search needs) (λ c. search needs)
+    (λ c. search needs)
     returns
-    same-length-6
-    same-length-7
-    same-length-8
-    same-length-9
-    same-length-10
+    (λ c. search needs) (λ c. search needs) (λ c. search needs) (λ c. search needs) (λ c. search needs)
     returns-2)

@@ -22,22 +22,6 @@ abbrev put-number-below : ℕ → In 1 put-number-kinds.ps
 put-number-below t =
     and 1 put-number-kinds.ps (falls 1 put-number-kinds.ps _<_ μ-put-number t) put-number.Pre
 
-put-number-cast-digit : (t : ℕ) → put-number-lts.Need-cast-digit (
-  put-reads.Asked,
-  put-reads.Learnt,
-  put-number-below t,
-  put-number.Post,
-) (put-number-at t) put-number.Post
-put-number-cast-digit t c = search needs
-
-put-number-add-digit : (t : ℕ) → put-number-lts.Need-add-digit (
-  put-reads.Asked,
-  put-reads.Learnt,
-  put-number-below t,
-  put-number.Post,
-) (put-number-at t) put-number.Post
-put-number-add-digit t c = search needs
-
 put-number-put-requires : (t : ℕ) → put-number-lts.Need-put-requires (
   put-reads.Asked,
   put-reads.Learnt,
@@ -46,21 +30,14 @@ put-number-put-requires : (t : ℕ) → put-number-lts.Need-put-requires (
 ) (put-number-at t) put-number.Post
 put-number-put-requires t c κs = omega (arith, c .before .before .before .pre .1)
 
-put-number-same-length : (t : ℕ) → put-number-lts.Need-same-length (
-  put-reads.Asked,
-  put-reads.Learnt,
-  put-number-below t,
-  put-number.Post,
-) (put-number-at t) put-number.Post
-put-number-same-length t c = search needs
-
 put-number-returns : (t : ℕ) → put-number-lts.Need-returns (
   put-reads.Asked,
   put-reads.Learnt,
   put-number-below t,
   put-number.Post,
 ) (put-number-at t) put-number.Post
-put-number-returns t c = λ k b. wrote-digit k _ (c .before .before .before .before .if1 .taken) (c .before .before .put .ensures)
+put-number-returns t c =
+    λ k b. wrote-digit k _ (c .before .before .before .before .if1 .taken) (c .before .before .put .ensures)
 
 put-number-put-number-requires : (t : ℕ) → put-number-lts.Need-put-number-requires (
   put-reads.Asked,
@@ -68,7 +45,9 @@ put-number-put-number-requires : (t : ℕ) → put-number-lts.Need-put-number-re
   put-number-below t,
   put-number.Post,
 ) (put-number-at t) put-number.Post
-put-number-put-number-requires t c κs = (omega (arith, c .before .before .before .pre .0, c .before .if1 .left), c .before .before .before .pre .1)
+put-number-put-number-requires t c κs =
+    let entry = c .before .before .before in
+    (omega (arith, entry .pre .0, c .before .if1 .left), entry .pre .1)
 
 put-number-put-requires-2 : (t : ℕ) → put-number-lts.Need-put-requires-2 (
   put-reads.Asked,
@@ -76,15 +55,15 @@ put-number-put-requires-2 : (t : ℕ) → put-number-lts.Need-put-requires-2 (
   put-number-below t,
   put-number.Post,
 ) (put-number-at t) put-number.Post
-put-number-put-requires-2 t c κs = omega (arith, c .before .before .before .put-number .ensures 18 (tenth-digits _ (omega arith)) .next, length-digits 19 (c .before .before .before .before .before .before .before .args .x / 10), c .before .before .before .before .before .before .before .pre .1)
-
-put-number-same-length-2 : (t : ℕ) → put-number-lts.Need-same-length-2 (
-  put-reads.Asked,
-  put-reads.Learnt,
-  put-number-below t,
-  put-number.Post,
-) (put-number-at t) put-number.Post
-put-number-same-length-2 t c = search needs
+put-number-put-requires-2 t c κs =
+    let at-put-number = c .before .before .before in
+    let entry = at-put-number .before .before .before .before in
+    omega (
+      arith,
+      at-put-number .put-number .ensures 18 (tenth-digits _ (omega arith)) .next,
+      length-digits 19 (entry .args .x / 10),
+      entry .pre .1,
+    )
 
 put-number-returns-2 : (t : ℕ) → put-number-lts.Need-returns-2 (
   put-reads.Asked,
@@ -92,7 +71,10 @@ put-number-returns-2 : (t : ℕ) → put-number-lts.Need-returns-2 (
   put-number-below t,
   put-number.Post,
 ) (put-number-at t) put-number.Post
-put-number-returns-2 t c = λ k b. wrote-last k _ (c .before .before .before .before .before .before .before .before .if1 .left) b (c .before .before .before .before .before .before .put-number .ensures) (c .before .before .put2 .ensures)
+put-number-returns-2 t c =
+    let at-put-number = c .before .before .before .before .before .before in
+    let at-if1 = at-put-number .before .before in
+    λ k b. wrote-last k _ (at-if1 .if1 .left) b (at-put-number .put-number .ensures) (c .before .before .put2 .ensures)
 
 pub +put-number-spec : {M : Type 1} → statement M
 +put-number-spec = close μ-put-number λ t. put-number-lts.spec (
@@ -103,12 +85,11 @@ pub +put-number-spec : {M : Type 1} → statement M
 )
     (put-number-at t)
     put-number.Post
-    (put-number-cast-digit t)
-    (put-number-add-digit t)
+    (λ c. search needs) (λ c. search needs)
     (put-number-put-requires t)
-    (put-number-same-length t)
+    (λ c. search needs)
     (put-number-returns t)
     (put-number-put-number-requires t)
     (put-number-put-requires-2 t)
-    (put-number-same-length-2 t)
+    (λ c. search needs)
     (put-number-returns-2 t)

@@ -16,20 +16,19 @@ abbrev μ-loop : tie.MeasureT-loop
 loop-holds : tie.Need-loop-holds Inv-loop μ-loop
 loop-holds c = (search needs, wrote-none _ _)
 
-shared-slice-read-put : tie.Need-shared-slice-read-put Inv-loop μ-loop
-shared-slice-read-put c = search needs
-
 put-requires : tie.Need-put-requires Inv-loop μ-loop
-put-requires c κs = omega (arith, c .before .before .before .loop .inv .1 .next, length-take (c .before .before .before .loop .k) (c .before .before .before .before .before .before .args .word .now))
-
-add-k : tie.Need-add-k Inv-loop μ-loop
-add-k c = search needs
-
-loop-less : tie.Need-loop-less Inv-loop μ-loop
-loop-less c = search needs
+put-requires c κs =
+    let at-loop = c .before .before .before in
+    let entry = at-loop .before .before .before in
+    omega (arith, at-loop .loop .inv .1 .next, length-take (at-loop .loop .k) (entry .args .word .now))
 
 loop-again : tie.Need-loop-again Inv-loop μ-loop
-loop-again c = (omega arith, wrote-next _ _ (c .before .before .before .before .before .before .loop .inv .1) (c .before .before .before .before .before .loop-test .taken) (c .before .before .put .ensures))
+loop-again c =
+    let at-loop-test = c .before .before .before .before .before in
+    let at-loop = at-loop-test .before in (
+      omega arith,
+      wrote-next _ _ (at-loop .loop .inv .1) (at-loop-test .loop-test .taken) (c .before .before .put .ensures),
+    )
 
 same-length : tie.Need-same-length Inv-loop μ-loop
 same-length c = c .before .loop .inv .1 .same
@@ -44,10 +43,9 @@ put-word-spec =
     Inv-loop
     μ-loop
     loop-holds
-    shared-slice-read-put
+    (λ c. search needs)
     put-requires
-    add-k
-    loop-less
+    (λ c. search needs) (λ c. search needs)
     loop-again
     same-length
     returns)

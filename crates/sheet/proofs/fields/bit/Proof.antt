@@ -5,11 +5,8 @@ use Rattle.model.proofs.sheet.Fields.{bit-is}
 use Rattle.sheet.proofs.fields.bit.Statement.{statement}
 use Rattle.sheet.proofs.fields.bit.Tie as tie
 
-shr-result : tie.Need-shr-result
-shr-result c = search needs
-
 returns : tie.Need-returns
 returns c = sym (bit-is _ _)
 
 pub bit-spec : {M : Type 1} → statement M
-bit-spec = tie.close (tie.spec shr-result returns)
+bit-spec = tie.close (tie.spec (λ c. search needs) returns)

@@ -16,35 +16,30 @@ abbrev μ-loop : tie.MeasureT-loop
 
 -- at most 4 bytes are passed before a turn
 low : (c : tie.In-loop Inv-loop μ-loop) → c .before .loop .x < 4294967296
-low c = omega (arith, number-four (c .before .before .before .args .s .now) (λ i. omega (arith, c .before .before .shared-slice-known .given i)) (c .before .before .before .args .at + c .before .loop .left) (c .before .before .before .args .k - c .before .loop .left) (omega arith))
+low c =
+    let entry = c .before .before .before in
+    omega (
+      arith,
+      number-four (entry .args .s .now) (λ i. omega (arith, c .before .before .shared-slice-known .given i))
+          (entry .args .at + c .before .loop .left) (entry .args .k - c .before .loop .left) (omega arith),
+    )
 
 loop-holds : tie.Need-loop-holds Inv-loop μ-loop
 loop-holds c = (search needs, number-none _ _ _)
 
-sub-left : tie.Need-sub-left Inv-loop μ-loop
-sub-left c = search needs
-
 mul-x : tie.Need-mul-x Inv-loop μ-loop
 mul-x c = omega (arith, low c)
-
-add-wide : tie.Need-add-wide Inv-loop μ-loop
-add-wide c = search needs
-
-shared-slice-read-wide : tie.Need-shared-slice-read-wide Inv-loop μ-loop
-shared-slice-read-wide c = search needs
-
-wide-requires : tie.Need-wide-requires Inv-loop μ-loop
-wide-requires c κs = search needs
 
 add-x : tie.Need-add-x Inv-loop μ-loop
 add-x c = omega (arith, low (c .before .before))
 
-loop-less : tie.Need-loop-less Inv-loop μ-loop
-loop-less c = search needs
-
 loop-again : tie.Need-loop-again Inv-loop μ-loop
 loop-again c =
-    (search needs, number-turn _ _ _ _ _ _ (c .before .before .loop-test .taken) (c .before .before .before .loop .inv .0) (c .before .before .before .loop .inv .1) (c .wide .ensures .0))
+    let at-loop = c .before .before .before in (
+      search needs,
+      number-turn _ _ _ _ _ _ (c .before .before .loop-test .taken) (at-loop .loop .inv .0) (at-loop .loop .inv .1)
+          (c .wide .ensures .0),
+    )
 
 returns : tie.Need-returns Inv-loop μ-loop
 returns c = number-end _ _ _ _ _ (c .loop-test .left) (c .before .loop .inv .1)
@@ -56,12 +51,10 @@ number-spec =
     Inv-loop
     μ-loop
     loop-holds
-    sub-left
+    (λ c. search needs)
     mul-x
-    add-wide
-    shared-slice-read-wide
-    wide-requires
+    (λ c. search needs) (λ c. search needs) (λ c κs. search needs)
     add-x
-    loop-less
+    (λ c. search needs)
     loop-again
     returns)

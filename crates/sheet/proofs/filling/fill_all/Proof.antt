@@ -14,38 +14,34 @@ use Rattle.sheet.proofs.filling.fill_all.Statement.{statement}
 use Rattle.sheet.proofs.filling.fill_all.Tie as tie
 
 abbrev Inv-loop : tie.InvT-loop
-Inv-loop s stations base bids₀ d₀ j₀ bids d j = (j ≤ stations) × (d .at ≡ d₀ .at + 4 * j) × Filled (take base bids₀ ++ list j (λ k. number s (d₀ .at + 4 * k) 4)) bids₀ bids
+Inv-loop s stations base bids₀ d₀ j₀ bids d j =
+    (j ≤ stations) × (d .at ≡ d₀ .at + 4 * j)
+    × Filled (take base bids₀ ++ list j (λ k. number s (d₀ .at + 4 * k) 4)) bids₀ bids
 
 abbrev μ-loop : tie.MeasureT-loop
 μ-loop s stations base bids₀ d₀ j₀ bids d j = stations - j
 
 loop-holds : tie.Need-loop-holds Inv-loop μ-loop
-loop-holds c = (search needs, search needs, row-start _ (c .before .before .args .bids .now) (c .before .before .args .base) (omega arith))
+loop-holds c = (
+  search needs,
+  search needs,
+  row-start _ (c .before .before .args .bids .now) (c .before .before .args .base) (omega arith),
+)
 
 four-requires : tie.Need-four-requires Inv-loop μ-loop
 four-requires c κs = omega arith
 
-add-bids : tie.Need-add-bids Inv-loop μ-loop
-add-bids c = search needs
-
-mul-bids : tie.Need-mul-bids Inv-loop μ-loop
-mul-bids c = search needs
-
 slice-write-bids : tie.Need-slice-write-bids Inv-loop μ-loop
 slice-write-bids c = omega (arith, c .before .before .loop .inv .2 .same)
 
-add-j : tie.Need-add-j Inv-loop μ-loop
-add-j c = search needs
-
-loop-less : tie.Need-loop-less Inv-loop μ-loop
-loop-less c = search needs
-
 loop-again : tie.Need-loop-again Inv-loop μ-loop
-loop-again c = (
-  search needs,
-  omega (arith, c .before .four .ensures .place),
-  row-turn _ _ _ _ _ _ (c .before .before .before .loop .inv .2) (omega arith) (moved _ 4 _ _ (c .before .four .ensures .value) (c .before .before .before .loop .inv .1)),
-)
+loop-again c =
+    let at-loop = c .before .before .before in (
+      search needs,
+      omega (arith, c .before .four .ensures .place),
+      row-turn _ _ _ _ _ _ (at-loop .loop .inv .2) (omega arith)
+          (moved _ 4 _ _ (c .before .four .ensures .value) (at-loop .loop .inv .1)),
+    )
 
 same-length : tie.Need-same-length Inv-loop μ-loop
 same-length c = c .before .loop .inv .2 .same
@@ -63,11 +59,9 @@ fill-all-spec =
     μ-loop
     loop-holds
     four-requires
-    add-bids
-    mul-bids
+    (λ c. search needs) (λ c. search needs)
     slice-write-bids
-    add-j
-    loop-less
+    (λ c. search needs) (λ c. search needs)
     loop-again
     same-length
     returns)

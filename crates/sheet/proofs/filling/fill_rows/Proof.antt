@@ -1,4 +1,5 @@
--- The loop: the tables hold the first i rows, and d is where the next one starts. No field ends early, for each row is sound.
+-- The loop: the tables hold the first i rows, and d is where the next one starts. No field ends early,
+-- for each row is sound.
 use Prim.Native.Nat.{_≤_, _-_}
 use mathlib.Core.Path.{_≡_, _∙_}
 use native.Mathlib.Nat.{le-antisymm}
@@ -15,59 +16,94 @@ use Rattle.sheet.proofs.filling.fill_rows.Statement.{statement}
 use Rattle.sheet.proofs.filling.fill_rows.Tie as tie
 
 abbrev Inv-loop : tie.InvT-loop
-Inv-loop s guests stations amounts₀ bids₀ d₀ i₀ amounts bids d i = (i ≤ guests) × (d .at ≡ rowAt s stations i) × Filled (list i (amountOf s stations)) amounts₀ amounts × Filled (joined i (λ k. list stations (bidOf s stations k))) bids₀ bids
+Inv-loop s guests stations amounts₀ bids₀ d₀ i₀ amounts bids d i =
+    (i ≤ guests) × (d .at ≡ rowAt s stations i) × Filled (list i (amountOf s stations)) amounts₀ amounts
+    × Filled (joined i (λ k. list stations (bidOf s stations k))) bids₀ bids
 
 abbrev μ-loop : tie.MeasureT-loop
 μ-loop s guests stations amounts₀ bids₀ d₀ i₀ amounts bids d i = guests - i
 
-sound : (c : tie.In-loop Inv-loop μ-loop) → RowSound (c .before .before .before .before .before .args .s .now) (c .before .before .before .before .before .args .stations) (c .before .loop .d .at)
-sound c = sound-at _ _ _ _ _ (c .before .before .before .before .before .pre .2) (c .loop-test .taken) (c .before .loop .inv .1)
+abbrev entry-before-loop : tie.At-loop Inv-loop μ-loop → tie.Start Inv-loop μ-loop
+entry-before-loop p = p .before .before .before .before
 
-taken : (c : tie.After-map Inv-loop μ-loop) → MapTaken (c .before .before .before .before .before .before .before .args .s .now) (c .before .before .before .before .before .before .before .args .stations) (c .before .before .before .loop .d .at) (c .map .result .bits) (c .map .result .next .at)
-taken c = map-taken _ _ _ (c .before .two .result .next .at) _ _ (c .before .two .ensures .place) (omega (arith, c .before .two .ensures .place, sound (c .before .before) .map-in, bids-at (c .before .before .before .before .before .before .before .args .stations) (c .before .before .before .loop .d .at))) (c .map .ensures)
+sound : (c : tie.In-loop Inv-loop μ-loop) →
+    let entry = c .before .before .before .before .before in
+    RowSound (entry .args .s .now) (entry .args .stations) (c .before .loop .d .at)
+sound c =
+    let entry = entry-before-loop (c .before) in
+    sound-at _ _ _ _ _ (entry .pre .2) (c .loop-test .taken) (c .before .loop .inv .1)
+
+taken : (c : tie.After-map Inv-loop μ-loop) →
+    let at-loop = c .before .before .before in
+    let entry = at-loop .before .before .before .before in
+    MapTaken (entry .args .s .now) (entry .args .stations) (at-loop .loop .d .at) (c .map .result .bits)
+    (c .map .result .next .at)
+taken c =
+    let at-loop = c .before .before .before in
+    let entry = entry-before-loop at-loop in
+    map-taken _ _ _ (c .before .two .result .next .at) _ _ (c .before .two .ensures .place)
+    (omega (
+      arith,
+      c .before .two .ensures .place,
+      sound (c .before .before) .map-in,
+      bids-at (entry .args .stations) (at-loop .loop .d .at),
+    )) (c .map .ensures)
 
 loop-holds : tie.Need-loop-holds Inv-loop μ-loop
 loop-holds c = (search needs, c .before .before .before .pre .1, filled-start _ _, rows-start _ _ _)
 
 two-requires : tie.Need-two-requires Inv-loop μ-loop
-two-requires c κs = omega (arith, sound c .map-in, bids-at (c .before .before .before .before .before .args .stations) (c .before .loop .d .at))
+two-requires c κs =
+    let entry = entry-before-loop (c .before) in
+    omega (arith, sound c .map-in, bids-at (entry .args .stations) (c .before .loop .d .at))
 
 map-requires : tie.Need-map-requires Inv-loop μ-loop
-map-requires c κs = (omega arith, omega (arith, c .two .ensures .place, sound (c .before) .map-in, bids-at (c .before .before .before .before .before .before .args .stations) (c .before .before .loop .d .at)))
-
-mul-amounts : tie.Need-mul-amounts Inv-loop μ-loop
-mul-amounts c = search needs
+map-requires c κs =
+    let entry = entry-before-loop (c .before .before) in (
+      omega arith,
+      omega (
+        arith,
+        c .two .ensures .place,
+        sound (c .before) .map-in,
+        bids-at (entry .args .stations) (c .before .before .loop .d .at),
+      ),
+    )
 
 slice-write-amounts : tie.Need-slice-write-amounts Inv-loop μ-loop
 slice-write-amounts c = omega (arith, c .before .before .before .loop .inv .2 .same)
 
 mul-fill-row : tie.Need-mul-fill-row Inv-loop μ-loop
-mul-fill-row c = omega (arith, room _ _ _ _ (c .before .before .loop-test .taken) (c .before .before .before .before .before .before .before .pre .4))
+mul-fill-row c =
+    let entry = entry-before-loop (c .before .before .before) in
+    omega (arith, room _ _ _ _ (c .before .before .loop-test .taken) (entry .pre .4))
 
 fill-row-requires : tie.Need-fill-row-requires Inv-loop μ-loop
 fill-row-requires c κs =
-    let t = taken (c .before) in let r = sound (c .before .before .before) in (
+    let at-loop-test = c .before .before .before in
+    let at-loop = at-loop-test .before in
+    let entry = entry-before-loop at-loop in
+    let t = taken (c .before) in
+    let r = sound at-loop-test in (
       omega arith,
       rw (t .map) (r .no-stray),
       omega (arith, to-next t, r .bids-in),
-      omega (arith, c .before .before .before .before .loop .inv .3 .same, room _ _ _ _ (c .before .before .before .loop-test .taken) (c .before .before .before .before .before .before .before .before .pre .4)),
+      omega (arith, at-loop .loop .inv .3 .same, room _ _ _ _ (at-loop-test .loop-test .taken) (entry .pre .4)),
       omega arith,
     )
-
-add-i : tie.Need-add-i Inv-loop μ-loop
-add-i c = search needs
-
-loop-less : tie.Need-loop-less Inv-loop μ-loop
-loop-less c = search needs
 
 loop-again : tie.Need-loop-again Inv-loop μ-loop
 unfolding amountOf
 loop-again c =
-    let t = taken (c .before .before .before .before) in let p = c .before .before .before .before .before .before .before .loop .inv .1 in (
+    let after-map = c .before .before .before .before in
+    let at-two = after-map .before in
+    let at-loop = at-two .before .before in
+    let t = taken after-map in
+    let p = at-loop .loop .inv .1 in (
       search needs,
       c .before .before .fill-row .ensures .place ∙ to-next t ∙ rows-to _ _ _ _ p,
-      filled-turn _ _ _ _ _ (c .before .before .before .before .before .before .before .loop .inv .2) (omega arith) (moved _ 2 _ _ (c .before .before .before .before .before .two .ensures .value) p),
-      rows-turn _ _ _ _ _ _ _ _ _ (c .before .before .before .before .before .before .before .loop .inv .3) p t (c .before .before .fill-row .kept .1 .1 .1 .1 .1 .0) (c .before .before .fill-row .ensures .bids-are),
+      filled-turn _ _ _ _ _ (at-loop .loop .inv .2) (omega arith) (moved _ 2 _ _ (at-two .two .ensures .value) p),
+      rows-turn _ _ _ _ _ _ _ _ _ (at-loop .loop .inv .3) p t (c .before .before .fill-row .kept .1 .1 .1 .1 .1 .0)
+          (c .before .before .fill-row .ensures .bids-are),
     )
 
 same-length : tie.Need-same-length Inv-loop μ-loop
@@ -79,7 +115,10 @@ same-length-2 c = c .before .loop .inv .3 .same
 returns : tie.Need-returns Inv-loop μ-loop
 returns c =
     let e = le-antisymm (c .before .loop .inv .0) (c .loop-test .left) in
-    record { amounts-are = filled-end _ _ _ _ _ (c .before .loop .inv .2) e; bids-are = rows-end _ _ _ _ _ _ (c .before .loop .inv .3) e }
+    record {
+      amounts-are = filled-end _ _ _ _ _ (c .before .loop .inv .2) e;
+      bids-are = rows-end _ _ _ _ _ _ (c .before .loop .inv .3) e;
+    }
 
 pub fill-rows-spec : {M : Type 1} → statement M
 fill-rows-spec =
@@ -90,12 +129,11 @@ fill-rows-spec =
     loop-holds
     two-requires
     map-requires
-    mul-amounts
+    (λ c. search needs)
     slice-write-amounts
     mul-fill-row
     fill-row-requires
-    add-i
-    loop-less
+    (λ c. search needs) (λ c. search needs)
     loop-again
     same-length
     same-length-2

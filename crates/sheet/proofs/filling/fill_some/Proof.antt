@@ -16,40 +16,45 @@ use Rattle.sheet.proofs.filling.fill_some.Statement.{statement}
 use Rattle.sheet.proofs.filling.fill_some.Tie as tie
 
 abbrev Inv-loop : tie.InvT-loop
-Inv-loop s bits stations base bids₀ d₀ j₀ bids d j = (j ≤ stations) × (d .at ≡ d₀ .at + 4 * count j (hasBit bits)) × Filled (take base bids₀ ++ list j (bidBy s bits (d₀ .at))) bids₀ bids
+Inv-loop s bits stations base bids₀ d₀ j₀ bids d j =
+    (j ≤ stations) × (d .at ≡ d₀ .at + 4 * count j (hasBit bits))
+    × Filled (take base bids₀ ++ list j (bidBy s bits (d₀ .at))) bids₀ bids
 
 abbrev μ-loop : tie.MeasureT-loop
 μ-loop s bits stations base bids₀ d₀ j₀ bids d j = stations - j
 
 loop-holds : tie.Need-loop-holds Inv-loop μ-loop
-loop-holds c = (search needs, omega (arith, count-start (hasBit (c .before .before .args .bits))), row-start _ (c .before .before .args .bids .now) (c .before .before .args .base) (omega arith))
+loop-holds c = (
+  search needs,
+  omega (arith, count-start (hasBit (c .before .before .args .bits))),
+  row-start _ (c .before .before .args .bids .now) (c .before .before .args .base) (omega arith),
+)
 
 take-bid-requires : tie.Need-take-bid-requires Inv-loop μ-loop
 take-bid-requires c κs =
-    let f = hasBit (c .before .before .before .before .args .bits) in
-    (omega arith, omega (arith, count-step (c .before .loop .j) f, count-up (c .before .loop .j + 1) (c .before .before .before .before .args .stations) f (omega arith)), omega arith)
-
-add-bids : tie.Need-add-bids Inv-loop μ-loop
-add-bids c = search needs
-
-mul-bids : tie.Need-mul-bids Inv-loop μ-loop
-mul-bids c = search needs
+    let entry = c .before .before .before .before in
+    let f = hasBit (entry .args .bits) in (
+      omega arith,
+      omega (
+        arith,
+        count-step (c .before .loop .j) f,
+        count-up (c .before .loop .j + 1) (entry .args .stations) f (omega arith),
+      ),
+      omega arith,
+    )
 
 slice-write-bids : tie.Need-slice-write-bids Inv-loop μ-loop
 slice-write-bids c = omega (arith, c .before .before .loop .inv .2 .same)
 
-add-j : tie.Need-add-j Inv-loop μ-loop
-add-j c = search needs
-
-loop-less : tie.Need-loop-less Inv-loop μ-loop
-loop-less c = search needs
-
 loop-again : tie.Need-loop-again Inv-loop μ-loop
-loop-again c = (
-  search needs,
-  omega (arith, c .before .take-bid .ensures .place, count-step (c .before .before .before .loop .j) (hasBit (c .before .before .before .before .before .before .args .bits))),
-  row-turn _ _ _ _ _ _ (c .before .before .before .loop .inv .2) (omega arith) (bid-is _ _ _ _ _ _ (c .before .before .before .loop .inv .1) (c .before .take-bid .ensures .value)),
-)
+loop-again c =
+    let at-loop = c .before .before .before in
+    let entry = at-loop .before .before .before in (
+      search needs,
+      omega (arith, c .before .take-bid .ensures .place, count-step (at-loop .loop .j) (hasBit (entry .args .bits))),
+      row-turn _ _ _ _ _ _ (at-loop .loop .inv .2) (omega arith)
+          (bid-is _ _ _ _ _ _ (at-loop .loop .inv .1) (c .before .take-bid .ensures .value)),
+    )
 
 same-length : tie.Need-same-length Inv-loop μ-loop
 same-length c = c .before .loop .inv .2 .same
@@ -57,7 +62,10 @@ same-length c = c .before .loop .inv .2 .same
 returns : tie.Need-returns Inv-loop μ-loop
 returns c =
     let e = le-antisymm (c .before .loop .inv .0) (c .loop-test .left) in
-    record { place = omega (arith, ap (λ k. count k (hasBit (c .before .before .before .before .args .bits))) e); bids-are = row-end _ _ _ _ _ _ (c .before .loop .inv .2) e }
+    record {
+      place = omega (arith, ap (λ k. count k (hasBit (c .before .before .before .before .args .bits))) e);
+      bids-are = row-end _ _ _ _ _ _ (c .before .loop .inv .2) e;
+    }
 
 pub fill-some-spec : {M : Type 1} → statement M
 fill-some-spec =
@@ -67,11 +75,9 @@ fill-some-spec =
     μ-loop
     loop-holds
     take-bid-requires
-    add-bids
-    mul-bids
+    (λ c. search needs) (λ c. search needs)
     slice-write-bids
-    add-j
-    loop-less
+    (λ c. search needs) (λ c. search needs)
     loop-again
     same-length
     returns)

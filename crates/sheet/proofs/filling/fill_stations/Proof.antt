@@ -13,7 +13,8 @@ use Rattle.sheet.proofs.filling.fill_stations.Statement.{statement}
 use Rattle.sheet.proofs.filling.fill_stations.Tie as tie
 
 abbrev Inv-loop : tie.InvT-loop
-Inv-loop s stations asks₀ bays₀ d₀ j₀ asks bays d j = (j ≤ stations) × (d .at ≡ 4 + 6 * j) × Filled (list j (askOf s)) asks₀ asks × Filled (list j (baysOf s)) bays₀ bays
+Inv-loop s stations asks₀ bays₀ d₀ j₀ asks bays d j =
+    (j ≤ stations) × (d .at ≡ 4 + 6 * j) × Filled (list j (askOf s)) asks₀ asks × Filled (list j (baysOf s)) bays₀ bays
 
 abbrev μ-loop : tie.MeasureT-loop
 μ-loop s stations asks₀ bays₀ d₀ j₀ asks bays d j = stations - j
@@ -27,32 +28,22 @@ four-requires c κs = omega arith
 two-requires : tie.Need-two-requires Inv-loop μ-loop
 two-requires c κs = omega (arith, c .four .ensures .place)
 
-mul-asks : tie.Need-mul-asks Inv-loop μ-loop
-mul-asks c = search needs
-
 slice-write-asks : tie.Need-slice-write-asks Inv-loop μ-loop
 slice-write-asks c = omega (arith, c .before .before .before .loop .inv .2 .same)
-
-mul-bays : tie.Need-mul-bays Inv-loop μ-loop
-mul-bays c = search needs
 
 slice-write-bays : tie.Need-slice-write-bays Inv-loop μ-loop
 slice-write-bays c = omega (arith, c .before .before .before .loop .inv .3 .same)
 
-add-j : tie.Need-add-j Inv-loop μ-loop
-add-j c = search needs
-
-loop-less : tie.Need-loop-less Inv-loop μ-loop
-loop-less c = search needs
-
 loop-again : tie.Need-loop-again Inv-loop μ-loop
 unfolding askOf baysOf
 loop-again c =
-    let a = c .before .before .four .ensures in let b = c .before .two .ensures in (
+    let at-loop = c .before .before .before .before in
+    let a = c .before .before .four .ensures in
+    let b = c .before .two .ensures in (
       search needs,
       omega (arith, a .place, b .place),
-      filled-turn _ _ _ _ _ (c .before .before .before .before .loop .inv .2) (omega arith) (moved _ 4 _ _ (a .value) (c .before .before .before .before .loop .inv .1)),
-      filled-turn _ _ _ _ _ (c .before .before .before .before .loop .inv .3) (omega arith) (moved _ 2 _ _ (b .value) (omega (arith, a .place))),
+      filled-turn _ _ _ _ _ (at-loop .loop .inv .2) (omega arith) (moved _ 4 _ _ (a .value) (at-loop .loop .inv .1)),
+      filled-turn _ _ _ _ _ (at-loop .loop .inv .3) (omega arith) (moved _ 2 _ _ (b .value) (omega (arith, a .place))),
     )
 
 same-length : tie.Need-same-length Inv-loop μ-loop
@@ -63,9 +54,10 @@ same-length-2 c = c .before .loop .inv .3 .same
 
 returns : tie.Need-returns Inv-loop μ-loop
 returns c =
+    let entry = c .before .before .before .before .before in
     let e = le-antisymm (c .before .loop .inv .0) (c .loop-test .left) in
     record {
-      place = omega (arith, first-row (c .before .before .before .before .before .args .s .now) (c .before .before .before .before .before .args .stations));
+      place = omega (arith, first-row (entry .args .s .now) (entry .args .stations));
       asks-are = filled-end _ _ _ _ _ (c .before .loop .inv .2) e;
       bays-are = filled-end _ _ _ _ _ (c .before .loop .inv .3) e;
     }
@@ -79,12 +71,11 @@ fill-stations-spec =
     loop-holds
     four-requires
     two-requires
-    mul-asks
+    (λ c. search needs)
     slice-write-asks
-    mul-bays
+    (λ c. search needs)
     slice-write-bays
-    add-j
-    loop-less
+    (λ c. search needs) (λ c. search needs)
     loop-again
     same-length
     same-length-2

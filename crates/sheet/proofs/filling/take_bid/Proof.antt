@@ -8,36 +8,59 @@ use Rattle.sheet.proofs.filling.Bids.{only-less, scaled, field-in, fiel
 use Rattle.sheet.proofs.filling.take_bid.Statement.{statement}
 use Rattle.sheet.proofs.filling.take_bid.Tie as tie
 
-bit-requires : tie.Need-bit-requires
-bit-requires c κs = search needs
-
 mul-skip : tie.Need-mul-skip
-mul-skip c = let p = c .before .before .before .args .c .at in omega (arith, scaled (hasBit (c .before .before .before .args .bits) (c .before .before .before .args .station)) p _ (c .before .bit .ensures), only-less (hasBit (c .before .before .before .args .bits) (c .before .before .before .args .station)) p, c .before .before .before .pre .1)
+mul-skip c =
+    let entry = c .before .before .before in
+    let p = entry .args .c .at in
+    omega (
+      arith,
+      scaled (hasBit (entry .args .bits) (entry .args .station)) p _ (c .before .bit .ensures),
+      only-less (hasBit (entry .args .bits) (entry .args .station)) p,
+      entry .pre .1,
+    )
 
 four-requires : tie.Need-four-requires
-four-requires c κs = let p = c .before .before .before .args .c .at in omega (arith, scaled (hasBit (c .before .before .before .args .bits) (c .before .before .before .args .station)) p _ (c .before .bit .ensures), field-in (hasBit (c .before .before .before .args .bits) (c .before .before .before .args .station)) p _ (c .before .before .before .pre .1) (c .before .before .before .pre .2))
+four-requires c κs =
+    let entry = c .before .before .before in
+    let p = entry .args .c .at in
+    omega (
+      arith,
+      scaled (hasBit (entry .args .bits) (entry .args .station)) p _ (c .before .bit .ensures),
+      field-in (hasBit (entry .args .bits) (entry .args .station)) p _ (entry .pre .1) (entry .pre .2),
+    )
 
 cast-t9 : tie.Need-cast-t9
-cast-t9 c = omega (arith, c .before .before .bit .ensures, only-less (hasBit (c .before .before .before .before .args .bits) (c .before .before .before .before .args .station)) 1)
+cast-t9 c =
+    let entry = c .before .before .before .before in
+    omega (arith, c .before .before .bit .ensures, only-less (hasBit (entry .args .bits) (entry .args .station)) 1)
 
 mul-t10 : tie.Need-mul-t10
-mul-t10 c = let v = c .before .four .result .value in omega (arith, scaled (hasBit (c .before .before .before .before .before .args .bits) (c .before .before .before .before .before .args .station)) v _ (c .before .before .before .bit .ensures), only-less (hasBit (c .before .before .before .before .before .args .bits) (c .before .before .before .before .before .args .station)) v)
-
-mul-skip-2 : tie.Need-mul-skip-2
-mul-skip-2 c = search needs
-
-skip-requires : tie.Need-skip-requires
-skip-requires c κs = search needs
+mul-t10 c =
+    let at-bit = c .before .before .before in
+    let entry = at-bit .before .before in
+    let v = c .before .four .result .value in
+    omega (
+      arith,
+      scaled (hasBit (entry .args .bits) (entry .args .station)) v _ (at-bit .bit .ensures),
+      only-less (hasBit (entry .args .bits) (entry .args .station)) v,
+    )
 
 returns : tie.Need-returns
 returns c =
-    let e = c .before .before .before .before .bit .ensures in let set = hasBit (c .before .before .before .before .before .before .args .bits) (c .before .before .before .before .before .before .args .station) in let p = c .before .before .before .before .before .before .args .c .at in
+    let at-bit = c .before .before .before .before in
+    let entry = at-bit .before .before in
+    let e = at-bit .bit .ensures in
+    let set = hasBit (entry .args .bits) (entry .args .station) in
+    let p = entry .args .c .at in
     record {
-      value = scaled set _ _ e ∙ ap (only set) (c .before .before .four .ensures .value ∙ ap (λ q. number (c .before .before .before .before .before .before .args .s .now) q 4) (scaled set p _ e)) ∙ field-value _ set p;
+      value = scaled set _ _ e
+          ∙ ap (only set) (c .before .before .four .ensures .value
+          ∙ ap (λ q. number (entry .args .s .now) q 4) (scaled set p _ e)) ∙ field-value _ set p;
       place = omega (arith, c .skip .ensures, e);
     }
 
 pub take-bid-spec : {M : Type 1} → statement M
 take-bid-spec =
     tie.close
-    (tie.spec bit-requires mul-skip four-requires cast-t9 mul-t10 mul-skip-2 skip-requires returns)
+    (tie.spec (λ c κs. search needs) mul-skip four-requires cast-t9 mul-t10 (λ c. search needs)
+    (λ c κs. search needs) returns)

@@ -11,75 +11,98 @@ use Rattle.sheet.proofs.passes.Steps.{step-fault, step-next}
 use Rattle.sheet.proofs.passes.check_row.Statement.{statement}
 use Rattle.sheet.proofs.passes.check_row.Tie as tie
 
-taken : (c : tie.After-map) → MapTaken (c .before .before .before .before .before .before .before .before .args .s .now) (c .before .before .before .before .before .before .before .before .args .stations) (c .before .before .before .before .before .before .before .before .args .c .at) (c .map .result .bits) (c .map .result .next .at)
-taken c = map-taken _ _ _ (c .before .before .before .before .skip .result .at) _ _ (c .before .before .before .before .skip .ensures) (omega (arith, lt-no _ _ (sym (c .before .before .ends2 .ensures) ∙ c .before .if2 .left), c .before .before .before .map-width .ensures)) (c .map .ensures)
-
-ends-requires : tie.Need-ends-requires
-ends-requires c κs = search needs
+taken : (c : tie.After-map) →
+    let entry = c .before .before .before .before .before .before .before .before in
+    MapTaken (entry .args .s .now) (entry .args .stations) (entry .args .c .at) (c .map .result .bits)
+    (c .map .result .next .at)
+taken c =
+    let at-map-width = c .before .before .before in
+    let at-skip = at-map-width .before in
+    map-taken _ _ _ (at-skip .skip .result .at) _ _ (at-skip .skip .ensures) (omega (
+      arith,
+      lt-no _ _ (sym (c .before .before .ends2 .ensures) ∙ c .before .if2 .left),
+      at-map-width .map-width .ensures,
+    )) (c .map .ensures)
 
 returns : tie.Need-returns
 returns c = step-fault _ _ _ (amount-ends _ _ _ (lt-yes _ _ (sym (c .before .ends .ensures) ∙ c .if1 .taken)))
 
-skip-requires : tie.Need-skip-requires
-skip-requires c κs = search needs
-
-map-width-requires : tie.Need-map-width-requires
-map-width-requires c κs = search needs
-
 ends-requires-2 : tie.Need-ends-requires-2
-ends-requires-2 c κs = omega (arith, lt-no _ _ (sym (c .before .before .before .ends .ensures) ∙ c .before .before .if1 .left), c .before .skip .ensures)
+ends-requires-2 c κs =
+    omega (
+      arith,
+      lt-no _ _ (sym (c .before .before .before .ends .ensures) ∙ c .before .before .if1 .left),
+      c .before .skip .ensures,
+    )
 
 returns-2 : tie.Need-returns-2
 returns-2 c =
-    let h = lt-no _ _ (sym (c .before .before .before .before .before .ends .ensures) ∙ c .before .before .before .before .if1 .left) in
+    let at-skip = c .before .before .before in
+    let at-if1 = at-skip .before in
+    let at-ends = at-if1 .before in
+    let entry = at-ends .before .before in
+    let h = lt-no _ _ (sym (at-ends .ends .ensures) ∙ at-if1 .if1 .left) in
     let g = lt-yes _ _ (sym (c .before .ends2 .ensures) ∙ c .if2 .taken) in
-    step-fault _ _ _ (map-ends _ _ _ h (omega (arith, g, c .before .before .before .skip .ensures, c .before .before .map-width .ensures, bids-at (c .before .before .before .before .before .before .before .args .stations) (c .before .before .before .before .before .before .before .args .c .at))))
+    step-fault _ _ _ (map-ends _ _ _ h (omega (
+      arith,
+      g,
+      at-skip .skip .ensures,
+      c .before .before .map-width .ensures,
+      bids-at (entry .args .stations) (entry .args .c .at),
+    )))
 
 map-requires : tie.Need-map-requires
-map-requires c κs = (omega arith, omega (arith, lt-no _ _ (sym (c .before .ends2 .ensures) ∙ c .if2 .left), c .before .before .map-width .ensures))
-
-shr-if3 : tie.Need-shr-if3
-shr-if3 c = search needs
+map-requires c κs = (
+  omega arith,
+  omega (arith, lt-no _ _ (sym (c .before .ends2 .ensures) ∙ c .if2 .left), c .before .before .map-width .ensures),
+)
 
 returns-3 : tie.Need-returns-3
 returns-3 c = step-fault _ _ _ (stray (taken (c .before .before)) (omega (arith, c .if3 .taken)))
 
-count-bits-requires : tie.Need-count-bits-requires
-count-bits-requires c κs = search needs
-
 mul-size : tie.Need-mul-size
-mul-size c = omega (arith, c .count-bits .ensures, count-most 64 (hasBit (c .before .before .before .map .result .bits)))
+mul-size c =
+    omega (arith, c .count-bits .ensures, count-most 64 (hasBit (c .before .before .before .map .result .bits)))
 
 ends-requires-3 : tie.Need-ends-requires-3
-ends-requires-3 c κs = omega (arith, taken (c .before .before .before .before) .to, taken (c .before .before .before .before) .within)
+ends-requires-3 c κs =
+    let after-map = c .before .before .before .before in
+    omega (arith, taken after-map .to, taken after-map .within)
 
 returns-4 : tie.Need-returns-4
 returns-4 c =
+    let count-bits = c .before .before .before .count-bits in
+    let if3 = c .before .before .before .before .if3 in
     let h = lt-yes _ _ (sym (c .before .ends3 .ensures) ∙ c .if4 .taken) in
-    step-fault _ _ _ (bids-end (taken (c .before .before .before .before .before .before)) (omega arith) (c .before .before .before .before .if3 .left) (omega (arith, h, c .before .before .before .count-bits .ensures)))
+    step-fault _ _ _ (bids-end (taken (c .before .before .before .before .before .before)) (omega arith) (if3 .left)
+    (omega (arith, h, count-bits .ensures)))
 
 skip-requires-2 : tie.Need-skip-requires-2
 skip-requires-2 c κs = omega (arith, lt-no _ _ (sym (c .before .ends3 .ensures) ∙ c .if4 .left))
 
 returns-5 : tie.Need-returns-5
 returns-5 c =
-    let h = lt-no _ _ (sym (c .before .before .ends3 .ensures) ∙ c .before .if4 .left) in let n = c .before .before .before .before .count-bits .ensures in let t = taken (c .before .before .before .before .before .before .before) in
-    step-next _ _ _ (row-good t (omega arith) (c .before .before .before .before .before .if3 .left) (omega (arith, h, n))) (omega (arith, c .skip2 .ensures, n, next-is t (omega arith) (c .before .before .before .before .before .if3 .left)))
+    let count-bits = c .before .before .before .before .count-bits in
+    let if3 = c .before .before .before .before .before .if3 in
+    let h = lt-no _ _ (sym (c .before .before .ends3 .ensures) ∙ c .before .if4 .left) in
+    let n = count-bits .ensures in
+    let t = taken (c .before .before .before .before .before .before .before) in
+    step-next _ _ _ (row-good t (omega arith) (if3 .left) (omega (arith, h, n)))
+    (omega (arith, c .skip2 .ensures, n, next-is t (omega arith) (if3 .left)))
 
 pub check-row-spec : {M : Type 1} → statement M
 check-row-spec =
     tie.close
     (tie.spec
-    ends-requires
+    (λ c κs. search needs)
     returns
-    skip-requires
-    map-width-requires
+    (λ c κs. search needs) (λ c κs. search needs)
     ends-requires-2
     returns-2
     map-requires
-    shr-if3
+    (λ c. search needs)
     returns-3
-    count-bits-requires
+    (λ c κs. search needs)
     mul-size
     ends-requires-3
     returns-4

@@ -13,7 +13,8 @@ use Rattle.sheet.proofs.passes.check_rows.Statement.{statement}
 use Rattle.sheet.proofs.passes.check_rows.Tie as tie
 
 abbrev Inv-loop : tie.InvT-loop
-Inv-loop s guests stations d₀ i₀ d i = (i ≤ guests) × (d .at ≡ rowAt s stations i) × (d .at ≤ length s) × (firstFault (rowsFaults s stations i) ≡ accepted)
+Inv-loop s guests stations d₀ i₀ d i =
+    (i ≤ guests) × (d .at ≡ rowAt s stations i) × (d .at ≤ length s) × (firstFault (rowsFaults s stations i) ≡ accepted)
 
 abbrev μ-loop : tie.MeasureT-loop
 μ-loop s guests stations d₀ i₀ d i = guests - i
@@ -21,33 +22,25 @@ abbrev μ-loop : tie.MeasureT-loop
 loop-holds : tie.Need-loop-holds Inv-loop μ-loop
 loop-holds c = (search needs, c .before .pre .2, search needs, rows-none _ _)
 
-check-row-requires : tie.Need-check-row-requires Inv-loop μ-loop
-check-row-requires c κs = search needs
-
-enum-known-e : tie.Need-enum-known-e Inv-loop μ-loop
-enum-known-e c = search needs
-
-enum-known-r : tie.Need-enum-known-r Inv-loop μ-loop
-enum-known-r c = search needs
-
 returns : tie.Need-returns Inv-loop μ-loop
 returns c =
-    let f = told-fault _ _ _ _ (c .before .before .before .check-row .ensures) (c .before .r .given .1) in
-    step-fault _ _ _ (rows-fault _ _ _ _ _ (c .before .before .before .before .loop-test .taken) (c .before .before .before .before .before .loop .inv .1) (c .before .before .before .before .before .loop .inv .3) f)
-
-add-i : tie.Need-add-i Inv-loop μ-loop
-add-i c = search needs
-
-loop-less : tie.Need-loop-less Inv-loop μ-loop
-loop-less c = search needs
+    let at-check-row = c .before .before .before in
+    let at-loop-test = at-check-row .before in
+    let at-loop = at-loop-test .before in
+    let f = told-fault _ _ _ _ (at-check-row .check-row .ensures) (c .before .r .given .1) in
+    step-fault _ _ _
+    (rows-fault _ _ _ _ _ (at-loop-test .loop-test .taken) (at-loop .loop .inv .1) (at-loop .loop .inv .3) f)
 
 loop-again : tie.Need-loop-again Inv-loop μ-loop
 loop-again c =
-    let t = told-next _ _ _ _ (c .before .before .before .check-row .ensures) (c .before .e .given .1) in let p = c .before .before .before .before .before .loop .inv .1 in (
+    let at-check-row = c .before .before .before in
+    let at-loop = at-check-row .before .before in
+    let t = told-next _ _ _ _ (at-check-row .check-row .ensures) (c .before .e .given .1) in
+    let p = at-loop .loop .inv .1 in (
       search needs,
       t .1 ∙ rows-to _ _ _ _ p,
       omega (arith, t .1, row-sound _ _ _ (t .0) .bids-in),
-      rows-more _ _ _ _ p (c .before .before .before .before .before .loop .inv .3) (t .0),
+      rows-more _ _ _ _ p (at-loop .loop .inv .3) (t .0),
     )
 
 returns-2 : tie.Need-returns-2 Inv-loop μ-loop
@@ -62,11 +55,8 @@ check-rows-spec =
     Inv-loop
     μ-loop
     loop-holds
-    check-row-requires
-    enum-known-e
-    enum-known-r
+    (λ c κs. search needs) (λ c. search needs) (λ c. search needs)
     returns
-    add-i
-    loop-less
+    (λ c. search needs) (λ c. search needs)
     loop-again
     returns-2)

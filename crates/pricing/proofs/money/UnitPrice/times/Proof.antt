@@ -6,16 +6,10 @@ use borrow.Author.Needs.{needs}
 use Rattle.pricing.proofs.money.UnitPrice.times.Statement.{statement}
 use Rattle.pricing.proofs.money.UnitPrice.times.Tie as tie
 
-cast-t3 : tie.Need-cast-t3
-cast-t3 c = search needs
-
 mul-t5 : tie.Need-mul-t5
 mul-t5 c =
     let low : c .before .args .self .0 ≤ 4294967295 = omega arith in
     record { fits = omega (arith, mul-le-mul-right (c .before .args .kwh) low) }
 
-returns : tie.Need-returns
-returns c = search needs
-
 pub times-spec : {M : Type 1} → statement M
-times-spec = tie.close (tie.spec cast-t3 mul-t5 returns)
+times-spec = tie.close (tie.spec (λ c. search needs) mul-t5 (λ c. search needs))

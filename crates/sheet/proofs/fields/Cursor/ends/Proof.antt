@@ -5,11 +5,8 @@ use Rattle.model.proofs.sheet.Fields.{ends-test}
 use Rattle.sheet.proofs.fields.Cursor.ends.Statement.{statement}
 use Rattle.sheet.proofs.fields.Cursor.ends.Tie as tie
 
-sub-result : tie.Need-sub-result
-sub-result c = search needs
-
 returns : tie.Need-returns
 returns c = ends-test _ _ _ (omega arith)
 
 pub ends-spec : {M : Type 1} → statement M
-ends-spec = tie.close (tie.spec sub-result returns)
+ends-spec = tie.close (tie.spec (λ c. search needs) returns)

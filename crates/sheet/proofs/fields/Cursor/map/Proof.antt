@@ -6,9 +6,6 @@ use Rattle.model.specs.sheet.Fields.{number, mapWidth}
 use Rattle.sheet.proofs.fields.Cursor.map.Statement.{statement}
 use Rattle.sheet.proofs.fields.Cursor.map.Tie as tie
 
-map-width-requires : tie.Need-map-width-requires
-map-width-requires c κs = search needs
-
 number-requires : tie.Need-number-requires
 unfolding mapWidth
 number-requires c κs = let e = c .map-width .ensures in (omega arith, omega (arith, e))
@@ -17,7 +14,9 @@ skip-requires : tie.Need-skip-requires
 skip-requires c κs = omega (arith, c .before .map-width .ensures)
 
 returns : tie.Need-returns
-returns c = let e = c .before .before .map-width .ensures in record { value = c .before .number .ensures ∙ ap (number _ _) e; place = omega (arith, c .skip .ensures, e) }
+returns c =
+    let e = c .before .before .map-width .ensures in
+    record { value = c .before .number .ensures ∙ ap (number _ _) e; place = omega (arith, c .skip .ensures, e) }
 
 pub map-spec : {M : Type 1} → statement M
-map-spec = tie.close (tie.spec map-width-requires number-requires skip-requires returns)
+map-spec = tie.close (tie.spec (λ c κs. search needs) number-requires skip-requires returns)
