@@ -2,8 +2,8 @@
 use crate::turns;
 use model::limits::MAX_GUESTS;
 use model::limits::MAX_STATIONS;
+use model::money::UnitPrice;
 use pricing::charges;
-use pricing::money::UnitPrice;
 ghost use Prim.Native.Nat.{_+_, _<_};
 ghost use mathlib.Core.Path.{_≡_};
 ghost use lib.ListN.{length};

@@ -1,6 +1,6 @@
 // Offers of a station's places to guests.
 use crate::signed;
-use pricing::money::Mills;
+use model::money::Mills;
 ghost use Prim.Native.Nat.{_+_, _-_, _^_, _<_, _≤_};
 ghost use mathlib.Core.Bool.{true};
 ghost use mathlib.Core.Path.{_≡_};

@@ -1,7 +1,7 @@
 // Guests' totals at one station, in a table of 32-bit numbers, and the greatest. For `turns`, whose market is accepted: that gives
 // what is required here.
 use crate::signed;
-use pricing::money::UnitPrice;
+use model::money::UnitPrice;
 ghost use Prim.Native.Nat.{ℕ, _+_, _*_, _<_, _≤_};
 ghost use mathlib.Core.Path.{_≡_};
 ghost use lib.ListN.{length, getD};

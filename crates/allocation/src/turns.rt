@@ -3,7 +3,7 @@ use crate::offers;
 use crate::selection;
 use crate::ties;
 use crate::totals;
-use pricing::money::UnitPrice;
+use model::money::UnitPrice;
 ghost use Prim.Native.Nat.{_+_, _<_};
 ghost use mathlib.Core.Path.{_≡_};
 ghost use lib.ListN.{length, getD};

@@ -3,4 +3,5 @@
 pub mod account;
 pub mod answers;
 pub mod limits;
+pub mod money;
 pub mod refusal;

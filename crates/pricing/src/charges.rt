@@ -1,6 +1,6 @@
 // The least charges, and the charges of those who chose a station.
-use crate::money::Mills;
-use crate::money::UnitPrice;
+use model::money::Mills;
+use model::money::UnitPrice;
 ghost use Prim.Native.Nat.{ℕ, _+_, _*_, _-_, _<_, _≤_, max};
 ghost use mathlib.Core.Path.{_≡_};
 ghost use lib.ListN.{length, getD};

@@ -1,5 +1,5 @@
 // The cut: the ask at the middle place of a list of asks.
-use crate::money::UnitPrice;
+use model::money::UnitPrice;
 ghost use Prim.Native.Nat.{max};
 ghost use mathlib.Core.Path.{_≡_};
 ghost use Rattle.pricing.specs.MedianAsk.{under, eligible, medianAsk};

@@ -2,5 +2,4 @@
 pub mod charges;
 pub mod cut;
 pub mod margin;
-pub mod money;
 pub mod sales;

@@ -1,5 +1,5 @@
 // What the house keeps: the sum of the charges above the least.
-use crate::money::Mills;
+use model::money::Mills;
 ghost use Prim.Native.Nat.{_-_, _<_, _≤_};
 ghost use mathlib.Core.Path.{_≡_};
 ghost use lib.ListN.{length, getD};

@@ -1,6 +1,6 @@
 // What each station sold and is paid.
-use crate::money::UnitPrice;
 use model::limits::MAX_STATIONS;
+use model::money::UnitPrice;
 ghost use Prim.Native.Nat.{ℕ, _-_, _<_, _≤_};
 ghost use mathlib.Core.Path.{_≡_};
 ghost use lib.ListN.{length, getD};

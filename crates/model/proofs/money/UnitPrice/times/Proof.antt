@@ -3,8 +3,8 @@ use Prim.Native.Nat.{_≤_}
 use native.Mathlib.Nat.{mul-le-mul-right}
 use native.Mathlib.Omega.{arith}
 use borrow.Author.Needs.{needs}
-use Rattle.pricing.proofs.money.UnitPrice.times.Statement.{statement}
-use Rattle.pricing.proofs.money.UnitPrice.times.Tie as tie
+use Rattle.model.proofs.money.UnitPrice.times.Statement.{statement}
+use Rattle.model.proofs.money.UnitPrice.times.Tie as tie
 
 mul-t5 : tie.Need-mul-t5
 mul-t5 c =
