@@ -1,5 +1,12 @@
--- The refusals of document 01 by number.
+-- Document 01's number and values for each case of the enums that calls answer with.
 use Prim.Native.Nat.{ℕ}
+use Rattle.model.specs.Refusals.{Answer, accepted, refused}
+use Rattle.model.specs.declared.answers.Reading.{Reading}
+use Rattle.model.specs.declared.answers.Reading.the-variants as reading
+use Rattle.model.specs.declared.answers.Clearing.{Clearing}
+use Rattle.model.specs.declared.answers.Clearing.the-variants as clearing
+use Rattle.model.specs.declared.answers.Reply.{Reply}
+use Rattle.model.specs.declared.answers.Reply.the-variants as reply
 use Rattle.model.specs.declared.refusal.Refusal.{Refusal}
 use Rattle.model.specs.declared.refusal.Refusal.the-variants.{SheetEnds, CountsOutOfRange, StrayBit}
 use Rattle.model.specs.declared.refusal.Refusal.the-variants.{TrailingBytes, LengthsDiffer, AskOutOfRange}
@@ -21,3 +28,18 @@ number LentLengths = 10
 number RoundOutOfTurn = 11
 number AccountOverLimit = 12
 number BookSize = 13
+
+-- of the reader: n and m
+unfoldable pub answerOfReading : Reading → Answer (ℕ × ℕ)
+answerOfReading (reading.Read n m) = accepted (n, m)
+answerOfReading (reading.Refused r) = refused (number r)
+
+-- of a clearing: the cut and the margin
+unfoldable pub answerOfClearing : Clearing → Answer (ℕ × ℕ)
+answerOfClearing (clearing.Cleared cut margin) = accepted (cut .0, margin .0)
+answerOfClearing (clearing.Refused r) = refused (number r)
+
+-- of a posting
+unfoldable pub answerOfReply : Reply → Answer Unit
+answerOfReply reply.Posted = accepted tt
+answerOfReply (reply.Refused r) = refused (number r)

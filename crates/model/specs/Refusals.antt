@@ -1,26 +1,38 @@
--- Tables of (condition, refusal), of which the first that holds is answered.
+-- Answers, and the tables of faults that they come from. A refusal is document 01's number.
 use Prim.Native.Nat.{ℕ}
 use mathlib.Core.Bool.{Bool, true, false}
 use mathlib.Core.List.{List, [], _∷_}
-use Rattle.model.specs.Numbers.{number}
-use Rattle.model.specs.declared.refusal.Refusal.{Refusal}
 
--- a row of a table: where the condition holds, the refusal is answered
+-- what a call comes to: accepted with this, or refused with that number
+pub data Answer (A : Type 0) : Type 0 where
+  accepted : A → Answer A
+  refused : ℕ → Answer A
+
+-- a row of a table of faults: where the condition holds, the call is refused with the number
 infix 20 _gives_
 pub data Row : Type 0 where
-  _gives_ : Bool → Refusal → Row
+  _gives_ : Bool → ℕ → Row
 
-pub data Verdict : Type 0 where
-  accepted : Verdict
-  refused : Refusal → Verdict
+-- the number of the first row whose condition holds
+abbrev pub Verdict : Type 0
+Verdict = Answer Unit
 
--- the first row whose condition holds
 unfoldable pub firstFault : List Row → Verdict
-firstFault [] = accepted
-firstFault ((true gives r) ∷ rows) = refused r
-firstFault ((false gives r) ∷ rows) = firstFault rows
+firstFault [] = accepted tt
+firstFault ((true gives k) ∷ rows) = refused k
+firstFault ((false gives k) ∷ rows) = firstFault rows
 
--- a verdict as one number: 0 where accepted, else the refusal's
-unfoldable pub code : Verdict → ℕ
-code accepted = 0
-code (refused r) = number r
+-- the answer with this value where it accepts
+unfoldable pub giving : {A B : Type 0} → Answer A → B → Answer B
+giving (accepted a) b = accepted b
+giving (refused k) b = refused k
+
+-- what is lent, afterwards: new where the call is accepted, else as it was
+unfoldable pub updated : {A B : Type 0} → Answer A → (new old : B) → B
+updated (accepted a) new old = new
+updated (refused k) new old = old
+
+-- the answer as one number: 0 where accepted
+unfoldable pub numberOf : {A : Type 0} → Answer A → ℕ
+numberOf (accepted a) = 0
+numberOf (refused k) = k

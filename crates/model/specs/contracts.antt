@@ -5,5 +5,4 @@ pub mod PostsOut
 pub mod Prints
 pub mod Reads
 pub mod ReadsOut
-pub mod Replies
 pub mod Rows

@@ -8,14 +8,16 @@ use lib.ListN.{getD}
 use lib.IntN.{pos, negsuc}
 use lib.Signed.{_≤ℤ_}
 use Rattle.model.specs.Counting.{_<?_, _≤?_, _=?_, _and_, _or_, only, sum, greatest, count, some, any, list}
-use Rattle.model.specs.Refusals.{firstFault}
+use Rattle.model.specs.Refusals.{firstFault, giving, updated}
 use Rattle.model.specs.market.Market.{Tables, bidAt, marketBy, median, byNumber, market, cut, opens, screen}
 use Rattle.model.specs.market.Market.{queue, before, rank, provisional, critical, tables}
 use Rattle.model.specs.market.Mechanism.{at, charge, charged, sold, paid, margin, better, best, surplus, truthful}
 use Rattle.model.specs.market.Outcome.{Results, settle, seen, decided, outcome, results}
 use Rattle.model.specs.market.Faults.{outside, counts, lengths, lent, values, clearingFaults}
 use Rattle.model.specs.claims.Truth.{AlikeButForGuest, AlikeButForStation}
-use Rattle.model.specs.contracts.Clears.{answerTo, resultsOf, Clears}
+use Rattle.model.specs.contracts.Clears.{Clears}
+use Rattle.model.specs.Numbers.{answerOfClearing}
+use Rattle.model.specs.declared.answers.Clearing.{Clearing}
 use Rattle.model.specs.claims.Calls.{ClearedCall, guestGainIn, stationGainIn, CallWithin}
 use Rattle.model.specs.declared.answers.Clearing.the-variants.{Cleared}
 use Rattle.model.proofs.claims.Calls.{guest-truthful-calls, station-truthful-calls, call-limits}
@@ -35,13 +37,26 @@ overbid = tables (2 ∷ 6 ∷ []) (1 ∷ 1 ∷ []) (3 ∷ 2 ∷ []) (9 ∷ 0 ∷
 abbrev pub overask : Tables
 overask = tables (7 ∷ 6 ∷ []) (1 ∷ 1 ∷ []) (3 ∷ 2 ∷ []) (9 ∷ 0 ∷ 10 ∷ 0 ∷ []) 2
 
+abbrev cleared : (cut margin : ℕ) → Clearing
+cleared cut margin = Cleared (record { 0 = cut }) (record { 0 = margin })
+
 -- the three calls, by computation
 abbrev pub called :
-    (t : Tables) (cut margin : ℕ) (exit : Results) → Clears t lists (Cleared cut margin) exit → ClearedCall t
-called t cut margin exit c = record { entry = lists; cut = cut; margin = margin; exit = exit; call = c }
+    (t : Tables) (cut margin : ℕ) (exit : Results) → Clears t lists (cleared cut margin) exit → ClearedCall t
+unfolding answerOfClearing
+called t cut margin exit c =
+    record {
+      entry = lists;
+      answer = cleared cut margin;
+      cut = cut;
+      margin = margin;
+      exit = exit;
+      call = c;
+      cleared = refl;
+    }
 
 pub calls : ClearedCall honest × ClearedCall overbid × ClearedCall overask
-unfolding answerTo resultsOf firstFault clearingFaults counts lengths lent values outside any some _<?_ _≤?_ _=?_ _and_
+unfolding answerOfClearing giving updated firstFault clearingFaults counts lengths lent values outside any some _<?_ _≤?_ _=?_ _and_
     _or_ only sum greatest count list bidAt marketBy median byNumber market cut opens screen queue before rank
     provisional critical at charge charged sold paid margin better best surplus truthful settle seen decided outcome
 calls = (

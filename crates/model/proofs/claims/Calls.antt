@@ -5,7 +5,8 @@ use native.Mathlib.Omega.{arith}
 use lib.IntN.{subℕ}
 use lib.ListN.{getD, length}
 use Rattle.model.specs.Counting.{_=?_, only, sum}
-use Rattle.model.specs.Refusals.{Verdict, accepted, refused, firstFault}
+use Rattle.model.specs.Refusals.{accepted, firstFault}
+use Rattle.model.proofs.Refusals.{gave-accepted, gave-refused, updated-accepted, updated-refused}
 use Rattle.model.specs.market.Market.{Tables, bidAt, marketBy, median, market, screen}
 use Rattle.model.specs.market.Mechanism.{at, charged, obtained, served, sold, paid, margin}
 use Rattle.model.specs.market.Outcome.{Results, settle, seen, decided, outcome}
@@ -15,43 +16,32 @@ use Rattle.model.specs.claims.Truth.{ClearsWithin}
 use Rattle.model.proofs.Counting.{sum-cong, count-cong, getD-list}
 use Rattle.model.proofs.market.Acceptance.{accepted-reads}
 use Rattle.model.proofs.claims.Truth.{guest-truthful, station-truthful, clearing-limits}
-use Rattle.model.specs.contracts.Clears.{answerTo, resultsOf}
 use Rattle.model.specs.claims.Calls.{RefusedLeaves, ClearedCall, guestGainIn, stationGainIn, GuestTruthfulCalls}
 use Rattle.model.specs.claims.Calls.{StationTruthfulCalls, CallWithin, CallLimits}
-use Rattle.model.specs.declared.answers.Clearing.the-variants.{Cleared, Refused}
-use Rattle.model.specs.declared.refusal.Refusal.{Refusal}
 use Rattle.model.proofs.contracts.Accepts.{accepts}
 
 pub refused-leaves : RefusedLeaves
-unfolding answerTo resultsOf
-refused-leaves t entry exit r c = go (firstFault (clearingFaults t entry)) (c .answered) (c .left)
-  where
-    go : (v : Verdict) → Refused r ≡ answerTo v (outcome t) → exit ≡ resultsOf v (outcome t) entry → exit ≡ entry
-    go accepted e l = absurd (let z : _≡_ {A = ℕ} 0 1 = cc in omega arith)
-    go (refused x) e l = l
+refused-leaves t entry exit answer k e c =
+    c .left ∙ updated-refused _ _ k (gave-refused _ _ k (sym (c .answered) ∙ e))
 
 module _ (t : Tables) (k : ClearedCall t) where
-  no-fault : firstFault (clearingFaults t (k .entry)) ≡ accepted
-  unfolding answerTo
-  no-fault = go (firstFault (clearingFaults t (k .entry))) (k .call .answered)
-    where
-      go : (v : Verdict) → Cleared (k .cut) (k .margin) ≡ answerTo v (outcome t) → v ≡ accepted
-      go accepted e = refl
-      go (refused r) e = absurd (let z : _≡_ {A = ℕ} 0 1 = cc in omega arith)
+  told :
+      (firstFault (clearingFaults t (k .entry)) ≡ accepted tt)
+      × (_≡_ {A = ℕ × ℕ} ((outcome t) .cut, (outcome t) .margin) (k .cut, k .margin))
+  told = gave-accepted _ _ _ (sym (k .call .answered) ∙ k .cleared)
+
+  no-fault : firstFault (clearingFaults t (k .entry)) ≡ accepted tt
+  no-fault = told .0
 
   is-accepted : Accepted t
   is-accepted = accepted-reads t .1 (accepts t (k .entry) no-fault .within)
 
   leaves : k .exit ≡ (outcome t) .results
-  unfolding resultsOf
-  leaves = k .call .left ∙ ap (λ v. resultsOf v (outcome t) (k .entry)) no-fault
+  leaves = k .call .left ∙ updated-accepted _ _ no-fault
 
   margin-is : k .margin ≡ margin (seen t) (decided t)
-  unfolding answerTo outcome settle
-  margin-is =
-      let e : Cleared (k .cut) (k .margin) ≡ Cleared ((outcome t) .cut) ((outcome t) .margin) = k .call .answered
-      ∙ ap (λ v. answerTo v (outcome t)) no-fault in
-      cc
+  unfolding outcome settle
+  margin-is = sym (ap (λ p. p .1) (told .1))
 
   station-of : (i : ℕ) → i < length (t .amounts) → getD (k .exit .stations) i 0 ≡ (decided t) .assigned i
   unfolding outcome settle seen screen market marketBy

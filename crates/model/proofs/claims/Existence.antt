@@ -4,13 +4,13 @@ use mathlib.Core.List.{List, [], _∷_}
 use mathlib.Core.Path.{_≡_, refl, sym, ap, _∙_}
 use native.Mathlib.Omega.{arith}
 use lib.ListN.{length}
-use Rattle.model.specs.Refusals.{Verdict, accepted, refused}
+use Rattle.model.specs.Refusals.{Verdict, accepted, refused, updated}
 use Rattle.model.specs.book.Book.{Book, entered}
 use Rattle.model.specs.book.Records.{account, soldOf, paidOf}
 use Rattle.model.specs.declared.account.StationAccount.{StationAccount}
 use Rattle.model.proofs.book.Records.{length-sold, length-paid}
 use Rattle.model.specs.book.Posting.{Posting}
-use Rattle.model.specs.book.PlainBook.{answer, settled, after}
+use Rattle.model.specs.book.PlainBook.{answer, after}
 use Rattle.model.specs.book.LentBook.{LentBook, book, blank, plain}
 use Rattle.model.specs.claims.Ledger.{Calls, none, call, CallsExist}
 use Rattle.model.proofs.book.Accounts.{length-raised}
@@ -55,9 +55,9 @@ even-plain B = length-sold (B .stations) ∙ sym (length-paid (B .stations))
 
 by-verdict :
     (b : Book) (p : Posting) → length (b .sold) ≡ length (b .paid) → (v : Verdict)
-    → length (settled v b p .sold) ≡ length (settled v b p .paid)
-unfolding settled entered
-by-verdict b p e accepted = length-raised _ _ _ ∙ e ∙ sym (length-raised _ _ _)
+    → let c = updated v (entered (p .tables) (p .round) b) b in length (c .sold) ≡ length (c .paid)
+unfolding updated entered
+by-verdict b p e (accepted _) = length-raised _ _ _ ∙ e ∙ sym (length-raised _ _ _)
 by-verdict b p e (refused r) = e
 
 even-after :

@@ -8,7 +8,7 @@ use lib.ListN.{getD, length, replicate, length-replicate, getD-replicate}
 use Rattle.model.specs.Counting.{_<?_, any}
 use Rattle.model.specs.market.Mechanism.{charged, paid}
 use Rattle.model.specs.market.Outcome.{seen, decided}
-use Rattle.model.specs.Refusals.{Verdict, accepted, refused}
+use Rattle.model.specs.Refusals.{Verdict, accepted, refused, updated}
 use Rattle.model.specs.book.Book.{Book, entered}
 use Rattle.model.specs.book.Faults.{overLimit}
 use Rattle.model.specs.claims.Readings.{PostingWithinLimits}
@@ -18,7 +18,7 @@ use Rattle.model.proofs.market.Acceptance.{posting-accepted-reads}
 use Rattle.model.proofs.claims.Truth.{balanced}
 use Rattle.model.proofs.book.Records.{length-sold, getD-sold, getD-paid}
 use Rattle.model.specs.book.Posting.{Posting, toGuest, toSold, toPaid, toHouse}
-use Rattle.model.specs.book.PlainBook.{empty, answer, settled, after, answers, final, kept, rounds, total}
+use Rattle.model.specs.book.PlainBook.{empty, answer, after, answers, final, kept, rounds, total}
 use Rattle.model.specs.book.PlainBook.{together}
 use Rattle.model.specs.book.LentBook.{LentBook, blank, plain}
 use Rattle.model.specs.claims.Ledger.{Calls, none, call, Kept, BookKept}
@@ -29,7 +29,7 @@ use Rattle.model.proofs.book.LentBook.{plain-blank}
 abbrev Fits : Book → Posting → Type 0
 Fits B p = PostingWithinLimits (p .tables) (p .round) B
 
-fits : (B : Book) (p : Posting) → answer B p ≡ accepted → Fits B p
+fits : (B : Book) (p : Posting) → answer B p ≡ accepted tt → Fits B p
 unfolding answer
 fits B p e = posting-accepted-reads (p .tables) (p .round) B .0 e
 
@@ -46,8 +46,8 @@ module _ (P : Book → Type 0) (value : Book → ℕ) (more : Posting → ℕ)
       → P (final (after B p) ps)
       × (value (final (after B p) ps)
       ≡ value B + total more (kept (answer B p) p (rounds ps (answers (after B p) ps))))
-  unfolding after settled kept total
-  step ps B p h ih accepted e =
+  unfolding after updated kept total
+  step ps B p h ih (accepted _) e =
       let f = fits B p e in
       let i = ih (entered (p .tables) (p .round) B) (keeps B p f h) in rw e (i .0, omega (arith, i .1, raises B p f h))
   step ps B p h ih (refused r) e = rw e (ih B h)

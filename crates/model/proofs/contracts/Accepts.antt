@@ -12,7 +12,7 @@ pub record Accepts (t : Tables) (r : Results) : Type 0 where
   pub within : WithinLimits t
   pub fits : RightLengths t r
 
-pub accepts : (t : Tables) (r : Results) → firstFault (clearingFaults t r) ≡ accepted → Accepts t r
+pub accepts : (t : Tables) (r : Results) → firstFault (clearingFaults t r) ≡ accepted tt → Accepts t r
 accepts t r e =
     let w = call-accepted-reads t r .0 e in
     record { within = accepted-reads t .0 (w .market-accepted); fits = w .lists-fit }

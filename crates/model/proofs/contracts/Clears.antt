@@ -6,21 +6,25 @@ use mathlib.Core.Path.{_≡_, refl, sym, ap, _∙_}
 use native.Mathlib.Omega.{arith}
 use lib.ListN.{length, take, replicate}
 use Rattle.model.specs.Limits.{maxGuests, maxStations}
-use Rattle.model.specs.declared.refusal.Refusal.{Refusal}
 use Rattle.model.specs.Counting.{_=?_}
-use Rattle.model.specs.Refusals.{Row, _gives_, Verdict, accepted, refused, firstFault}
+use Rattle.model.specs.Numbers.{number, answerOfClearing}
+use Rattle.model.specs.Refusals.{Row, _gives_, accepted, refused, firstFault, giving, updated}
+use Rattle.model.proofs.Refusals.{updated-accepted, gave-accepted, gave-refused}
+use Rattle.model.specs.declared.refusal.Refusal.{Refusal}
+use Rattle.model.specs.declared.money.UnitPrice.{UnitPrice}
+use Rattle.model.specs.declared.money.Mills.{Mills}
 use Rattle.model.specs.market.Market.{Tables}
 use Rattle.model.specs.market.Outcome.{Results, outcome, results}
 use Rattle.model.specs.market.Faults.{lent, marketFaults, verdict, clearingFaults}
 use Rattle.model.specs.claims.Readings.{RightLengths}
 use Rattle.model.proofs.Tests.{neither, is-eq}
 use Rattle.model.proofs.Loops.{zeros-long}
-use Rattle.model.specs.contracts.Clears.{answerTo, resultsOf, Clears}
+use Rattle.model.specs.contracts.Clears.{Clears}
 use Rattle.model.specs.declared.answers.Clearing.{Clearing}
 use Rattle.model.specs.declared.answers.Clearing.the-variants.{Cleared, Refused}
 
 without-third :
-    (a b : Row) (x : Bool) (r : Refusal) (rows : List Row) → x ≡ false
+    (a b : Row) (x : Bool) (r : ℕ) (rows : List Row) → x ≡ false
     → firstFault (a ∷ b ∷ (x gives r) ∷ rows) ≡ firstFault (a ∷ b ∷ rows)
 unfolding firstFault
 without-third (true gives _) b x r rows e = refl
@@ -50,33 +54,30 @@ same-verdict t r l = without-third _ _ _ _ _
 
 -- a market that was cleared
 pub record ClearedAs (t : Tables) (k m : ℕ) (exit : Results) : Type 0 where
-  pub is-accepted : verdict t ≡ accepted
+  pub is-accepted : verdict t ≡ accepted tt
   pub cut-is : k ≡ (outcome t) .cut
   pub margin-is : m ≡ (outcome t) .margin
   pub results-are : exit ≡ (outcome t) .results
 
 module _ (t : Tables) (entry exit : Results) (answer : Clearing) (c : Clears t entry answer exit)
     (l : RightLengths t entry) where
-  said : answer ≡ answerTo (verdict t) (outcome t)
-  said = c .answered ∙ ap (λ v. answerTo v (outcome t)) (same-verdict t entry l)
+  said : answerOfClearing answer ≡ giving (verdict t) ((outcome t) .cut, (outcome t) .margin)
+  said = rw (← same-verdict t entry l) (c .answered)
 
-  left : exit ≡ resultsOf (verdict t) (outcome t) entry
-  left = c .left ∙ ap (λ v. resultsOf v (outcome t) entry) (same-verdict t entry l)
+  left : exit ≡ updated (verdict t) ((outcome t) .results) entry
+  left = rw (← same-verdict t entry l) (c .left)
 
-  answer-refused : (x : Refusal) (v : Verdict) → answerTo v (outcome t) ≡ Refused x → v ≡ refused x
-  unfolding answerTo
-  answer-refused x accepted q = absurd (let z : _≡_ {A = ℕ} 0 1 = cc in omega arith)
-  answer-refused x (refused y) q = cc
+  pub clear-refused : (x : Refusal) → answer ≡ Refused x → verdict t ≡ refused (number x)
+  unfolding answerOfClearing
+  clear-refused x q = gave-refused _ _ _ (sym said ∙ ap answerOfClearing q)
 
-  pub clear-refused : (x : Refusal) → answer ≡ Refused x → verdict t ≡ refused x
-  clear-refused x q = answer-refused x (verdict t) (sym said ∙ q)
-
-  answer-cleared :
-      (k m : ℕ) (v : Verdict) → verdict t ≡ v → answerTo v (outcome t) ≡ Cleared k m
-      → exit ≡ resultsOf v (outcome t) entry → ClearedAs t k m exit
-  unfolding answerTo resultsOf
-  answer-cleared k m accepted e q x = record { is-accepted = e; cut-is = cc; margin-is = cc; results-are = x }
-  answer-cleared k m (refused y) e q x = absurd (let z : _≡_ {A = ℕ} 0 1 = cc in omega arith)
-
-  pub clear-cleared : (k m : ℕ) → answer ≡ Cleared k m → ClearedAs t k m exit
-  clear-cleared k m q = answer-cleared k m (verdict t) refl (sym said ∙ q) left
+  pub clear-cleared : (k : UnitPrice) (m : Mills) → answer ≡ Cleared k m → ClearedAs t (k .0) (m .0) exit
+  unfolding answerOfClearing
+  clear-cleared k m q =
+      let (v, e) = gave-accepted (verdict t) _ (k .0, m .0) (sym said ∙ ap answerOfClearing q) in
+      record {
+        is-accepted = v;
+        cut-is = sym (ap (λ p. p .0) e);
+        margin-is = sym (ap (λ p. p .1) e);
+        results-are = left ∙ updated-accepted _ _ v;
+      }

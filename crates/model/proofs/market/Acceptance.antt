@@ -97,7 +97,7 @@ accept t w =
 pub accepted-reads : AcceptedReads
 accepted-reads t = (within t, accept t)
 
-call-within : (t : Tables) (r : Results) → firstFault (clearingFaults t r) ≡ accepted → CallWithinLimits t r
+call-within : (t : Tables) (r : Results) → firstFault (clearingFaults t r) ≡ accepted tt → CallWithinLimits t r
 unfolding verdict marketFaults clearingFaults counts lengths lent
 call-within t r e =
     let (c, e1) = no-fault _ _ _ e in
@@ -116,7 +116,7 @@ call-within t r e =
       };
     }
 
-call-accept : (t : Tables) (r : Results) → CallWithinLimits t r → firstFault (clearingFaults t r) ≡ accepted
+call-accept : (t : Tables) (r : Results) → CallWithinLimits t r → firstFault (clearingFaults t r) ≡ accepted tt
 unfolding verdict marketFaults clearingFaults counts lengths lent
 call-accept t r w =
     let (c, e1) = no-fault _ _ _ (w .market-accepted) in
@@ -131,7 +131,7 @@ pub call-accepted-reads : CallAcceptedReads
 call-accepted-reads t r = (call-within t r, call-accept t r)
 
 posting-within :
-    (t : Tables) (round : ℕ) (B : Book) → firstFault (postingFaults t round B) ≡ accepted
+    (t : Tables) (round : ℕ) (B : Book) → firstFault (postingFaults t round B) ≡ accepted tt
     → PostingWithinLimits t round B
 unfolding verdict postingFaults bookSize outOfTurn
 posting-within t round B e =
@@ -156,7 +156,7 @@ posting-within t round B e =
 
 posting-accept :
     (t : Tables) (round : ℕ) (B : Book) → PostingWithinLimits t round B
-    → firstFault (postingFaults t round B) ≡ accepted
+    → firstFault (postingFaults t round B) ≡ accepted tt
 unfolding verdict postingFaults bookSize outOfTurn
 posting-accept t round B w =
     rw (fault-second (marketFaults t) _ (w .market-accepted))

@@ -1,43 +1,39 @@
--- The answer of the checking pass.
+-- The answer of the checking pass, and what it tells.
 use Prim.Native.Nat.{ℕ}
 use mathlib.Core.List.{List}
-use mathlib.Core.Path.{_≡_, refl, ap, _∙_}
-use native.Mathlib.Omega.{arith}
-use lib.ListN.{length}
+use mathlib.Core.Path.{_≡_, refl, sym, ap, ap₂, _∙_}
 use Rattle.model.specs.declared.refusal.Refusal.{Refusal}
-use Rattle.model.specs.Counting.{list}
-use Rattle.model.specs.market.Market.{Tables}
-use Rattle.model.specs.Refusals.{Verdict, accepted, refused, firstFault}
-use Rattle.model.proofs.Counting.{length-list}
-use Rattle.model.specs.sheet.Rows.{askOf, amountOf}
-use Rattle.model.specs.sheet.Content.{guests, stations, tablesOf, sheetFaults, contentBy, readSheet, answerOf}
+use Rattle.model.specs.Numbers.{number, answerOfReading}
+use Rattle.model.specs.Refusals.{Verdict, accepted, refused, firstFault, giving}
+use Rattle.model.proofs.Refusals.{giving-accepted, giving-refused, gave-accepted, gave-refused}
+use Rattle.model.specs.sheet.Content.{guests, stations, sheetFaults}
 use Rattle.model.specs.declared.answers.Reading.the-variants.{Read, Refused}
 use Rattle.model.specs.declared.answers.Reading.{Reading}
 
-pub answer-fault :
-    (s : List ℕ) (r : Refusal) → firstFault (sheetFaults s) ≡ refused r → Refused r ≡ answerOf (readSheet s)
-unfolding readSheet contentBy answerOf
-answer-fault s r e = rw e refl
+-- what the checking pass answers: the header's counts, or the first fault
+abbrev pub Checked : List ℕ → Reading → Type 0
+Checked s r = answerOfReading r ≡ giving (firstFault (sheetFaults s)) (guests s, stations s)
+
+pub answer-fault : (s : List ℕ) (x : Refusal) → firstFault (sheetFaults s) ≡ refused (number x) → Checked s (Refused x)
+unfolding answerOfReading
+answer-fault s x e = sym (giving-refused _ _ e)
 
 pub answer-read :
-    (s : List ℕ) (n m : ℕ) → firstFault (sheetFaults s) ≡ accepted → n ≡ guests s → m ≡ stations s
-    → Read n m ≡ answerOf (readSheet s)
-unfolding readSheet contentBy answerOf tablesOf
-answer-read s n m e f g = rw (e, length-list, length-list, f, g) refl
+    (s : List ℕ) (n m : ℕ) → firstFault (sheetFaults s) ≡ accepted tt → n ≡ guests s → m ≡ stations s
+    → Checked s (Read n m)
+unfolding answerOfReading
+answer-read s n m e f g = rw (f, g) (sym (giving-accepted _ e))
 
 pub told-read :
-    (v : Verdict) (s : List ℕ) (n m : ℕ) (r : Reading) → r ≡ answerOf (contentBy v (tablesOf s)) → r ≡ Read n m
-    → (v ≡ accepted) × (n ≡ guests s) × (m ≡ stations s)
-unfolding contentBy answerOf tablesOf
-told-read accepted s n m r e f =
-    let g : n ≡ length (list (guests s) (amountOf s (stations s))) = cc in
-    let h : m ≡ length (list (stations s) (askOf s)) = cc in
-    (refl, g ∙ length-list _ _, h ∙ length-list _ _)
-told-read (refused x) s n m r e f = let z : _≡_ {A = ℕ} 0 1 = cc in absurd (omega arith)
+    (v : Verdict) (g h n m : ℕ) (r : Reading) → answerOfReading r ≡ giving v (g, h) → r ≡ Read n m
+    → (v ≡ accepted tt) × (n ≡ g) × (m ≡ h)
+unfolding answerOfReading
+told-read v g h n m r e f =
+    let (a, b) = gave-accepted v (g, h) (n, m) (sym e ∙ ap answerOfReading f) in
+    (a, sym (ap (λ p. p .0) b), sym (ap (λ p. p .1) b))
 
 pub told-refused :
-    (v : Verdict) (t : Tables) (x : Refusal) (r : Reading) → r ≡ answerOf (contentBy v t)
-    → r ≡ Refused x → v ≡ refused x
-unfolding contentBy answerOf
-told-refused accepted t x r e f = let z : _≡_ {A = ℕ} 0 1 = cc in absurd (omega arith)
-told-refused (refused y) t x r e f = let g : y ≡ x = cc in ap refused g
+    (v : Verdict) (p : ℕ × ℕ) (x : Refusal) (r : Reading) → answerOfReading r ≡ giving v p → r ≡ Refused x
+    → v ≡ refused (number x)
+unfolding answerOfReading
+told-refused v p x r e f = gave-refused v _ _ (sym e ∙ ap answerOfReading f)

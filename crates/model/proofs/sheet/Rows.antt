@@ -7,8 +7,6 @@ use native.Mathlib.Nat.{not-suc-le-zero, eq-or-lt-of-le, le-of-suc-le-suc}
 use native.Mathlib.Numerals.{add-one}
 use native.Mathlib.Omega.{arith}
 use lib.ListN.{length}
-use Rattle.model.specs.declared.refusal.Refusal.the-variants.{SheetEnds, StrayBit}
-use Rattle.model.specs.declared.refusal.Refusal.{Refusal}
 use Rattle.model.specs.Counting.{_<?_, count, joined}
 use Rattle.model.specs.Refusals.{_gives_, accepted, refused, firstFault}
 use Rattle.model.proofs.Tests.{lt-no, is-lt, not-lt}
@@ -25,11 +23,11 @@ unfolding bidsAt
 bids-at m p = refl
 
 module _ (s : List ℕ) (m p : ℕ) where
-  pub amount-ends : length s < p + 2 → firstFault (rowFaults s m p) ≡ refused SheetEnds
+  pub amount-ends : length s < p + 2 → firstFault (rowFaults s m p) ≡ refused 1
   unfolding rowFaults
   amount-ends h = fault-here _ (is-lt _ _ h)
 
-  pub map-ends : p + 2 ≤ length s → length s < bidsAt m p → firstFault (rowFaults s m p) ≡ refused SheetEnds
+  pub map-ends : p + 2 ≤ length s → length s < bidsAt m p → firstFault (rowFaults s m p) ≡ refused 1
   unfolding rowFaults
   map-ends h g = fault-later _ _ (not-lt _ _ h) ∙ fault-here _ (is-lt _ _ g)
 
@@ -42,13 +40,13 @@ pub record MapTaken (s : List ℕ) (m p x q : ℕ) : Type 0 where
 module _ {s : List ℕ} {m p x q : ℕ} (t : MapTaken s m p x q) where
   after-map :
       firstFault (rowFaults s m p)
-      ≡ firstFault ((0 <? x / 2 ^ m gives StrayBit) ∷ (length s <? nextAt s m p gives SheetEnds) ∷ [])
+      ≡ firstFault ((0 <? x / 2 ^ m gives 3) ∷ (length s <? nextAt s m p gives 1) ∷ [])
   unfolding rowFaults
   after-map =
       rw (t .map)
       (fault-later _ _ (not-lt _ _ (omega (arith, bids-at m p, t .within))) ∙ fault-later _ _ (not-lt _ _ (t .within)))
 
-  pub stray : 0 < x / 2 ^ m → firstFault (rowFaults s m p) ≡ refused StrayBit
+  pub stray : 0 < x / 2 ^ m → firstFault (rowFaults s m p) ≡ refused 3
   stray g = after-map ∙ fault-here _ (is-lt _ _ g)
 
   pub to-next : q + 4 * count m (hasBit x) ≡ nextAt s m p
@@ -59,10 +57,10 @@ module _ {s : List ℕ} {m p x q : ℕ} (t : MapTaken s m p x q) where
     pub next-is : q + 4 * count 64 (hasBit x) ≡ nextAt s m p
     next-is = omega (arith, to-next, count-narrow m x w (narrow x m g))
 
-    pub bids-end : length s < q + 4 * count 64 (hasBit x) → firstFault (rowFaults s m p) ≡ refused SheetEnds
+    pub bids-end : length s < q + 4 * count 64 (hasBit x) → firstFault (rowFaults s m p) ≡ refused 1
     bids-end l = after-map ∙ fault-later _ _ (not-lt _ _ g) ∙ fault-here _ (is-lt _ _ (omega (arith, next-is)))
 
-    pub row-good : q + 4 * count 64 (hasBit x) ≤ length s → firstFault (rowFaults s m p) ≡ accepted
+    pub row-good : q + 4 * count 64 (hasBit x) ≤ length s → firstFault (rowFaults s m p) ≡ accepted tt
     row-good l =
         after-map ∙ fault-later _ _ (not-lt _ _ g) ∙ fault-later _ _ (not-lt _ _ (omega (arith, next-is))) ∙ fault-none
 
@@ -72,14 +70,14 @@ pub record RowSound (s : List ℕ) (m p : ℕ) : Type 0 where
   pub no-stray : mapAt s m p < 2 ^ m
   pub bids-in : nextAt s m p ≤ length s
 
-pub row-sound : (s : List ℕ) (m p : ℕ) → firstFault (rowFaults s m p) ≡ accepted → RowSound s m p
+pub row-sound : (s : List ℕ) (m p : ℕ) → firstFault (rowFaults s m p) ≡ accepted tt → RowSound s m p
 unfolding rowFaults
 row-sound s m p e =
     let (a, e1) = no-fault _ _ _ e in
     let (b, e2) = no-fault _ _ _ e1 in let (c, e3) = no-fault _ _ _ e2 in let (d, e4) = no-fault _ _ _ e3 in
     record { map-in = lt-no _ _ b; no-stray = narrow _ _ (lt-no _ _ c); bids-in = lt-no _ _ d }
 
-pub sound-row : {s : List ℕ} {m p : ℕ} → RowSound s m p → firstFault (rowFaults s m p) ≡ accepted
+pub sound-row : {s : List ℕ} {m p : ℕ} → RowSound s m p → firstFault (rowFaults s m p) ≡ accepted tt
 unfolding rowFaults
 sound-row {s} {m} {p} t =
     fault-later _ _ (not-lt _ _ (omega (arith, bids-at m p, t .map-in))) ∙ fault-later _ _ (not-lt _ _ (t .map-in))
@@ -88,7 +86,7 @@ sound-row {s} {m} {p} t =
 
 -- ---- the rows
 
-pub rows-none : (s : List ℕ) (m : ℕ) → firstFault (rowsFaults s m 0) ≡ accepted
+pub rows-none : (s : List ℕ) (m : ℕ) → firstFault (rowsFaults s m 0) ≡ accepted tt
 unfolding rowsFaults joined firstFault
 rows-none s m = refl
 
@@ -98,26 +96,26 @@ rows-to s m i p g = rw (add-one i, g) refl
 
 -- after i sound rows the next one decides
 pub rows-suc :
-    (s : List ℕ) (m i : ℕ) → firstFault (rowsFaults s m i) ≡ accepted
+    (s : List ℕ) (m i : ℕ) → firstFault (rowsFaults s m i) ≡ accepted tt
     → firstFault (rowsFaults s m (suc i)) ≡ firstFault (rowFaults s m (rowAt s m i))
 unfolding rowsFaults joined
 rows-suc s m i e = fault-second _ _ e
 
 rows-still :
-    (s : List ℕ) (m i : ℕ) {r : Refusal} → firstFault (rowsFaults s m i) ≡ refused r
+    (s : List ℕ) (m i : ℕ) {r : ℕ} → firstFault (rowsFaults s m i) ≡ refused r
     → firstFault (rowsFaults s m (suc i)) ≡ refused r
 unfolding rowsFaults joined
 rows-still s m i e = fault-first _ _ e
 
 pub rows-more :
-    (s : List ℕ) (m i p : ℕ) → p ≡ rowAt s m i → firstFault (rowsFaults s m i) ≡ accepted
-    → firstFault (rowFaults s m p) ≡ accepted
-    → firstFault (rowsFaults s m (i + 1)) ≡ accepted
+    (s : List ℕ) (m i p : ℕ) → p ≡ rowAt s m i → firstFault (rowsFaults s m i) ≡ accepted tt
+    → firstFault (rowFaults s m p) ≡ accepted tt
+    → firstFault (rowsFaults s m (i + 1)) ≡ accepted tt
 rows-more s m i p g e f = rw add-one (rows-suc s m i e ∙ rw (← g) f)
 
 -- the first fault of a row is the rows'
 pub rows-fault :
-    (s : List ℕ) (m n i p : ℕ) {r : Refusal} → i < n → p ≡ rowAt s m i → firstFault (rowsFaults s m i) ≡ accepted
+    (s : List ℕ) (m n i p : ℕ) {r : ℕ} → i < n → p ≡ rowAt s m i → firstFault (rowsFaults s m i) ≡ accepted tt
     → firstFault (rowFaults s m p) ≡ refused r → firstFault (rowsFaults s m n) ≡ refused r
 rows-fault s m zero i p l g e f = absurd (not-suc-le-zero l)
 rows-fault s m (suc n) i p l g e f = ⊎-elim
@@ -126,19 +124,19 @@ rows-fault s m (suc n) i p l g e f = ⊎-elim
     (eq-or-lt-of-le (le-of-suc-le-suc l))
 
 rows-split :
-    (s : List ℕ) (m i : ℕ) → firstFault (rowsFaults s m (suc i)) ≡ accepted
-    → (firstFault (rowsFaults s m i) ≡ accepted) × (firstFault (rowFaults s m (rowAt s m i)) ≡ accepted)
+    (s : List ℕ) (m i : ℕ) → firstFault (rowsFaults s m (suc i)) ≡ accepted tt
+    → (firstFault (rowsFaults s m i) ≡ accepted tt) × (firstFault (rowFaults s m (rowAt s m i)) ≡ accepted tt)
 unfolding rowsFaults joined
 rows-split s m i e = no-faults (joined i (λ i. rowFaults s m (rowAt s m i))) _ e
 
 pub rows-all :
-    (s : List ℕ) (m i n : ℕ) → i ≡ n → firstFault (rowsFaults s m i) ≡ accepted
-    → firstFault (rowsFaults s m n) ≡ accepted
+    (s : List ℕ) (m i n : ℕ) → i ≡ n → firstFault (rowsFaults s m i) ≡ accepted tt
+    → firstFault (rowsFaults s m n) ≡ accepted tt
 rows-all s m i n e f = rw (← e) f
 
 -- each row is sound where they have no fault
 pub sound-at :
-    (s : List ℕ) (m n i p : ℕ) → firstFault (rowsFaults s m n) ≡ accepted → i < n → p ≡ rowAt s m i → RowSound s m p
+    (s : List ℕ) (m n i p : ℕ) → firstFault (rowsFaults s m n) ≡ accepted tt → i < n → p ≡ rowAt s m i → RowSound s m p
 sound-at s m zero i p e l g = absurd (not-suc-le-zero l)
 sound-at s m (suc n) i p e l g = ⊎-elim
     (λ (h : i ≡ n). row-sound s m p

@@ -5,30 +5,31 @@ use mathlib.Core.List.{List, _∷_}
 use mathlib.Core.Path.{_≡_, refl, sym, _∙_}
 use native.Mathlib.Omega.{arith}
 use lib.ListN.{length}
-use Rattle.model.specs.declared.refusal.Refusal.the-variants.{LentLengths}
-use Rattle.model.specs.declared.refusal.Refusal.{Refusal}
 use Rattle.model.specs.Counting.{_=?_, _or_, list, joined}
 use Rattle.model.specs.Refusals.{_gives_, accepted, refused, firstFault}
-use Rattle.model.proofs.Counting.{length-list}
 use Rattle.model.proofs.market.Acceptance.{product-fits}
 use Rattle.model.proofs.Tests.{eq-yes, or-no}
-use Rattle.model.proofs.Refusals.{fault-here, fault-later}
+use Rattle.model.proofs.Refusals.{fault-here, fault-later, giving-accepted, giving-refused, updated-accepted}
+use Rattle.model.proofs.Refusals.{updated-refused}
+use Rattle.model.specs.Numbers.{number, answerOfReading}
+use Rattle.model.specs.declared.refusal.Refusal.{Refusal}
+use Rattle.model.specs.declared.refusal.Refusal.the-variants.{LentLengths}
 use Rattle.model.specs.sheet.Rows.{askOf, baysOf, amountOf, bidOf, rowsFaults}
 use Rattle.model.specs.sheet.Over.{over}
-use Rattle.model.specs.sheet.Content.{guests, stations, tablesOf, sheetFaults, contentBy, readSheet, answerOf}
+use Rattle.model.specs.sheet.Content.{guests, stations, tablesOf, sheetFaults}
 use Rattle.model.specs.declared.answers.Reading.the-variants.{Read, Refused}
 use Rattle.model.specs.declared.answers.Reading.{Reading}
 use Rattle.model.proofs.sheet.Faults.{Sound}
-use Rattle.model.proofs.sheet.Answers.{told-refused}
-use Rattle.model.specs.contracts.Reads.{lentTables, readInto, written, Reads}
+use Rattle.model.proofs.sheet.Answers.{Checked, told-refused}
+use Rattle.model.specs.contracts.Reads.{LentTables, lentTables, tableLengths, readVerdict, filled, Reads}
 
 -- room for the table
 pub room-for : (n m k : ℕ) → n ≤ 200 → m ≤ 40 → k ≡ 8000 → n * m ≤ k
 room-for n m k h g e = omega (arith, product-fits n m h g)
 
 pub lent-lengths :
-    (a b c d : ℕ) → lentTables a b c d ≡ (false gives LentLengths) → (a ≡ 200) × (b ≡ 40) × (c ≡ 40) × (d ≡ 8000)
-unfolding lentTables
+    (a b c d : ℕ) → tableLengths a b c d ≡ (false gives 10) → (a ≡ 200) × (b ≡ 40) × (c ≡ 40) × (d ≡ 8000)
+unfolding tableLengths
 lent-lengths a b c d e =
     let t : (not (a =? 200) or not (b =? 40) or not (c =? 40) or not (d =? 8000)) ≡ false = cc in
     let (t1, t2) = or-no _ _ t in let (t3, t4) = or-no _ _ t1 in let (t5, t6) = or-no _ _ t3 in
@@ -39,45 +40,39 @@ lent-lengths a b c d e =
     is false e = sym e
 
 pub rows-good :
-    {s : List ℕ} {n m : ℕ} → Sound s → n ≡ guests s → m ≡ stations s → firstFault (rowsFaults s m n) ≡ accepted
+    {s : List ℕ} {n m : ℕ} → Sound s → n ≡ guests s → m ≡ stations s → firstFault (rowsFaults s m n) ≡ accepted tt
 rows-good t e f = rw (e, f) (t .rows-in)
 
 module _ (s a b c d : List ℕ) where
-  refused-by :
-      (r : Refusal) → firstFault (lentTables (length a) (length b) (length c) (length d) ∷ sheetFaults s) ≡ refused r
-      → Reads s a b c d (Refused r) a b c d
-  unfolding readInto contentBy answerOf written
-  refused-by r e =
-      record
-      { answers = rw e refl; amounts-are = rw e refl; asks-are = rw e refl; bays-are = rw e refl; bids-are = rw e refl }
+  abbrev entry : LentTables
+  entry = lentTables a b c d
+
+  refused-by : (x : Refusal) → readVerdict entry s ≡ refused (number x) → Reads s entry (Refused x) entry
+  unfolding answerOfReading
+  refused-by x e = record { answered = sym (giving-refused _ _ e); left = sym (updated-refused _ _ _ e) }
 
   pub refused-lent :
-      lentTables (length a) (length b) (length c) (length d) ≡ (true gives LentLengths)
-      → Reads s a b c d (Refused LentLengths) a b c d
+      tableLengths (length a) (length b) (length c) (length d) ≡ (true gives 10)
+      → Reads s entry (Refused LentLengths) entry
+  unfolding readVerdict
   refused-lent e = refused-by LentLengths (rw e (fault-here _ refl))
 
-  module _ (l : lentTables (length a) (length b) (length c) (length d) ≡ (false gives LentLengths)) where
-    as-sheet :
-        firstFault (lentTables (length a) (length b) (length c) (length d) ∷ sheetFaults s) ≡ firstFault (sheetFaults s)
+  module _ (l : tableLengths (length a) (length b) (length c) (length d) ≡ (false gives 10)) where
+    as-sheet : readVerdict entry s ≡ firstFault (sheetFaults s)
+    unfolding readVerdict
     as-sheet = rw l (fault-later _ _ refl)
 
-    pub refused-sheet :
-        (x : Refusal) (r : Reading) → r ≡ answerOf (readSheet s) → r ≡ Refused x → Reads s a b c d (Refused x) a b c d
-    unfolding readSheet
-    refused-sheet x r e f = refused-by x (as-sheet ∙ told-refused (firstFault (sheetFaults s)) (tablesOf s) x r e f)
+    pub refused-sheet : (x : Refusal) (r : Reading) → Checked s r → r ≡ Refused x → Reads s entry (Refused x) entry
+    refused-sheet x r e f = refused-by x (as-sheet ∙ told-refused _ _ x r e f)
 
     pub read-all :
-        (n m : ℕ) (a′ b′ c′ d′ : List ℕ) → firstFault (sheetFaults s) ≡ accepted → n ≡ guests s → m ≡ stations s
+        (n m : ℕ) (a′ b′ c′ d′ : List ℕ) → firstFault (sheetFaults s) ≡ accepted tt → n ≡ guests s → m ≡ stations s
         → a′ ≡ over (list n (amountOf s m)) a → b′ ≡ over (list m (askOf s)) b → c′ ≡ over (list m (baysOf s)) c
-        → d′ ≡ over (joined n (λ i. list m (bidOf s m i))) d → Reads s a b c d (Read n m) a′ b′ c′ d′
-    unfolding readInto contentBy answerOf written tablesOf
+        → d′ ≡ over (joined n (λ i. list m (bidOf s m i))) d → Reads s entry (Read n m) (lentTables a′ b′ c′ d′)
+    unfolding answerOfReading filled tablesOf
     read-all n m a′ b′ c′ d′ e f g i j k l =
-        let h : firstFault (lentTables (length a) (length b) (length c) (length d) ∷ sheetFaults s)
-        ≡ accepted = as-sheet ∙ e in
+        let h : readVerdict entry s ≡ accepted tt = as-sheet ∙ e in
         record {
-          answers = rw (h, length-list, length-list, f, g) refl;
-          amounts-are = rw (h, ← f, ← g) i;
-          asks-are = rw (h, ← g) j;
-          bays-are = rw (h, ← g) k;
-          bids-are = rw (h, ← f, ← g) l;
+          answered = rw (f, g) (sym (giving-accepted _ h));
+          left = rw (i, j, k, l, f, g) (sym (updated-accepted (filled s entry) entry h));
         }

@@ -11,7 +11,8 @@ use lib.ListN.{length, getD, List·getD-append}
 use lib.Seq.{ext-getD, getD-append-add}
 use Rattle.model.specs.Counting.{only, list, joined}
 use Rattle.model.specs.market.Market.{Tables, bidAt}
-use Rattle.model.specs.Refusals.{Verdict, accepted, refused, firstFault}
+use Rattle.model.specs.Refusals.{accepted, firstFault}
+use Rattle.model.proofs.Refusals.{giving-accepted, gave-accepted}
 use Rattle.model.proofs.Counting.{up, here, length-list, getD-list}
 use Rattle.model.proofs.Tests.{decide, only-le, only-yes, only-no}
 use Rattle.model.specs.sheet.Fields.{number, hasBit}
@@ -20,7 +21,7 @@ use Rattle.model.specs.sheet.Rows.{rowsFaults}
 use Rattle.model.proofs.sheet.Rows.{bids-at, RowSound, sound-row, sound-at, rows-none, rows-suc, first-row}
 use Rattle.model.proofs.sheet.Fields.{number-low}
 use Rattle.model.proofs.sheet.Joined.{joined-length}
-use Rattle.model.specs.sheet.Content.{guests, stations, tablesOf, sheetFaults, tables, contentBy, readSheet}
+use Rattle.model.specs.sheet.Content.{guests, stations, tablesOf, sheetFaults, readSheet}
 use Rattle.model.proofs.sheet.Faults.{counts-good, whole, Sound, sheet-sound}
 use Rattle.model.specs.sheet.Layout.{Fitting, States, Bytes, ReadsExactlyWhatIsStated, StatesOneMarket}
 use Rattle.model.proofs.sheet.Holds.{pack-bit, pack-low, pack-bits}
@@ -71,12 +72,12 @@ rise s m (suc n) i l = ⊎-elim
     (eq-or-lt-of-le l)
 
 within :
-    (s : List ℕ) (m n : ℕ) → 4 + 6 * m ≤ length s → firstFault (rowsFaults s m n) ≡ accepted → rowAt s m n ≤ length s
+    (s : List ℕ) (m n : ℕ) → 4 + 6 * m ≤ length s → firstFault (rowsFaults s m n) ≡ accepted tt → rowAt s m n ≤ length s
 within s m zero h e = omega (arith, first-row s m)
 within s m (suc n) h e = omega (arith, row-suc s m n, sound-at s m (suc n) n (rowAt s m n) e here refl .bids-in)
 
 all-sound :
-    (s : List ℕ) (m n : ℕ) → ((i : ℕ) → i < n → RowSound s m (rowAt s m i)) → firstFault (rowsFaults s m n) ≡ accepted
+    (s : List ℕ) (m n : ℕ) → ((i : ℕ) → i < n → RowSound s m (rowAt s m i)) → firstFault (rowsFaults s m n) ≡ accepted tt
 all-sound s m zero h = rows-none s m
 all-sound s m (suc n) h = rows-suc s m n (all-sound s m n (λ i l. h i (up l))) ∙ sound-row (h n here)
 
@@ -93,7 +94,7 @@ module _ (s : List ℕ) (t : Tables) (set : ℕ → ℕ → Bool) (g : Fitting t
         bids-in = e;
       }
 
-  no-fault-in : firstFault (sheetFaults s) ≡ accepted
+  no-fault-in : firstFault (sheetFaults s) ≡ accepted tt
   no-fault-in =
       whole (record { within = omega (arith, first); n-is = sym (f .n-is); m-is = sym (f .m-is) })
       (counts-good (n t) (m t) (g .few) (g .some) (g .narrow))
@@ -123,11 +124,11 @@ module _ (s : List ℕ) (t : Tables) (set : ℕ → ℕ → Bool) (g : Fitting t
       width = sym (g .width-is) x;
     })
 
-    fields-read : readSheet s ≡ tables t
-    unfolding readSheet contentBy
-    fields-read = rw (no-fault-in, tables-same) refl
+    fields-read : readSheet s ≡ accepted t
+    unfolding readSheet
+    fields-read = giving-accepted (tablesOf s) no-fault-in ∙ ap accepted tables-same
 
-states-read : (s : List ℕ) (t : Tables) → States s t → readSheet s ≡ tables t
+states-read : (s : List ℕ) (t : Tables) → States s t → readSheet s ≡ accepted t
 states-read s t w = fields-read s t (w .set) (w .fitting) (layout-fields s t (w .set) (w .fitting) (w .is)) (w .covers)
 
 -- ---- and a sheet that is read as a market states it
@@ -159,11 +160,11 @@ tables-are s = record {
       (getD-joined (guests s) (stations s) (bidOf s (stations s)) i j (rw length-list at l) (rw length-list at k));
 }
 
-module _ (s : List ℕ) (t : Tables) (y : Bytes s) (z : firstFault (sheetFaults s) ≡ accepted) (w : Is s t) where
+module _ (s : List ℕ) (t : Tables) (y : Bytes s) (z : firstFault (sheetFaults s) ≡ accepted tt) (w : Is s t) where
   sound : Sound s
   sound = sheet-sound s z
 
-  rows-in : firstFault (rowsFaults s (m t) (n t)) ≡ accepted
+  rows-in : firstFault (rowsFaults s (m t) (n t)) ≡ accepted tt
   rows-in = rw (w .m-is, w .n-is) (sound .rows-in)
 
   set : ℕ → ℕ → Bool
@@ -207,15 +208,10 @@ module _ (s : List ℕ) (t : Tables) (y : Bytes s) (z : firstFault (sheetFaults 
     is = fields-layout s t set y fields;
   }
 
-told-tables : (v : Verdict) (a b : Tables) → contentBy v a ≡ tables b → (v ≡ accepted) × (a ≡ b)
-unfolding contentBy
-told-tables accepted a b e = let g : a ≡ b = cc in (refl, g)
-told-tables (refused r) a b e = let z : _≡_ {A = ℕ} 0 1 = cc in absurd (omega arith)
-
-read-states : (s : List ℕ) (t : Tables) → Bytes s → readSheet s ≡ tables t → States s t
+read-states : (s : List ℕ) (t : Tables) → Bytes s → readSheet s ≡ accepted t → States s t
 unfolding readSheet
 read-states s t y e =
-    let (a, b) = told-tables (firstFault (sheetFaults s)) (tablesOf s) t e in
+    let (a, b) = gave-accepted (firstFault (sheetFaults s)) (tablesOf s) t e in
     states s t y a (subst (λ u. Is s u) b (tables-are s))
 
 -- ---- the two statements
@@ -225,5 +221,5 @@ reads-exactly s t y = (read-states s t y, states-read s t)
 
 pub states-one : StatesOneMarket
 states-one s t u a b =
-    let e : tables t ≡ tables u = sym (states-read s t a) ∙ states-read s u b in
+    let e : accepted t ≡ accepted u = sym (states-read s t a) ∙ states-read s u b in
     let f : t ≡ u = cc in f

@@ -4,7 +4,6 @@ use mathlib.Core.Bool.{Bool, not}
 use mathlib.Core.List.{List, [], _∷_, _++_}
 use lib.ListN.{length}
 use Rattle.model.specs.Limits.{maxGuests, maxStations, maxAccount, maxRound}
-use Rattle.model.specs.declared.refusal.Refusal.the-variants.{RoundOutOfTurn, AccountOverLimit, BookSize}
 use Rattle.model.specs.Counting.{_<?_, _≤?_, _=?_, _or_, any}
 use Rattle.model.specs.Refusals.{Row, _gives_}
 use Rattle.model.specs.market.Market.{Tables}
@@ -19,14 +18,14 @@ overLimit B = any (B .guests) over or any (B .sold) over or any (B .paid) over o
     over x = maxAccount <? x
 
 unfoldable pub bookSize : (n m guests stations : ℕ) → Row
-bookSize n m guests stations = (outside n maxGuests guests or outside m maxStations stations) gives BookSize
+bookSize n m guests stations = (outside n maxGuests guests or outside m maxStations stations) gives 13
 
 unfoldable pub outOfTurn : (round last : ℕ) → Row
-outOfTurn round last = (maxRound ≤? last or not (round =? last + 1)) gives RoundOutOfTurn
+outOfTurn round last = (maxRound ≤? last or not (round =? last + 1)) gives 11
 
 unfoldable pub postingFaults : Tables → (round : ℕ) → Book → List Row
 postingFaults t round B = marketFaults t
     ++ (bookSize (length (t .amounts)) (length (t .asks)) (length (B .guests)) (length (B .sold))
     ∷ outOfTurn round (B .last)
-    ∷ ((overLimit B or overLimit (entered t round B)) gives AccountOverLimit)
+    ∷ ((overLimit B or overLimit (entered t round B)) gives 12)
     ∷ [])

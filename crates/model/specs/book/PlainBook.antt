@@ -3,7 +3,7 @@ use Prim.Native.Nat.{ℕ, _+_}
 use mathlib.Core.List.{List, [], _∷_}
 use lib.ListN.{getD, length, replicate}
 use Rattle.model.specs.Counting.{sum}
-use Rattle.model.specs.Refusals.{Verdict, accepted, refused, firstFault}
+use Rattle.model.specs.Refusals.{Verdict, accepted, refused, firstFault, updated}
 use Rattle.model.specs.book.Book.{Book, entered}
 use Rattle.model.specs.book.Faults.{postingFaults}
 use Rattle.model.specs.book.Posting.{Posting}
@@ -16,12 +16,8 @@ empty g s = record { guests = replicate g 0; sold = replicate s 0; paid = replic
 unfoldable pub answer : Book → Posting → Verdict
 answer B p = firstFault (postingFaults (p .tables) (p .round) B)
 
-unfoldable pub settled : Verdict → Book → Posting → Book
-settled accepted B p = entered (p .tables) (p .round) B
-settled (refused r) B p = B
-
 unfoldable pub after : Book → Posting → Book
-after B p = settled (answer B p) B p
+after B p = updated (answer B p) (entered (p .tables) (p .round) B) B
 
 -- a list of postings, each made to the book as the last left it
 unfoldable pub answers : Book → List Posting → List Verdict
@@ -36,7 +32,7 @@ final B (p ∷ ps) = final (after B p) ps
 
 -- the postings that were answered as posted
 unfoldable pub kept : Verdict → Posting → List Posting → List Posting
-kept accepted p ps = p ∷ ps
+kept (accepted _) p ps = p ∷ ps
 kept (refused r) p ps = ps
 
 unfoldable pub rounds : List Posting → List Verdict → List Posting

@@ -3,13 +3,12 @@ use Prim.Native.Nat.{ℕ}
 use mathlib.Core.List.{List, [], _∷_, _++_, map}
 use mathlib.Core.Path.{_≡_}
 use lib.ListN.{length, take}
-use Rattle.model.specs.declared.refusal.Refusal.the-variants.{SheetEnds, CountsOutOfRange, StrayBit}
-use Rattle.model.specs.declared.refusal.Refusal.the-variants.{TrailingBytes, LentLengths}
 use Rattle.model.specs.Counting.{joined}
 use Rattle.model.specs.market.Market.{Tables}
 use Rattle.model.specs.cases.Cases.{tableI, pair, caseE}
-use Rattle.model.specs.sheet.Content.{tables, fault, readSheet}
-use Rattle.model.specs.contracts.Reads.{readInto}
+use Rattle.model.specs.Refusals.{accepted, refused}
+use Rattle.model.specs.sheet.Content.{readSheet}
+use Rattle.model.specs.contracts.Reads.{lentTables, readVerdict}
 
 -- Table I
 unfoldable pub sheetA : List ℕ
@@ -54,19 +53,21 @@ marketNine = record {
 
 abbrev pub MarketsRead : Type 0
 MarketsRead = map readSheet (sheetA ∷ sheetE ∷ sheetE0 ∷ sheetI ∷ sheetNine ∷ [])
-    ≡ (tables tableI ∷ tables caseE ∷ tables caseE ∷ tables (pair [] []) ∷ tables marketNine ∷ [])
+    ≡ (accepted tableI ∷ accepted caseE ∷ accepted caseE ∷ accepted (pair [] []) ∷ accepted marketNine ∷ [])
 
 -- E cut short anywhere
 abbrev pub TruncationsRefused : Type 0
 TruncationsRefused =
-    joined (length sheetE) (λ k. readSheet (take k sheetE) ∷ []) ≡ joined 30 (λ k. fault SheetEnds ∷ [])
+    joined (length sheetE) (λ k. readSheet (take k sheetE) ∷ []) ≡ joined 30 (λ k. refused 1 ∷ [])
 
 -- 201 guests, no station, 41 stations, each with nothing after the header; a bit beyond station 2 with no bid
--- after the map; a byte more;
--- no lent table at all
+-- after the map; a byte more
 abbrev pub FaultsRefused : Type 0
-FaultsRefused = (map readSheet (
+FaultsRefused = map readSheet (
     (201 ∷ 0 ∷ 1 ∷ 0 ∷ []) ∷ (0 ∷ 0 ∷ 0 ∷ 0 ∷ []) ∷ (0 ∷ 0 ∷ 41 ∷ 0 ∷ [])
-    ∷ (take 18 sheetE ++ (4 ∷ [])) ∷ (sheetE ++ (0 ∷ [])) ∷ []) ++ (readInto [] [] [] [] [] ∷ []))
-    ≡ (fault CountsOutOfRange ∷ fault CountsOutOfRange ∷ fault CountsOutOfRange ∷ fault StrayBit
-    ∷ fault TrailingBytes ∷ fault LentLengths ∷ [])
+    ∷ (take 18 sheetE ++ (4 ∷ [])) ∷ (sheetE ++ (0 ∷ [])) ∷ [])
+    ≡ (refused 2 ∷ refused 2 ∷ refused 2 ∷ refused 3 ∷ refused 4 ∷ [])
+
+-- no lent table at all, and no sheet
+abbrev pub LengthsRefused : Type 0
+LengthsRefused = readVerdict (lentTables [] [] [] []) [] ≡ refused 10

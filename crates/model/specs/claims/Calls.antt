@@ -12,20 +12,25 @@ use Rattle.model.specs.market.Mechanism.{at}
 use Rattle.model.specs.market.Outcome.{Results}
 use Rattle.model.specs.claims.Truth.{AlikeButForGuest, AlikeButForStation}
 use Rattle.model.specs.contracts.Clears.{Clears}
-use Rattle.model.specs.declared.answers.Clearing.the-variants.{Cleared, Refused}
-use Rattle.model.specs.declared.refusal.Refusal.{Refusal}
+use Rattle.model.specs.Numbers.{answerOfClearing}
+use Rattle.model.specs.Refusals.{accepted, refused}
+use Rattle.model.specs.declared.answers.Clearing.{Clearing}
 
 -- a refused call leaves the result lists as they were
 abbrev pub RefusedLeaves : Type 0
-RefusedLeaves = (t : Tables) (entry exit : Results) (r : Refusal) → Clears t entry (Refused r) exit → exit ≡ entry
+RefusedLeaves =
+    (t : Tables) (entry exit : Results) (answer : Clearing) (k : ℕ) → answerOfClearing answer ≡ refused k
+    → Clears t entry answer exit → exit ≡ entry
 
 -- a call that was answered as cleared, whatever its result lists held before
 pub record ClearedCall (t : Tables) : Type 0 where
   pub entry : Results
+  pub answer : Clearing
   pub cut : ℕ
   pub margin : ℕ
   pub exit : Results
-  pub call : Clears t entry (Cleared cut margin) exit
+  pub call : Clears t entry answer exit
+  pub cleared : answerOfClearing answer ≡ accepted (cut, margin)
 
 -- guest i's gain: by its worths w per kWh, worth at the station named times amount, less charge
 unfoldable pub guestGainIn : Tables → Results → (w : ℕ → ℕ) (i : ℕ) → ℤ

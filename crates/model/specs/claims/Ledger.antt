@@ -4,7 +4,6 @@ use mathlib.Core.Bool.{false}
 use mathlib.Core.List.{List, [], _∷_}
 use mathlib.Core.Path.{_≡_}
 use lib.ListN.{getD, length}
-use Rattle.model.specs.declared.refusal.Refusal.the-variants.{RoundOutOfTurn}
 use Rattle.model.specs.Refusals.{Verdict, accepted, refused}
 use Rattle.model.specs.book.Faults.{overLimit}
 use Rattle.model.specs.cases.Cases.{caseE}
@@ -49,9 +48,9 @@ CallsExist = (g s : ℕ) (ps : List Posting) → (vs : List Verdict) × (B : Len
 -- document 01's example: case E as round 1, and once more. There are such calls, and all of them come to the same
 abbrev pub ExampleCalled : Type 0
 ExampleCalled =
-    Calls (blank 2 2) (posting caseE 1 ∷ posting caseE 1 ∷ []) (accepted ∷ refused RoundOutOfTurn ∷ [])
+    Calls (blank 2 2) (posting caseE 1 ∷ posting caseE 1 ∷ []) (accepted tt ∷ refused 11 ∷ [])
     (book (24 ∷ 0 ∷ []) (account 3 18 ∷ account 0 0 ∷ []) 6 1)
 
 abbrev pub ExampleKept : Type 0
 ExampleKept = (vs : List Verdict) (B : LentBook) → Calls (blank 2 2) (posting caseE 1 ∷ posting caseE 1 ∷ []) vs B
-    → (vs ≡ accepted ∷ refused RoundOutOfTurn ∷ []) × (B ≡ book (24 ∷ 0 ∷ []) (account 3 18 ∷ account 0 0 ∷ []) 6 1)
+    → (vs ≡ accepted tt ∷ refused 11 ∷ []) × (B ≡ book (24 ∷ 0 ∷ []) (account 3 18 ∷ account 0 0 ∷ []) 6 1)

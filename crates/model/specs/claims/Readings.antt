@@ -49,7 +49,7 @@ pub record CallWithinLimits (t : Tables) (r : Results) : Type 0 where
   pub lists-fit : RightLengths t r
 
 abbrev pub CallAcceptedReads : Type 0
-CallAcceptedReads = (t : Tables) (r : Results) → (firstFault (clearingFaults t r) ≡ accepted) ↔ CallWithinLimits t r
+CallAcceptedReads = (t : Tables) (r : Results) → (firstFault (clearingFaults t r) ≡ accepted tt) ↔ CallWithinLimits t r
 
 -- a posting is accepted exactly where its market is, the book has room for it, the round is next and no account is
 -- above its limit before or after
@@ -67,7 +67,7 @@ pub record PostingWithinLimits (t : Tables) (round : ℕ) (B : Book) : Type 0 wh
 abbrev pub PostingAcceptedReads : Type 0
 PostingAcceptedReads =
     (t : Tables) (round : ℕ) (B : Book)
-    → (firstFault (postingFaults t round B) ≡ accepted) ↔ PostingWithinLimits t round B
+    → (firstFault (postingFaults t round B) ≡ accepted tt) ↔ PostingWithinLimits t round B
 
 -- 1. s is in rising order; it has the numbers of l, each as often
 pub record Rising (s : List ℕ) : Type 0 where

@@ -5,36 +5,44 @@ use mathlib.Core.List.{List, _∷_}
 use mathlib.Core.Path.{_≡_}
 use lib.ListN.{length}
 use Rattle.model.specs.Limits.{maxGuests, maxStations}
-use Rattle.model.specs.declared.refusal.Refusal.the-variants.{LentLengths}
 use Rattle.model.specs.Counting.{_=?_, _or_}
-use Rattle.model.specs.market.Market.{Tables}
-use Rattle.model.specs.Refusals.{Row, _gives_, firstFault}
+use Rattle.model.specs.Numbers.{answerOfReading}
+use Rattle.model.specs.Refusals.{Row, _gives_, Verdict, firstFault, giving, updated}
 use Rattle.model.specs.sheet.Over.{over}
-use Rattle.model.specs.sheet.Content.{sheetFaults, tablesOf, Content, fault, tables, contentBy, answerOf}
+use Rattle.model.specs.sheet.Content.{guests, stations, sheetFaults, tablesOf}
 use Rattle.model.specs.declared.answers.Reading.{Reading}
 
--- the lengths of the lent tables
-unfoldable pub lentTables : (amounts asks bays bids : ℕ) → Row
-lentTables amounts asks bays bids =
+-- the tables that the reader is lent
+pub record LentTables : Type 0 where
+  pub amounts : List ℕ
+  pub asks : List ℕ
+  pub bays : List ℕ
+  pub bids : List ℕ
+
+abbrev pub lentTables : (amounts asks bays bids : List ℕ) → LentTables
+lentTables amounts asks bays bids = record { amounts = amounts; asks = asks; bays = bays; bids = bids }
+
+-- their lengths
+unfoldable pub tableLengths : (amounts asks bays bids : ℕ) → Row
+tableLengths amounts asks bays bids =
     (not (amounts =? maxGuests) or not (asks =? maxStations) or not (bays =? maxStations) or not
-    (bids =? maxGuests * maxStations)) gives LentLengths
+    (bids =? maxGuests * maxStations)) gives 10
 
 -- what a call of the reader finds: it looks at the lent tables first
-unfoldable pub readInto : (amounts asks bays bids : List ℕ) → List ℕ → Content
-readInto amounts asks bays bids s =
-    contentBy (firstFault (lentTables (length amounts) (length asks) (length bays) (length bids) ∷ sheetFaults s))
-    (tablesOf s)
+unfoldable pub readVerdict : LentTables → (sheet : List ℕ) → Verdict
+readVerdict l s = firstFault
+    (tableLengths (length (l .amounts)) (length (l .asks)) (length (l .bays)) (length (l .bids)) ∷ sheetFaults s)
 
--- a lent table afterwards: the content's table over its first places, or as it was
-unfoldable pub written : Content → (Tables → List ℕ) → List ℕ → List ℕ
-written (fault r) table l = l
-written (tables t) table l = over (table t) l
+-- the lent tables with the sheet's market over their first places
+unfoldable pub filled : (sheet : List ℕ) → LentTables → LentTables
+filled s l = record {
+  amounts = over (tablesOf s .amounts) (l .amounts);
+  asks = over (tablesOf s .asks) (l .asks);
+  bays = over (tablesOf s .bays) (l .bays);
+  bids = over (tablesOf s .bids) (l .bids);
+}
 
--- the contract of `read`: its answer, and each lent table at exit (′) by what it was at entry
-pub record Reads (sheet amounts asks bays bids : List ℕ) (answer : Reading)
-    (amounts′ asks′ bays′ bids′ : List ℕ) : Type 0 where
-  pub answers : answer ≡ answerOf (readInto amounts asks bays bids sheet)
-  pub amounts-are : amounts′ ≡ written (readInto amounts asks bays bids sheet) (λ t. t .amounts) amounts
-  pub asks-are : asks′ ≡ written (readInto amounts asks bays bids sheet) (λ t. t .asks) asks
-  pub bays-are : bays′ ≡ written (readInto amounts asks bays bids sheet) (λ t. t .bays) bays
-  pub bids-are : bids′ ≡ written (readInto amounts asks bays bids sheet) (λ t. t .bids) bids
+-- a call of `read`: the lent tables at entry, the answer, the tables at exit
+pub record Reads (sheet : List ℕ) (entry : LentTables) (answer : Reading) (exit : LentTables) : Type 0 where
+  pub answered : answerOfReading answer ≡ giving (readVerdict entry sheet) (guests sheet, stations sheet)
+  pub left : exit ≡ updated (readVerdict entry sheet) (filled sheet entry) entry

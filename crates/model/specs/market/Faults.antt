@@ -5,9 +5,6 @@ use mathlib.Core.List.{List, [], _∷_}
 use mathlib.Core.Path.{_≡_}
 use lib.ListN.{length}
 use Rattle.model.specs.Limits.{maxGuests, maxStations, maxPrice, maxAmount, maxCapacity}
-use Rattle.model.specs.declared.refusal.Refusal.the-variants.{CountsOutOfRange, LengthsDiffer, AskOutOfRange}
-use Rattle.model.specs.declared.refusal.Refusal.the-variants.{BaysOutOfRange, AmountOutOfRange, BidOutOfRange}
-use Rattle.model.specs.declared.refusal.Refusal.the-variants.{LentLengths}
 use Rattle.model.specs.Counting.{_<?_, _=?_, _or_, any}
 use Rattle.model.specs.Refusals.{Row, _gives_, Verdict, accepted, firstFault}
 use Rattle.model.specs.market.Market.{Tables}
@@ -19,23 +16,23 @@ outside low high x = x <? low or high <? x
 
 -- counts, and lengths of the market's tables
 unfoldable pub counts : (n m : ℕ) → Row
-counts n m = (maxGuests <? n or m =? 0 or maxStations <? m) gives CountsOutOfRange
+counts n m = (maxGuests <? n or m =? 0 or maxStations <? m) gives 2
 
 unfoldable pub lengths : (n m bays bids width : ℕ) → Row
-lengths n m bays bids width = (not (bays =? m) or not (bids =? n * m) or not (width =? m)) gives LengthsDiffer
+lengths n m bays bids width = (not (bays =? m) or not (bids =? n * m) or not (width =? m)) gives 5
 
 -- result lists
 unfoldable pub lent : (n m stations charges sold paid : ℕ) → Row
 lent n m stations charges sold paid =
-    (not (stations =? n) or not (charges =? n) or not (sold =? m) or not (paid =? m)) gives LentLengths
+    (not (stations =? n) or not (charges =? n) or not (sold =? m) or not (paid =? m)) gives 10
 
 -- all asks, then all bays, then all amounts, then all bids
 unfoldable pub values : Tables → List Row
 values t =
-    (any (t .asks) (outside 0 maxPrice) gives AskOutOfRange)
-    ∷ (any (t .bays) (outside 1 maxCapacity) gives BaysOutOfRange)
-    ∷ (any (t .amounts) (outside 1 maxAmount) gives AmountOutOfRange)
-    ∷ (any (t .bids) (outside 0 maxPrice) gives BidOutOfRange)
+    (any (t .asks) (outside 0 maxPrice) gives 6)
+    ∷ (any (t .bays) (outside 1 maxCapacity) gives 7)
+    ∷ (any (t .amounts) (outside 1 maxAmount) gives 8)
+    ∷ (any (t .bids) (outside 0 maxPrice) gives 9)
     ∷ []
 
 -- the clearing's rows, the one on result lists aside
@@ -50,7 +47,7 @@ unfoldable pub verdict : Tables → Verdict
 verdict t = firstFault (marketFaults t)
 
 abbrev pub Accepted : Tables → Type 0
-Accepted t = verdict t ≡ accepted
+Accepted t = verdict t ≡ accepted tt
 
 -- a clearing call, with the result lists that it is lent
 unfoldable pub clearingFaults : Tables → Results → List Row

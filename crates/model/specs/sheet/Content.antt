@@ -6,16 +6,12 @@
 use Prim.Native.Nat.{ℕ}
 use mathlib.Core.List.{List, [], _∷_, _++_}
 use lib.ListN.{length}
-use Rattle.model.specs.declared.refusal.Refusal.the-variants.{SheetEnds, TrailingBytes}
-use Rattle.model.specs.declared.refusal.Refusal.{Refusal}
 use Rattle.model.specs.Counting.{_<?_, list, joined}
 use Rattle.model.specs.market.Faults.{counts}
 use Rattle.model.specs.market.Market.{Tables}
-use Rattle.model.specs.Refusals.{Row, _gives_, Verdict, accepted, refused, firstFault}
+use Rattle.model.specs.Refusals.{Answer, Row, _gives_, firstFault, giving}
 use Rattle.model.specs.sheet.Fields.{number}
 use Rattle.model.specs.sheet.Rows.{rowAt, askOf, baysOf, amountOf, bidOf, rowsFaults}
-use Rattle.model.specs.declared.answers.Reading.the-variants.{Read, Refused}
-use Rattle.model.specs.declared.answers.Reading.{Reading}
 
 -- ---- the header, and the market
 
@@ -41,28 +37,14 @@ tablesOf s = record {
 
 unfoldable pub sheetFaults : List ℕ → List Row
 sheetFaults s =
-    (length s <? 4 gives SheetEnds)
+    (length s <? 4 gives 1)
     ∷ counts (guests s) (stations s)
-    ∷ (length s <? rowAt s (stations s) 0 gives SheetEnds)
+    ∷ (length s <? rowAt s (stations s) 0 gives 1)
     ∷ (rowsFaults s (stations s) (guests s)
-    ++ ((rowAt s (stations s) (guests s) <? length s gives TrailingBytes) ∷ []))
+    ++ ((rowAt s (stations s) (guests s) <? length s gives 4) ∷ []))
 
 -- ---- the reading
 
--- what bytes come to
-pub data Content : Type 0 where
-  fault : Refusal → Content
-  tables : Tables → Content
-
-unfoldable pub contentBy : Verdict → Tables → Content
-contentBy accepted t = tables t
-contentBy (refused r) t = fault r
-
 -- what a sheet comes to
-unfoldable pub readSheet : List ℕ → Content
-readSheet s = contentBy (firstFault (sheetFaults s)) (tablesOf s)
-
--- the answer: n and m, or a refusal, whose number is `number` of specs/Numbers.antt
-unfoldable pub answerOf : Content → Reading
-answerOf (fault r) = Refused r
-answerOf (tables t) = Read (length (t .amounts)) (length (t .asks))
+unfoldable pub readSheet : List ℕ → Answer Tables
+readSheet s = giving (firstFault (sheetFaults s)) (tablesOf s)

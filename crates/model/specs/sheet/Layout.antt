@@ -8,7 +8,8 @@ use Rattle.model.specs.Limits.{maxGuests, maxStations}
 use Rattle.model.specs.Counting.{only, joined}
 use Rattle.model.specs.market.Market.{Tables, bidAt}
 use Rattle.model.specs.sheet.Fields.{mapWidth}
-use Rattle.model.specs.sheet.Content.{tables, readSheet}
+use Rattle.model.specs.Refusals.{accepted}
+use Rattle.model.specs.sheet.Content.{readSheet}
 
 -- x in k bytes, lowest byte first
 unfoldable pub bytesOf : (k x : ℕ) → List ℕ
@@ -68,7 +69,7 @@ Bytes s = (k : ℕ) → getD s k 0 < 256
 -- bytes are read as t exactly where they state t
 abbrev pub ReadsExactlyWhatIsStated : Type 0
 ReadsExactlyWhatIsStated =
-    (s : List ℕ) (t : Tables) → Bytes s → (readSheet s ≡ tables t → States s t) × (States s t → readSheet s ≡ tables t)
+    (s : List ℕ) (t : Tables) → Bytes s → (readSheet s ≡ accepted t → States s t) × (States s t → readSheet s ≡ accepted t)
 
 -- two markets never share a sheet
 abbrev pub StatesOneMarket : Type 0

@@ -4,7 +4,6 @@
 use Prim.Native.Nat.{ℕ, zero, suc, _+_, _*_, _/_, _^_}
 use mathlib.Core.List.{List, [], _∷_}
 use lib.ListN.{length}
-use Rattle.model.specs.declared.refusal.Refusal.the-variants.{SheetEnds, StrayBit}
 use Rattle.model.specs.Counting.{_<?_, only, count, joined}
 use Rattle.model.specs.Refusals.{Row, _gives_}
 use Rattle.model.specs.sheet.Fields.{number, mapWidth, hasBit}
@@ -44,10 +43,10 @@ bidOf s m i = bidBy s (mapAt s m (rowAt s m i)) (bidsAt m (rowAt s m i))
 
 unfoldable pub rowFaults : List ℕ → (m p : ℕ) → List Row
 rowFaults s m p =
-    (length s <? p + 2 gives SheetEnds)
-    ∷ (length s <? bidsAt m p gives SheetEnds)
-    ∷ (0 <? mapAt s m p / 2 ^ m gives StrayBit)
-    ∷ (length s <? nextAt s m p gives SheetEnds)
+    (length s <? p + 2 gives 1)
+    ∷ (length s <? bidsAt m p gives 1)
+    ∷ (0 <? mapAt s m p / 2 ^ m gives 3)
+    ∷ (length s <? nextAt s m p gives 1)
     ∷ []
 
 unfoldable pub rowsFaults : List ℕ → (m n : ℕ) → List Row

@@ -8,8 +8,8 @@ use Rattle.model.specs.market.Faults.{verdict}
 use Rattle.model.specs.text.Text.{text, refusalText}
 
 unfoldable pub marketText : Verdict → Tables → List ℕ
-marketText accepted t = text (outcome t)
-marketText (refused r) t = refusalText r
+marketText (accepted _) t = text (outcome t)
+marketText (refused k) t = refusalText k
 
 unfoldable pub marketTextOf : Tables → List ℕ
 marketTextOf t = marketText (verdict t) t

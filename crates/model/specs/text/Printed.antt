@@ -2,12 +2,14 @@
 use Prim.Native.Nat.{ℕ}
 use mathlib.Core.List.{List}
 use Rattle.model.specs.text.Text.{refusalText}
-use Rattle.model.specs.sheet.Content.{Content, fault, tables, readSheet}
+use Rattle.model.specs.Refusals.{Answer, accepted, refused}
+use Rattle.model.specs.market.Market.{Tables}
+use Rattle.model.specs.sheet.Content.{readSheet}
 use Rattle.model.specs.text.MarketText.{marketTextOf}
 
-unfoldable pub sheetText : Content → List ℕ
-sheetText (fault r) = refusalText r
-sheetText (tables t) = marketTextOf t
+unfoldable pub sheetText : Answer Tables → List ℕ
+sheetText (refused k) = refusalText k
+sheetText (accepted t) = marketTextOf t
 
 unfoldable pub printed : (sheet : List ℕ) → List ℕ
 printed s = sheetText (readSheet s)

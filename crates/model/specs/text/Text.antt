@@ -2,8 +2,6 @@
 use Prim.Native.Nat.{ℕ}
 use mathlib.Core.List.{List, [], _∷_, _++_}
 use lib.ListN.{length}
-use Rattle.model.specs.Numbers.{number}
-use Rattle.model.specs.declared.refusal.Refusal.{Refusal}
 use Rattle.model.specs.market.Outcome.{Outcome}
 use Rattle.model.specs.text.Decimal.{field}
 use Rattle.model.specs.text.Lines.{lineEnd, guestLines, stationLines}
@@ -25,5 +23,5 @@ text o = field cutWord (o .cut) ++ lineEnd
     ++ stationLines (o .results .sold) (o .results .paid) (length (o .results .sold))
     ++ field marginWord (o .margin) ++ lineEnd
 
-unfoldable pub refusalText : Refusal → List ℕ
-refusalText r = field refusedWord (number r) ++ lineEnd
+unfoldable pub refusalText : (number : ℕ) → List ℕ
+refusalText k = field refusedWord k ++ lineEnd
