@@ -3,3 +3,4 @@ pub mod Gains
 pub mod Market
 pub mod Mechanism
 pub mod Outcome
+pub mod Shape

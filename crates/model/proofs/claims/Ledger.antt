@@ -1,5 +1,5 @@
 -- Demand 3, third sentence, proved: by induction over the list, one law for each kind of number that the book keeps.
-use Prim.Native.Nat.{ℕ, _+_, _<_}
+use Prim.Native.Nat.{ℕ, _+_, _<_, _≤_}
 use mathlib.Core.Bool.{false}
 use mathlib.Core.List.{List, [], _∷_}
 use mathlib.Core.Path.{_≡_, refl, sym, ap, ap₂, _∙_}
@@ -10,8 +10,8 @@ use Rattle.model.specs.market.Mechanism.{charged, paid}
 use Rattle.model.specs.market.Outcome.{seen, decided}
 use Rattle.model.specs.Refusals.{Verdict, accepted, refused, updated}
 use Rattle.model.specs.book.Book.{Book, entered}
-use Rattle.model.specs.book.Faults.{overLimit}
-use Rattle.model.specs.claims.Readings.{PostingWithinLimits}
+use Rattle.model.specs.Limits.{maxAccount}
+use Rattle.model.specs.claims.Readings.{AccountsWithin, PostingWithinLimits}
 use Rattle.model.proofs.Tests.{neither, not-lt}
 use Rattle.model.proofs.Counting.{none-any}
 use Rattle.model.proofs.market.Acceptance.{posting-accepted-reads}
@@ -65,21 +65,25 @@ pub record Sound (g s : ℕ) (B : Book) : Type 0 where
   pub sold : length (B .sold) ≡ s
   pub paid : length (B .paid) ≡ s
   pub level : together (B .guests) ≡ together (B .paid) + B .house
-  pub within : overLimit B ≡ false
+  pub within : AccountsWithin B
 
 sound-empty : (g s : ℕ) → Sound g s (empty g s)
-unfolding empty overLimit
+unfolding empty
 sound-empty g s = record {
   guests = length-replicate g 0;
   sold = length-replicate s 0;
   paid = length-replicate s 0;
   level = omega (arith, together-zeros g, together-zeros s);
-  within = neither (neither (neither (zeros g) (zeros s)) (zeros s)) (not-lt _ _ (omega arith));
+  within = record {
+    guest-most = λ i l. zero-most g i l;
+    sold-most = λ j l. zero-most s j l;
+    paid-most = λ j l. zero-most s j l;
+    house-most = omega arith;
+  };
 }
   where
-    zeros : (n : ℕ) → any (replicate n 0) (λ x. 1_000_000_000_000_000 <? x) ≡ false
-    zeros n =
-        none-any _ _ (λ k l. not-lt _ _ (omega (arith, getD-replicate {A = ℕ} n k 0 0 (rw length-replicate at l))))
+    zero-most : (n k : ℕ) → k < length (replicate {A = ℕ} n 0) → getD (replicate n 0) k 0 ≤ maxAccount
+    zero-most n k l = omega (arith, getD-replicate {A = ℕ} n k 0 0 (rw length-replicate at l))
 
 sound-entered :
     (g s : ℕ) (B : Book) (p : Posting) → Fits B p → Sound g s B → Sound g s (entered (p .tables) (p .round) B)

@@ -8,7 +8,7 @@ use lib.ListN.{length, take, drop}
 use lib.Seq.{take-at}
 use Rattle.model.specs.Limits.{maxGuests, maxStations}
 use Rattle.model.specs.Counting.{_=?_, _or_}
-use Rattle.model.specs.market.Market.{Tables}
+use Rattle.model.specs.market.Shape.{Shaped}
 use Rattle.model.specs.Numbers.{number}
 use Rattle.model.specs.Refusals.{accepted, refused}
 use Rattle.model.specs.declared.refusal.Refusal.{Refusal}
@@ -29,15 +29,9 @@ use Rattle.model.proofs.sheet.Tables.{room-for}
 -- an accepted sheet: the first places of the tables at exit are the market that it states
 pub record ReadTables (s : List ℕ) (n m : ℕ) (exit : LentTables) : Type 0 where
   pub reads : readSheet s ≡ accepted (tablesOf s)
-  pub few : n ≤ maxGuests
-  pub some : 1 ≤ m
-  pub narrow : m ≤ maxStations
-  pub room : n * m ≤ maxGuests * maxStations
-  pub width-is : tablesOf s .width ≡ m
-  pub amounts-long : length (tablesOf s .amounts) ≡ n
-  pub asks-long : length (tablesOf s .asks) ≡ m
-  pub bays-long : length (tablesOf s .bays) ≡ m
-  pub bids-long : length (tablesOf s .bids) ≡ n * m
+  pub shape : Shaped (tablesOf s)
+  pub n-is : length (tablesOf s .amounts) ≡ n
+  pub m-is : length (tablesOf s .asks) ≡ m
   pub amounts-are : take n (exit .amounts) ≡ tablesOf s .amounts
   pub asks-are : take m (exit .asks) ≡ tablesOf s .asks
   pub bays-are : take m (exit .bays) ≡ tablesOf s .bays
@@ -47,7 +41,7 @@ take-over : (xs l y : List ℕ) (n : ℕ) → y ≡ over xs l → length xs ≡ 
 unfolding over
 take-over xs l y n e h = ap (take n) e ∙ take-at xs (drop (length xs) l) n h
 
-lent-good :
+pub lent-good :
     (a b c d : ℕ) → a ≡ 200 → b ≡ 40 → c ≡ 40 → d ≡ 8000
     → (not (a =? 200) or not (b =? 40) or not (c =? 40) or not (d =? 8000)) ≡ false
 lent-good a b c d la lb lc ld =
@@ -63,22 +57,23 @@ module _ (s : List ℕ) (entry exit : LentTables) (r : Reading) (k : Reads s ent
       let t = sheet-sound s z in
       let few : n ≤ 200 = omega (arith, t .few) in
       let narrow : m ≤ 40 = omega (arith, t .narrow) in
-      let a-long = length-list _ _ ∙ sym f in
-      let b-long = length-list _ _ ∙ sym g in
-      let c-long = length-list _ _ ∙ sym g in
-      let d-long = joined-length _ _ (bidOf s (stations s)) ∙ sym (ap₂ _*_ f g) in
-      let full : exit ≡ filled s entry = k .left ∙ updated-accepted _ _ v in
+      let a-long : length (tablesOf s .amounts) ≡ n = length-list _ _ ∙ sym f in
+      let b-long : length (tablesOf s .asks) ≡ m = length-list _ _ ∙ sym g in
+      let c-long : length (tablesOf s .bays) ≡ m = length-list _ _ ∙ sym g in
+      let d-long : length (tablesOf s .bids) ≡ n * m = joined-length _ _ (bidOf s (stations s)) ∙ sym (ap₂ _*_ f g) in
+      let full : exit ≡ filled (tablesOf s) entry = k .left ∙ updated-accepted _ _ v in
       record {
         reads = giving-accepted _ z;
-        few = few;
-        some = omega (arith, t .some);
-        narrow = narrow;
-        room = room-for n m 8000 few narrow refl;
-        width-is = sym g;
-        amounts-long = a-long;
-        asks-long = b-long;
-        bays-long = c-long;
-        bids-long = d-long;
+        shape = record {
+          guests-most = omega (arith, a-long, few);
+          stations-least = omega (arith, b-long, g, t .some);
+          stations-most = omega (arith, b-long, narrow);
+          bays-length = c-long ∙ sym b-long;
+          bids-length = d-long ∙ sym (ap₂ _*_ a-long b-long);
+          width-is = sym (length-list _ _);
+        };
+        n-is = a-long;
+        m-is = b-long;
         amounts-are = take-over _ (entry .amounts) _ n (ap (λ l. l .amounts) full) a-long;
         asks-are = take-over _ (entry .asks) _ m (ap (λ l. l .asks) full) b-long;
         bays-are = take-over _ (entry .bays) _ m (ap (λ l. l .bays) full) c-long;

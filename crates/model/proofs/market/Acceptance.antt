@@ -13,11 +13,11 @@ use Rattle.model.specs.Refusals.{accepted, firstFault}
 use Rattle.model.specs.market.Market.{Tables}
 use Rattle.model.specs.market.Faults.{outside, counts, lengths, lent, values, marketFaults, verdict, Accepted}
 use Rattle.model.specs.market.Faults.{clearingFaults}
-use Rattle.model.specs.book.Book.{Book}
-use Rattle.model.specs.book.Faults.{bookSize, outOfTurn, postingFaults}
+use Rattle.model.specs.book.Book.{Book, entered}
+use Rattle.model.specs.book.Faults.{overLimit, bookSize, outOfTurn, postingFaults}
 use Rattle.model.specs.market.Outcome.{Results}
 use Rattle.model.specs.claims.Readings.{WithinLimits, AcceptedReads, CallWithinLimits, CallAcceptedReads}
-use Rattle.model.specs.claims.Readings.{PostingWithinLimits, PostingAcceptedReads}
+use Rattle.model.specs.claims.Readings.{AccountsWithin, PostingWithinLimits, PostingAcceptedReads}
 use Rattle.model.proofs.Tests.{or-no, neither, lt-no, not-lt, le-no, not-le, eq-yes, eq-no, is-eq, not-eq}
 use Rattle.model.proofs.Counting.{any-no, none-any}
 use Rattle.model.proofs.Refusals.{fault-none, no-fault, no-faults, fault-second, fault-free}
@@ -65,12 +65,14 @@ within t e =
     let (bay-list, bid-list) = or-no _ _ l01 in
     let bays-long : length (t .bays) ≡ length (t .asks) = equal _ _ bay-list in
     record {
-      guests-most = k .0;
-      stations-least = k .1;
-      stations-most = k .2;
-      bays-length = bays-long;
-      bids-length = equal _ _ bid-list;
-      width-is = equal _ _ width;
+      shape = record {
+        guests-most = k .0;
+        stations-least = k .1;
+        stations-most = k .2;
+        bays-length = bays-long;
+        bids-length = equal _ _ bid-list;
+        width-is = equal _ _ width;
+      };
       ask-most = λ j lj. all-inside _ _ _ asks j lj .1;
       bays-least = λ j lj. all-inside _ _ _ bays j (omega arith) .0;
       bays-most = λ j lj. all-inside _ _ _ bays j (omega arith) .1;
@@ -83,12 +85,12 @@ accept : (t : Tables) → WithinLimits t → Accepted t
 unfolding verdict marketFaults counts lengths values
 accept t w =
     fault-free _ _ (neither
-    (neither (not-lt _ _ (w .guests-most)) (not-eq (length (t .asks)) 0 (λ q. omega (arith, w .stations-least))))
-    (not-lt _ _ (w .stations-most)))
-    (fault-free _ _ (neither (neither (not-unequal _ _ (w .bays-length)) (not-unequal _ _ (w .bids-length)))
-    (not-unequal _ _ (w .width-is)))
+    (neither (not-lt _ _ (w .shape .guests-most)) (not-eq (length (t .asks)) 0 (λ q. omega (arith, w .shape .stations-least))))
+    (not-lt _ _ (w .shape .stations-most)))
+    (fault-free _ _ (neither (neither (not-unequal _ _ (w .shape .bays-length)) (not-unequal _ _ (w .shape .bids-length)))
+    (not-unequal _ _ (w .shape .width-is)))
     (fault-free _ _ (none-any (t .asks) _ (λ j lj. not-outside 0 maxPrice _ (omega arith) (w .ask-most j lj)))
-    (fault-free _ _ (none-any (t .bays) _ (λ j lj. let l : j < length (t .asks) = omega (arith, w .bays-length) in
+    (fault-free _ _ (none-any (t .bays) _ (λ j lj. let l : j < length (t .asks) = omega (arith, w .shape .bays-length) in
     not-outside _ _ _ (w .bays-least j l) (w .bays-most j l)))
     (fault-free _ _ (none-any (t .amounts) _ (λ i li. not-outside _ _ _ (w .amount-least i li) (w .amount-most i li)))
     (fault-free _ _ (none-any (t .bids) _ (λ q lq. not-outside 0 maxPrice _ (omega arith) (w .bid-most q lq)))
@@ -130,6 +132,27 @@ call-accept t r w =
 pub call-accepted-reads : CallAcceptedReads
 call-accepted-reads t r = (call-within t r, call-accept t r)
 
+pub under-limit : (B : Book) → overLimit B ≡ false → AccountsWithin B
+unfolding overLimit
+under-limit B e =
+    let (lists, house) = or-no _ _ e in
+    let (kwh, paid) = or-no _ _ lists in
+    let (guests, sold) = or-no _ _ kwh in
+    record {
+      guest-most = λ i l. lt-no _ _ (any-no (B .guests) _ guests i l);
+      sold-most = λ j l. lt-no _ _ (any-no (B .sold) _ sold j l);
+      paid-most = λ j l. lt-no _ _ (any-no (B .paid) _ paid j l);
+      house-most = lt-no _ _ house;
+    }
+
+pub not-over : (B : Book) → AccountsWithin B → overLimit B ≡ false
+unfolding overLimit
+not-over B w =
+    neither (neither (neither (none-any (B .guests) _ (λ i l. not-lt _ _ (w .guest-most i l)))
+    (none-any (B .sold) _ (λ j l. not-lt _ _ (w .sold-most j l))))
+    (none-any (B .paid) _ (λ j l. not-lt _ _ (w .paid-most j l))))
+    (not-lt _ _ (w .house-most))
+
 posting-within :
     (t : Tables) (round : ℕ) (B : Book) → firstFault (postingFaults t round B) ≡ accepted tt
     → PostingWithinLimits t round B
@@ -150,8 +173,8 @@ posting-within t round B e =
       stations-most = inside _ _ _ s .1;
       rounds-left = le-no _ _ left;
       next-round = equal _ _ next;
-      within-before = before;
-      within-after = after;
+      within-before = under-limit B before;
+      within-after = under-limit (entered t round B) after;
     }
 
 posting-accept :
@@ -163,7 +186,7 @@ posting-accept t round B w =
     (fault-free _ _ (neither (not-outside _ _ _ (w .guests-least) (w .guests-most))
     (not-outside _ _ _ (w .stations-least) (w .stations-most)))
     (fault-free _ _ (neither (not-le _ _ (w .rounds-left)) (not-unequal _ _ (w .next-round)))
-    (fault-free _ _ (neither (w .within-before) (w .within-after))
+    (fault-free _ _ (neither (not-over B (w .within-before)) (not-over _ (w .within-after)))
     fault-none)))
 
 pub posting-accepted-reads : PostingAcceptedReads

@@ -240,8 +240,8 @@ module _ (s : List ℕ) (t : Tables) (set : ℕ → ℕ → Bool) where
     pub layout-fields : Fields s t set
     unfolding guests stations
     layout-fields = record {
-      n-is = holds-number s 0 2 _ (omega (arith, g .few)) (holds-left s 0 (bytesOf 2 (n t)) _ from-0);
-      m-is = holds-number s 2 2 _ (omega (arith, g .narrow)) (holds-left s 2 (bytesOf 2 (m t)) _ from-2);
+      n-is = holds-number s 0 2 _ (omega (arith, g .shape .guests-most)) (holds-left s 0 (bytesOf 2 (n t)) _ from-0);
+      m-is = holds-number s 2 2 _ (omega (arith, g .shape .stations-most)) (holds-left s 2 (bytesOf 2 (m t)) _ from-2);
       ask-is = λ j l. station-at j l .0;
       bays-are = λ j l. let z : 8 + 6 * j ≡ 4 + 6 * j + 4 = omega arith in rw z (station-at j l .1);
       amount-is = λ i l. row-amount t set s i (rowAt s (m t) i) (row-at i l) (g .amount-fits i l);

@@ -74,5 +74,5 @@ module _ (s a b c d : List ℕ) where
         let h : readVerdict entry s ≡ accepted tt = as-sheet ∙ e in
         record {
           answered = rw (f, g) (sym (giving-accepted _ h));
-          left = rw (i, j, k, l, f, g) (sym (updated-accepted (filled s entry) entry h));
+          left = rw (i, j, k, l, f, g) (sym (updated-accepted (filled (tablesOf s) entry) entry h));
         }

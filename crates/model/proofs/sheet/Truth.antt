@@ -97,7 +97,7 @@ module _ (s : List ℕ) (t : Tables) (set : ℕ → ℕ → Bool) (g : Fitting t
   no-fault-in : firstFault (sheetFaults s) ≡ accepted tt
   no-fault-in =
       whole (record { within = omega (arith, first); n-is = sym (f .n-is); m-is = sym (f .m-is) })
-      (counts-good (n t) (m t) (g .few) (g .some) (g .narrow))
+      (counts-good (n t) (m t) (g .shape .guests-most) (g .shape .stations-least) (g .shape .stations-most))
       first (all-sound s (m t) (n t) row-is-sound) (omega (arith, f .end))
     where
       first : 4 + 6 * m t ≤ length s
@@ -118,17 +118,17 @@ module _ (s : List ℕ) (t : Tables) (set : ℕ → ℕ → Bool) (g : Fitting t
     unfolding tablesOf askOf baysOf amountOf bidAt
     tables-same = rw (f .n-is, f .m-is) (λ x. record {
       asks = list-is (m t) (λ j. number s (4 + 6 * j) 4) (t .asks) refl (f .ask-is) x;
-      bays = list-is (m t) (λ j. number s (8 + 6 * j) 2) (t .bays) (g .bays-long) (f .bays-are) x;
+      bays = list-is (m t) (λ j. number s (8 + 6 * j) 2) (t .bays) (g .shape .bays-length) (f .bays-are) x;
       amounts = list-is (n t) (λ i. number s (rowAt s (m t) i) 2) (t .amounts) refl (f .amount-is) x;
-      bids = joined-is (n t) (m t) (bidOf s (m t)) (t .bids) (g .some) (g .bids-long) bid-same x;
-      width = sym (g .width-is) x;
+      bids = joined-is (n t) (m t) (bidOf s (m t)) (t .bids) (g .shape .stations-least) (g .shape .bids-length) bid-same x;
+      width = sym (g .shape .width-is) x;
     })
 
     fields-read : readSheet s ≡ accepted t
     unfolding readSheet
     fields-read = giving-accepted (tablesOf s) no-fault-in ∙ ap accepted tables-same
 
-states-read : (s : List ℕ) (t : Tables) → States s t → readSheet s ≡ accepted t
+pub states-read : (s : List ℕ) (t : Tables) → States s t → readSheet s ≡ accepted t
 states-read s t w = fields-read s t (w .set) (w .fitting) (layout-fields s t (w .set) (w .fitting) (w .is)) (w .covers)
 
 -- ---- and a sheet that is read as a market states it
@@ -173,12 +173,14 @@ module _ (s : List ℕ) (t : Tables) (y : Bytes s) (z : firstFault (sheetFaults 
   fits : Fitting t
   unfolding bidOf bidBy
   fits = record {
-    few = omega (arith, w .n-is, sound .few);
-    some = omega (arith, w .m-is, sound .some);
-    narrow = omega (arith, w .m-is, sound .narrow);
-    width-is = w .width-is;
-    bays-long = w .bays-long;
-    bids-long = w .bids-long;
+    shape = record {
+      guests-most = omega (arith, w .n-is, sound .few);
+      stations-least = omega (arith, w .m-is, sound .some);
+      stations-most = omega (arith, w .m-is, sound .narrow);
+      bays-length = w .bays-long;
+      bids-length = w .bids-long;
+      width-is = w .width-is;
+    };
     ask-fits = λ j l. rw (w .ask-at j l) (number-low s y _ 4);
     bays-fit = λ j l. rw (w .bays-at j l) (number-low s y _ 2);
     amount-fits = λ i l. rw (w .amount-at i l) (number-low s y _ 2);

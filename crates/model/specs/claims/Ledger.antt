@@ -1,11 +1,10 @@
 -- Demand 3's claim about every list of postings.
 use Prim.Native.Nat.{ℕ, _+_, _<_}
-use mathlib.Core.Bool.{false}
 use mathlib.Core.List.{List, [], _∷_}
 use mathlib.Core.Path.{_≡_}
 use lib.ListN.{getD, length}
 use Rattle.model.specs.Refusals.{Verdict, accepted, refused}
-use Rattle.model.specs.book.Faults.{overLimit}
+use Rattle.model.specs.claims.Readings.{AccountsWithin}
 use Rattle.model.specs.cases.Cases.{caseE}
 use Rattle.model.specs.book.Records.{account, accountAt, paidOf}
 use Rattle.model.specs.book.Posting.{Posting, posting, toGuest, toSold, toPaid, toHouse}
@@ -34,8 +33,8 @@ pub record Kept (g s : ℕ) (ps : List Posting) (vs : List Verdict) (B : LentBoo
   pub house-sum : B .house ≡ total toHouse (rounds ps vs)
   -- the guests' accounts equal the stations' plus the house's
   pub level : together (B .guests) ≡ together (paidOf (B .stations)) + B .house
-  -- no account is above its limit
-  pub within-limit : overLimit (plain B) ≡ false
+  -- every account is within its limit
+  pub within-limit : AccountsWithin (plain B)
 
 abbrev pub BookKept : Type 0
 BookKept =

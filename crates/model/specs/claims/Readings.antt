@@ -6,26 +6,22 @@ use mathlib.Core.Logic.{_↔_}
 use mathlib.Core.Path.{_≡_}
 use lib.IntN.{pos}
 use lib.ListN.{getD, length}
-use Rattle.model.specs.Limits.{maxGuests, maxStations, maxPrice, maxAmount, maxCapacity, maxRound}
+use Rattle.model.specs.Limits.{maxGuests, maxStations, maxPrice, maxAmount, maxCapacity, maxAccount, maxRound}
 use Rattle.model.specs.Counting.{_=?_, count}
 use Rattle.model.specs.market.Market.{Tables, bidAt, marketBy, median, cut, Screened, Queue, queue, before, rank}
 use Rattle.model.specs.market.Market.{provisional, critical}
 use Rattle.model.specs.market.Mechanism.{Decision, charge, sold, surplus}
 use Rattle.model.specs.market.Outcome.{Results, seen, decided}
+use Rattle.model.specs.market.Shape.{Shaped}
 use Rattle.model.specs.Refusals.{accepted, firstFault}
 use Rattle.model.specs.market.Faults.{Accepted, clearingFaults}
 use Rattle.model.specs.book.Book.{Book, entered}
-use Rattle.model.specs.book.Faults.{overLimit, postingFaults}
+use Rattle.model.specs.book.Faults.{postingFaults}
 use Rattle.model.specs.market.Gains.{guestGain, stationGain}
 
 -- 'A market'
 pub record WithinLimits (t : Tables) : Type 0 where
-  pub guests-most : length (t .amounts) ≤ maxGuests
-  pub stations-least : 1 ≤ length (t .asks)
-  pub stations-most : length (t .asks) ≤ maxStations
-  pub bays-length : length (t .bays) ≡ length (t .asks)
-  pub bids-length : length (t .bids) ≡ length (t .amounts) * length (t .asks)
-  pub width-is : t .width ≡ length (t .asks)
+  pub shape : Shaped t
   pub ask-most : (j : ℕ) → j < length (t .asks) → getD (t .asks) j 0 ≤ maxPrice
   pub bays-least : (j : ℕ) → j < length (t .asks) → 1 ≤ getD (t .bays) j 0
   pub bays-most : (j : ℕ) → j < length (t .asks) → getD (t .bays) j 0 ≤ maxCapacity
@@ -51,8 +47,15 @@ pub record CallWithinLimits (t : Tables) (r : Results) : Type 0 where
 abbrev pub CallAcceptedReads : Type 0
 CallAcceptedReads = (t : Tables) (r : Results) → (firstFault (clearingFaults t r) ≡ accepted tt) ↔ CallWithinLimits t r
 
--- a posting is accepted exactly where its market is, the book has room for it, the round is next and no account is
--- above its limit before or after
+-- every account and kWh sum of a book is within its limit
+pub record AccountsWithin (B : Book) : Type 0 where
+  pub guest-most : (i : ℕ) → i < length (B .guests) → getD (B .guests) i 0 ≤ maxAccount
+  pub sold-most : (j : ℕ) → j < length (B .sold) → getD (B .sold) j 0 ≤ maxAccount
+  pub paid-most : (j : ℕ) → j < length (B .paid) → getD (B .paid) j 0 ≤ maxAccount
+  pub house-most : B .house ≤ maxAccount
+
+-- a posting is accepted exactly where its market is, the book has room for it, the round is next and every account is
+-- within its limit before and after
 pub record PostingWithinLimits (t : Tables) (round : ℕ) (B : Book) : Type 0 where
   pub market-accepted : Accepted t
   pub guests-least : length (t .amounts) ≤ length (B .guests)
@@ -61,8 +64,8 @@ pub record PostingWithinLimits (t : Tables) (round : ℕ) (B : Book) : Type 0 wh
   pub stations-most : length (B .sold) ≤ maxStations
   pub rounds-left : B .last < maxRound
   pub next-round : round ≡ B .last + 1
-  pub within-before : overLimit B ≡ false
-  pub within-after : overLimit (entered t round B) ≡ false
+  pub within-before : AccountsWithin B
+  pub within-after : AccountsWithin (entered t round B)
 
 abbrev pub PostingAcceptedReads : Type 0
 PostingAcceptedReads =

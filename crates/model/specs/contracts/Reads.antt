@@ -8,6 +8,7 @@ use Rattle.model.specs.Limits.{maxGuests, maxStations}
 use Rattle.model.specs.Counting.{_=?_, _or_}
 use Rattle.model.specs.Numbers.{answerOfReading}
 use Rattle.model.specs.Refusals.{Row, _gives_, Verdict, firstFault, giving, updated}
+use Rattle.model.specs.market.Market.{Tables}
 use Rattle.model.specs.sheet.Over.{over}
 use Rattle.model.specs.sheet.Content.{guests, stations, sheetFaults, tablesOf}
 use Rattle.model.specs.declared.answers.Reading.{Reading}
@@ -33,16 +34,16 @@ unfoldable pub readVerdict : LentTables → (sheet : List ℕ) → Verdict
 readVerdict l s = firstFault
     (tableLengths (length (l .amounts)) (length (l .asks)) (length (l .bays)) (length (l .bids)) ∷ sheetFaults s)
 
--- the lent tables with the sheet's market over their first places
-unfoldable pub filled : (sheet : List ℕ) → LentTables → LentTables
-filled s l = record {
-  amounts = over (tablesOf s .amounts) (l .amounts);
-  asks = over (tablesOf s .asks) (l .asks);
-  bays = over (tablesOf s .bays) (l .bays);
-  bids = over (tablesOf s .bids) (l .bids);
+-- the lent tables with a market over their first places
+unfoldable pub filled : Tables → LentTables → LentTables
+filled t l = record {
+  amounts = over (t .amounts) (l .amounts);
+  asks = over (t .asks) (l .asks);
+  bays = over (t .bays) (l .bays);
+  bids = over (t .bids) (l .bids);
 }
 
 -- a call of `read`: the lent tables at entry, the answer, the tables at exit
 pub record Reads (sheet : List ℕ) (entry : LentTables) (answer : Reading) (exit : LentTables) : Type 0 where
   pub answered : answerOfReading answer ≡ giving (readVerdict entry sheet) (guests sheet, stations sheet)
-  pub left : exit ≡ updated (readVerdict entry sheet) (filled sheet entry) entry
+  pub left : exit ≡ updated (readVerdict entry sheet) (filled (tablesOf sheet) entry) entry

@@ -4,9 +4,9 @@ use mathlib.Core.Bool.{Bool, true, false}
 use mathlib.Core.List.{List, [], _∷_, _++_}
 use mathlib.Core.Path.{_≡_}
 use lib.ListN.{length, getD}
-use Rattle.model.specs.Limits.{maxGuests, maxStations}
 use Rattle.model.specs.Counting.{only, joined}
 use Rattle.model.specs.market.Market.{Tables, bidAt}
+use Rattle.model.specs.market.Shape.{Shaped}
 use Rattle.model.specs.sheet.Fields.{mapWidth}
 use Rattle.model.specs.Refusals.{accepted}
 use Rattle.model.specs.sheet.Content.{readSheet}
@@ -41,14 +41,9 @@ layout t set = bytesOf 2 (length (t .amounts))
     ++ (joined (length (t .asks)) (station t)
     ++ joined (length (t .amounts)) (row t set)))
 
--- the counts are within their limits, the tables as long as they say, and each number fits its field
+-- the tables have a market's shape, and each number fits its field
 pub record Fitting (t : Tables) : Type 0 where
-  pub few : length (t .amounts) ≤ maxGuests
-  pub some : 1 ≤ length (t .asks)
-  pub narrow : length (t .asks) ≤ maxStations
-  pub width-is : t .width ≡ length (t .asks)
-  pub bays-long : length (t .bays) ≡ length (t .asks)
-  pub bids-long : length (t .bids) ≡ length (t .amounts) * length (t .asks)
+  pub shape : Shaped t
   pub ask-fits : (j : ℕ) → j < length (t .asks) → getD (t .asks) j 0 < 256 ^ 4
   pub bays-fit : (j : ℕ) → j < length (t .asks) → getD (t .bays) j 0 < 256 ^ 2
   pub amount-fits : (i : ℕ) → i < length (t .amounts) → getD (t .amounts) i 0 < 256 ^ 2
