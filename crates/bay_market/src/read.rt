@@ -1,5 +1,6 @@
 // The reader for other languages: include/bay_market.h.
 use model::answers::Reading;
+ghost use Rattle.model.specs.contracts.Reads.{lentTables};
 ghost use Rattle.model.specs.contracts.ReadsOut.{ReadsOut};
 
 #[no_mangle]
@@ -12,7 +13,11 @@ pub extern "C" fn bay_market_read(
     n: &mut u16,
     m: &mut u16,
 ) -> u8
-    ensures { λ r. ⌜ ReadsOut (now (sheet .entry)) (now (amounts .entry)) (now (asks .entry)) (now (bays .entry)) (now (bids .entry)) (now (n .entry)) (now (m .entry)) r (now (amounts .exit)) (now (asks .exit)) (now (bays .exit)) (now (bids .exit)) (now (n .exit)) (now (m .exit)) ⌝ }
+    ensures { λ r. ⌜ ReadsOut (now (sheet .entry))
+        (lentTables (now (amounts .entry)) (now (asks .entry)) (now (bays .entry)) (now (bids .entry)))
+        (now (n .entry)) (now (m .entry)) r
+        (lentTables (now (amounts .exit)) (now (asks .exit)) (now (bays .exit)) (now (bids .exit)))
+        (now (n .exit)) (now (m .exit)) ⌝ }
 {
     let reading = sheet::read(sheet, amounts, asks, bays, bids);
     match reading {

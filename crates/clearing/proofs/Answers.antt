@@ -8,11 +8,15 @@ use lib.ListN.{getD, length}
 use Rattle.model.specs.Limits.{maxStations, maxPrice}
 use Rattle.model.specs.declared.refusal.Refusal.{Refusal}
 use Rattle.model.specs.Counting.{_=?_, only, sum, list}
-use Rattle.model.specs.Refusals as refusals
-use Rattle.model.specs.Refusals.{accepted, refused, firstFault}
+use Rattle.model.specs.Numbers.{answerOfClearing, answerOfVerdict}
+use Rattle.model.specs.Refusals.{Answer, accepted, firstFault}
+use Rattle.model.proofs.Refusals.{giving-accepted, giving-refused, updated-accepted, updated-refused}
+use Rattle.model.specs.declared.answers.Verdict.{Verdict}
+use Rattle.model.specs.declared.money.UnitPrice.{UnitPrice}
+use Rattle.model.specs.declared.money.Mills.{Mills}
 use Rattle.model.specs.market.Market.{Tables, marketBy, market, cut, screen, tables, regular}
 use Rattle.model.specs.market.Mechanism.{at, charge, charged, sold, paid, margin}
-use Rattle.model.specs.market.Outcome.{Results, settle, seen, decided, outcome, results}
+use Rattle.model.specs.market.Outcome.{Results, Outcome, settle, seen, decided, outcome, results}
 use Rattle.model.specs.market.Faults.{clearingFaults}
 use Rattle.model.specs.claims.Readings.{WithinLimits}
 use Rattle.model.proofs.Tests.{only-le}
@@ -20,19 +24,16 @@ use Rattle.model.proofs.Counting.{sum-cong, greatest-le}
 use Rattle.model.proofs.Loops.{long, element, relist}
 use Rattle.pricing.specs.MedianAsk.{under, eligible, medianAsk}
 use Rattle.pricing.specs.Sales.{kwhAt, PaidOut}
-use Rattle.clearing.specs.Verdicts.{asVerdict}
-use Rattle.clearing.specs.declared.faults.Verdict.the-variants as verdicts
+use Rattle.model.specs.declared.answers.Verdict.the-variants as verdicts
 use Rattle.pricing.specs.Charges.{leastAt}
 use Rattle.allocation.specs.Stages.{AtCut}
 use Rattle.allocation.specs.Assignment.{Assigned}
 use Rattle.allocation.proofs.assignment.Assignment.{numbered}
-use Rattle.model.specs.contracts.Clears.{answerTo, resultsOf, Clears}
+use Rattle.model.specs.contracts.Clears.{Clears}
 use Rattle.clearing.specs.Settles.{Settles}
 use Rattle.model.specs.declared.answers.Clearing.{Clearing}
 use Rattle.model.specs.declared.answers.Clearing.the-variants as clearings
 use Rattle.model.proofs.contracts.Accepts.{Accepts, accepts}
-
--- ---- the table of refusals
 
 -- ---- an accepted market
 
@@ -92,13 +93,13 @@ module _ (t : Tables) {stations charges : List ℕ} (a : Assigned t stations cha
         go k (suc j) = refl
 
     pub settles :
-        {m x : ℕ} {sales payments : List ℕ} → m ≡ length (t .asks)
+        (p : UnitPrice) (x : Mills) {m : ℕ} {sales payments : List ℕ} → p .0 ≡ c → m ≡ length (t .asks)
         → PaidOut (kwhAt stations (t .amounts)) c m sales payments
-        → x ≡ sum (length charges) (λ i. getD charges i 0 - getD least i 0)
-        → Settles t (clearings.Cleared c x) (results stations charges sales payments)
-    unfolding outcome settle paid seen screen market marketBy
-    settles em p e = record {
-      answered = ap₂ clearings.Cleared (A .is-cut)
+        → x .0 ≡ sum (length charges) (λ i. getD charges i 0 - getD least i 0)
+        → Settles t (clearings.Cleared p x) (results stations charges sales payments)
+    unfolding answerOfClearing outcome settle paid seen screen market marketBy
+    settles price x ec em p e = record {
+      answered = ap₂ {C = Answer (ℕ × ℕ)} (λ a b. accepted (a, b)) (ec ∙ A .is-cut)
           (e ∙ ap (λ n. sum n (λ i. getD charges i 0 - getD least i 0)) charges-count ∙ margin-is);
       left = λ i. record {
         stations = a .stations-are i;
@@ -110,46 +111,49 @@ module _ (t : Tables) {stations charges : List ℕ} (a : Assigned t stations cha
 
 -- ---- the answers
 
-is-accepted : (v : refusals.Verdict) → asVerdict v ≡ verdicts.Accepted → v ≡ accepted
-unfolding asVerdict
-is-accepted accepted e = refl
-is-accepted (refused r) e = absurd (let z : _≡_ {A = ℕ} 0 1 = cc in omega arith)
+-- the code's verdict, and the definitions'
+abbrev pub Judged : Tables → Results → Verdict → Type 0
+Judged t r v = answerOfVerdict v ≡ firstFault (clearingFaults t r)
 
-is-refused : (v : refusals.Verdict) {r : Refusal} → asVerdict v ≡ verdicts.Refused r → v ≡ refused r
-unfolding asVerdict
-is-refused accepted e = absurd (let z : _≡_ {A = ℕ} 0 1 = cc in omega arith)
-is-refused (refused r) e = cc
+-- in the branch of a verdict
+pub told : {v w : Verdict} {x : Answer Unit} → v ≡ w → answerOfVerdict v ≡ x → answerOfVerdict w ≡ x
+told e j = ap answerOfVerdict (sym e) ∙ j
+
+is-accepted : (t : Tables) (r : Results) → Judged t r verdicts.Accepted → firstFault (clearingFaults t r) ≡ accepted tt
+unfolding answerOfVerdict
+is-accepted t r e = sym e
 
 pub refused-clears :
-    (t : Tables) (r : Results) {x : Refusal} → verdicts.Refused x ≡ asVerdict (firstFault (clearingFaults t r))
-    → Clears t r (clearings.Refused x) r
-unfolding answerTo resultsOf
-refused-clears t r e = let v = is-refused _ (sym e) in record { answered = rw v refl; left = rw v refl }
+    (t : Tables) (r : Results) (x : Refusal) → Judged t r (verdicts.Refused x) → Clears t r (clearings.Refused x) r
+unfolding answerOfVerdict answerOfClearing
+refused-clears t r x e =
+    record { answered = sym (giving-refused _ _ (sym e)); left = sym (updated-refused _ _ _ (sym e)) }
 
 -- the row width is the number of stations
 width-of :
     (asks bays amounts bids : List ℕ) (width : ℕ) → WithinLimits (tables asks bays amounts bids width)
     → tables asks bays amounts bids width ≡ regular asks bays amounts bids
-width-of asks bays amounts bids width w = ap (tables asks bays amounts bids) (w .width-is)
+width-of asks bays amounts bids width w = ap (tables asks bays amounts bids) (w .shape .width-is)
 
 pub clear-accepts : (asks bays amounts bids : List ℕ) (width : ℕ) (r : Results)
-    → verdicts.Accepted ≡ asVerdict (firstFault (clearingFaults (tables asks bays amounts bids width) r))
-    → Accepts (regular asks bays amounts bids) r
+    → Judged (tables asks bays amounts bids width) r verdicts.Accepted → Accepts (regular asks bays amounts bids) r
 clear-accepts asks bays amounts bids width r e =
-    let a = accepts _ r (is-accepted _ (sym e)) in
+    let a = accepts _ r (is-accepted _ _ e) in
     subst (λ t. Accepts t r) (width-of asks bays amounts bids width (a .within)) a
+
+-- what the answer carries
+abbrev figures : Outcome → Answer (ℕ × ℕ)
+figures o = accepted (o .cut, o .margin)
 
 pub clear-settled :
     (asks bays amounts bids : List ℕ) (width : ℕ) (r : Results) {answer : Clearing} {exit : Results}
     → let t = tables asks bays amounts bids width in
-    verdicts.Accepted ≡ asVerdict (firstFault (clearingFaults t r))
-    → Settles (regular asks bays amounts bids) answer exit → Clears t r answer exit
-unfolding answerTo resultsOf
+    Judged t r verdicts.Accepted → Settles (regular asks bays amounts bids) answer exit → Clears t r answer exit
 clear-settled asks bays amounts bids width r e s =
     let t = tables asks bays amounts bids width in
-    let v = is-accepted _ (sym e) in
+    let v = is-accepted t r e in
     let o = ap outcome (sym (width-of asks bays amounts bids width (accepts t r v .within))) in
     record {
-      answered = rw v (s .answered ∙ ap (λ o. clearings.Cleared (o .cut) (o .margin)) o);
-      left = rw v (s .left ∙ ap (λ o. o .results) o);
+      answered = s .answered ∙ ap figures o ∙ sym (giving-accepted _ v);
+      left = s .left ∙ ap (λ o. o .results) o ∙ sym (updated-accepted _ _ v);
     }

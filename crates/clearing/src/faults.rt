@@ -1,5 +1,6 @@
 // The first fault of a call that clears a market, in the order of document 01's table.
 use crate::scans;
+use model::answers::Verdict;
 use model::limits::MAX_AMOUNT;
 use model::limits::MAX_CAPACITY;
 use model::limits::MAX_GUESTS;
@@ -11,16 +12,11 @@ ghost use mathlib.Core.Bool.{not};
 ghost use mathlib.Core.Path.{_≡_};
 ghost use Rattle.model.specs.Limits.{maxGuests, maxStations};
 ghost use Rattle.model.specs.Counting.{_<?_, _=?_, _or_};
+ghost use Rattle.model.specs.Numbers.{answerOfVerdict};
 ghost use Rattle.model.specs.Refusals.{firstFault};
 ghost use Rattle.model.specs.market.Faults.{values, clearingFaults};
 ghost use Rattle.model.specs.market.Market.{regular, tables};
 ghost use Rattle.model.specs.market.Outcome.{results};
-ghost use Rattle.clearing.specs.Verdicts.{asVerdict};
-
-pub enum Verdict {
-    Accepted,
-    Refused(Refusal),
-}
 
 fn bad_counts(n: usize, m: usize) -> bool
     ensures { λ r. ⌜ r ≡ (maxGuests <? n or m =? 0 or maxStations <? m) ⌝ }
@@ -43,7 +39,7 @@ fn bad_lent(n: usize, m: usize, stations: usize, charges: usize, sold: usize, pa
 
 // The first fault of a value: all asks, then all bays, then all amounts, then all bids.
 fn value_fault(asks: &[u32], bays: &[u16], amounts: &[u16], bids: &[u32]) -> Verdict
-    ensures { λ r. ⌜ r ≡ asVerdict (firstFault (values (regular (now (asks .entry)) (now (bays .entry)) (now (amounts .entry)) (now (bids .entry))))) ⌝ }
+    ensures { λ r. ⌜ answerOfVerdict r ≡ firstFault (values (regular (now (asks .entry)) (now (bays .entry)) (now (amounts .entry)) (now (bids .entry)))) ⌝ }
 {
     if scans::any_outside32(asks, 0, MAX_PRICE) {
         return Verdict::Refused(Refusal::AskOutOfRange);
@@ -72,7 +68,7 @@ pub fn first_fault(
     sold: &[u32],
     paid: &[u64],
 ) -> Verdict
-    ensures { λ r. ⌜ r ≡ asVerdict (firstFault (clearingFaults (tables (now (asks .entry)) (now (bays .entry)) (now (amounts .entry)) (now (bids .entry)) width) (results (now (stations .entry)) (now (charges .entry)) (now (sold .entry)) (now (paid .entry))))) ⌝ }
+    ensures { λ r. ⌜ answerOfVerdict r ≡ firstFault (clearingFaults (tables (now (asks .entry)) (now (bays .entry)) (now (amounts .entry)) (now (bids .entry)) width) (results (now (stations .entry)) (now (charges .entry)) (now (sold .entry)) (now (paid .entry)))) ⌝ }
 {
     let n = amounts.len();
     let m = asks.len();

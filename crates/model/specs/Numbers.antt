@@ -5,8 +5,8 @@ use Rattle.model.specs.declared.answers.Reading.{Reading}
 use Rattle.model.specs.declared.answers.Reading.the-variants as reading
 use Rattle.model.specs.declared.answers.Clearing.{Clearing}
 use Rattle.model.specs.declared.answers.Clearing.the-variants as clearing
-use Rattle.model.specs.declared.answers.Reply.{Reply}
-use Rattle.model.specs.declared.answers.Reply.the-variants as reply
+use Rattle.model.specs.declared.answers.Verdict.{Verdict}
+use Rattle.model.specs.declared.answers.Verdict.the-variants as verdict
 use Rattle.model.specs.declared.refusal.Refusal.{Refusal}
 use Rattle.model.specs.declared.refusal.Refusal.the-variants.{SheetEnds, CountsOutOfRange, StrayBit}
 use Rattle.model.specs.declared.refusal.Refusal.the-variants.{TrailingBytes, LengthsDiffer, AskOutOfRange}
@@ -39,7 +39,7 @@ unfoldable pub answerOfClearing : Clearing → Answer (ℕ × ℕ)
 answerOfClearing (clearing.Cleared cut margin) = accepted (cut .0, margin .0)
 answerOfClearing (clearing.Refused r) = refused (number r)
 
--- of a posting
-unfoldable pub answerOfReply : Reply → Answer Unit
-answerOfReply reply.Posted = accepted tt
-answerOfReply (reply.Refused r) = refused (number r)
+-- of a posting, and of every check
+unfoldable pub answerOfVerdict : Verdict → Answer Unit
+answerOfVerdict verdict.Accepted = accepted tt
+answerOfVerdict (verdict.Refused r) = refused (number r)

@@ -9,12 +9,14 @@ pub enum Reading {
     Refused(Refusal),
 }
 
+// What a market comes to: the cut and the margin, or the refusal.
 pub enum Clearing {
     Cleared { cut: UnitPrice, margin: Mills },
     Refused(Refusal),
 }
 
-pub enum Reply {
-    Posted,
+// Whether a call is accepted; a posting is posted then.
+pub enum Verdict {
+    Accepted,
     Refused(Refusal),
 }

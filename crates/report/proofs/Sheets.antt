@@ -4,12 +4,12 @@ use mathlib.Core.List.{List}
 use mathlib.Core.Path.{_≡_, sym, ap, _∙_}
 use native.Mathlib.Omega.{arith}
 use lib.ListN.{length, take, length-take}
-use Rattle.model.specs.declared.refusal.Refusal.{Refusal}
+use Rattle.model.specs.Refusals.{accepted, refused}
 use Rattle.model.specs.market.Market.{Tables, tables}
 use Rattle.report.specs.Wrote.{Wrote}
 use Rattle.model.specs.text.Text.{refusalText}
-use Rattle.model.specs.sheet.Content as content
 use Rattle.model.specs.sheet.Content.{readSheet, tablesOf}
+use Rattle.model.specs.contracts.Reads.{lentTables}
 use Rattle.model.proofs.contracts.Reads.{ReadTables}
 use Rattle.model.specs.text.MarketText.{marketTextOf}
 use Rattle.model.specs.contracts.Prints.{Prints}
@@ -17,13 +17,13 @@ use Rattle.report.proofs.printing.Printing.{prints, length-refusal}
 use Rattle.model.specs.text.Printed.{sheetText, printed}
 
 pub prints-fault :
-    {l l′ : List ℕ} {q : ℕ} (s : List ℕ) (x : Refusal) → readSheet s ≡ content.fault x → Wrote l 0 (refusalText x) l′ q
+    {l l′ : List ℕ} {q : ℕ} (s : List ℕ) (x : ℕ) → readSheet s ≡ refused x → Wrote l 0 (refusalText x) l′ q
     → Prints (printed s) l q l′
 unfolding printed sheetText
 prints-fault s x e w = rw e (prints w (length-refusal x))
 
 pub prints-sheet :
-    {l l′ : List ℕ} {q : ℕ} (s : List ℕ) (t u : Tables) → readSheet s ≡ content.tables u → t ≡ u
+    {l l′ : List ℕ} {q : ℕ} (s : List ℕ) (t u : Tables) → readSheet s ≡ accepted u → t ≡ u
     → Prints (marketTextOf t) l q l′ → Prints (printed s) l q l′
 unfolding printed sheetText
 prints-sheet s t u e f p = rw e (rw f at p)
@@ -37,12 +37,12 @@ pub part-fits : (xs ys : List ℕ) (n : ℕ) → take n xs ≡ ys → length ys 
 part-fits xs ys n e h = omega (arith, length-take n xs, read-part-long xs ys n e h)
 
 pub same-tables :
-    {s a b c d : List ℕ} {n m : ℕ} → ReadTables s n m a b c d
+    {s a b c d : List ℕ} {n m : ℕ} → ReadTables s n m (lentTables a b c d)
     → tables (take m b) (take m c) (take n a) (take (n * m) d) (length (take m b)) ≡ tablesOf s
 same-tables r = λ i. record {
   asks = r .asks-are i;
   bays = r .bays-are i;
   amounts = r .amounts-are i;
   bids = r .bids-are i;
-  width = (ap length (r .asks-are) ∙ r .asks-long ∙ sym (r .width-is)) i;
+  width = (ap length (r .asks-are) ∙ sym (r .shape .width-is)) i;
 }

@@ -55,7 +55,7 @@ within t i j e = assignment-reads t i .somewhere j e .0
 
 pub numbered : (t : Tables) → WithinLimits t → (i s : ℕ) → (decided t) .assigned i ≡ s → s ≤ maxStations
 numbered t w i zero e = omega arith
-numbered t w i (suc j) e = omega (arith, within t i j e, w .stations-most)
+numbered t w i (suc j) e = omega (arith, within t i j e, w .shape .stations-most)
 
 module _ (t : Tables) {c : ℕ} {least chosen gains criticals : List ℕ} (A : AtCut t c least)
     (a : After (seen t) (length (t .amounts)) (length (t .asks)) chosen gains criticals) where

@@ -187,7 +187,7 @@ module _ (t : Tables) (c : ℕ) (least : List ℕ) (A : AtCut t c least) (j : �
         let l : k < length (t .amounts) = omega (arith, long _ _ gathered) in
         rw (element _ _ gathered k l) (total-low _ _ c
         (A .within .bid-most _
-        (omega (arith, A .within .bids-length, in-table (length (t .amounts)) (length (t .asks)) k j l lj)))
+        (omega (arith, A .within .shape .bids-length, in-table (length (t .amounts)) (length (t .asks)) k j l lj)))
         (A .within .amount-most k l))
 
     module _ (f b e : ℕ) (eb : b ≡ getD (t .bays) j 0) (few : LeastFew totals b f)
@@ -231,7 +231,7 @@ module _ (t : Tables) (c : ℕ) (least : List ℕ) (A : AtCut t c least) (j : �
           → After (seen t) (length (t .amounts)) (j + 1) chosen gains (set criticals s f)
       turned s es h o =
           after-offers (seen t) (length (t .amounts)) j totals least f e s _ _ _ (long _ _ gathered) es
-          (omega (arith, A .within .stations-most)) gain-here critical-here all-low h o
+          (omega (arith, A .within .shape .stations-most)) gain-here critical-here all-low h o
 
 -- the turn of a station that is not open
 pub shut : (t : Tables) (c j : ℕ) {least chosen gains criticals : List ℕ} → AtCut t c least → c ≤ getD (t .asks) j 0
@@ -257,7 +257,7 @@ offerable t c j {least = least} {totals} A lj g low fl tied a =
     let n : length totals ≡ length (t .amounts) = long _ _ g in
     let m : length least ≡ length (t .amounts) = long _ _ (A .least-are) in
     record {
-      few = omega (arith, A .within .guests-most);
+      few = omega (arith, A .within .shape .guests-most);
       least-long = m ∙ sym n;
       chosen-long = long _ _ (a .chosen-are) ∙ sym n;
       gains-long = long _ _ (a .gains-are) ∙ sym n;
@@ -266,7 +266,7 @@ offerable t c j {least = least} {totals} A lj g low fl tied a =
           rw (element _ _ (A .least-are) k l) (product _ _ (A .cut-low) (A .within .amount-most k l));
       gains-low = λ k lk. a .gains-low k (omega (arith, long _ _ (a .gains-are)));
       critical-low = fl;
-      bound-low = omega (arith, tied .within, A .within .guests-most);
+      bound-low = omega (arith, tied .within, A .within .shape .guests-most);
       covers = λ k lk p. let l : k < length (t .amounts) = omega arith in
           rw (element _ _ g k l, element _ _ (A .least-are) k l) (total-covers _ _ c (rw (element _ _ g k l) at p));
       no-tie = tied .none;

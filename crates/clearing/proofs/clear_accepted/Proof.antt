@@ -9,18 +9,18 @@ use Rattle.clearing.proofs.clear_accepted.Tie as tie
 array-borrow-prefix-least : tie.Need-array-borrow-prefix-least
 array-borrow-prefix-least c =
     let entry = c .before .before .before .before .before .before .before .before in
-    omega (arith, entry .pre .0 .guests-most)
+    omega (arith, entry .pre .0 .shape .guests-most)
 
 slice-aggregate-clear-with-room : tie.Need-slice-aggregate-clear-with-room
 slice-aggregate-clear-with-room c =
     let entry = c .before .before .before .before .before .before .before .before .before in
-    zeros-long maxGuests _ (entry .pre .0 .guests-most)
+    zeros-long maxGuests _ (entry .pre .0 .shape .guests-most)
 
 clear-with-room-requires : tie.Need-clear-with-room-requires
 clear-with-room-requires c κs =
     let entry = c .before .before .before .before .before .before .before .before .before .before
     .before .before .before in
-    (entry .pre .0, (entry .pre .1, sym (zeros-long maxGuests _ (entry .pre .0 .guests-most))))
+    (entry .pre .0, (entry .pre .1, sym (zeros-long maxGuests _ (entry .pre .0 .shape .guests-most))))
 
 pub clear-accepted-spec : {M : Type 1} → statement M
 clear-accepted-spec =

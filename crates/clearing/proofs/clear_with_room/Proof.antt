@@ -1,4 +1,4 @@
-use mathlib.Core.Path.{sym, _∙_}
+use mathlib.Core.Path.{refl, sym, _∙_}
 use native.Mathlib.Omega.{arith}
 use borrow.Author.Needs.{needs}
 use Rattle.model.specs.market.Market.{regular}
@@ -31,13 +31,13 @@ sell-requires c κs =
     let at-assign-all = c .before .before .before .before .before .before .before in
     let entry = entry-before-cut (at-assign-all .before .before .before .before .before .before .before .before) in
     let done = at-assign-all .assign-all .ensures in (
-      (stations-count (regular _ _ _ _) done, entry .pre .0 .guests-most),
+      (stations-count (regular _ _ _ _) done, entry .pre .0 .shape .guests-most),
       (
         entry .pre .0 .amount-most,
         (
           stations-low (regular _ _ _ _) done (entry .pre .0),
           (
-            omega (arith, entry .pre .1 .0 .sold-long, entry .pre .0 .stations-most),
+            omega (arith, entry .pre .1 .0 .sold-long, entry .pre .0 .shape .stations-most),
             entry .pre .1 .0 .paid-long ∙ sym (entry .pre .1 .0 .sold-long),
           ),
         ),
@@ -50,8 +50,10 @@ margin-requires c κs =
     .before .before .before in
     let at-least-charges = at-assign-all .before .before .before .before .before .before in
     let entry = entry-before-cut (at-least-charges .before .before) in
-    let many = charges-count (regular _ _ _ _) (at-assign-all .assign-all .ensures) in
-    (long _ _ (at-least-charges .least-charges .ensures) ∙ sym many, omega (arith, many, entry .pre .0 .guests-most))
+    let many = charges-count (regular _ _ _ _) (at-assign-all .assign-all .ensures) in (
+      long _ _ (at-least-charges .least-charges .ensures) ∙ sym many,
+      omega (arith, many, entry .pre .0 .shape .guests-most),
+    )
 
 returns : tie.Need-returns
 returns c =
@@ -62,7 +64,7 @@ returns c =
     let entry = entry-before-cut at-cut′ in
     settles (regular _ _ _ _) (at-assign-all .assign-all .ensures)
     (at-cut (regular _ _ _ _) (entry .pre .0) (at-cut′ .cut .ensures) (at-least-charges .least-charges .ensures))
-    (entry .pre .1 .0 .sold-long) (at-sell .sell .ensures) (c .margin .ensures)
+    _ _ refl (entry .pre .1 .0 .sold-long) (at-sell .sell .ensures) (c .margin .ensures)
 
 pub clear-with-room-spec : {M : Type 1} → statement M
 clear-with-room-spec =

@@ -24,7 +24,7 @@ use Rattle.model.specs.declared.answers.Reading.{Reading}
 use Rattle.model.proofs.sheet.Faults.{sheet-sound}
 use Rattle.model.proofs.sheet.Answers.{told-read, told-refused}
 use Rattle.model.specs.contracts.Reads.{LentTables, tableLengths, readVerdict, filled, Reads}
-use Rattle.model.proofs.sheet.Tables.{room-for}
+use Rattle.model.proofs.market.Acceptance.{product-fits}
 
 -- an accepted sheet: the first places of the tables at exit are the market that it states
 pub record ReadTables (s : List ℕ) (n m : ℕ) (exit : LentTables) : Type 0 where
@@ -36,6 +36,17 @@ pub record ReadTables (s : List ℕ) (n m : ℕ) (exit : LentTables) : Type 0 wh
   pub asks-are : take m (exit .asks) ≡ tablesOf s .asks
   pub bays-are : take m (exit .bays) ≡ tablesOf s .bays
   pub bids-are : take (n * m) (exit .bids) ≡ tablesOf s .bids
+
+-- the lengths of the other two tables, and the room that the bids take
+pub bays-long : {s : List ℕ} {n m : ℕ} {exit : LentTables} → ReadTables s n m exit → length (tablesOf s .bays) ≡ m
+bays-long t = t .shape .bays-length ∙ t .m-is
+
+pub bids-long : {s : List ℕ} {n m : ℕ} {exit : LentTables} → ReadTables s n m exit → length (tablesOf s .bids) ≡ n * m
+bids-long t = t .shape .bids-length ∙ ap₂ _*_ (t .n-is) (t .m-is)
+
+pub room : {s : List ℕ} {n m : ℕ} {exit : LentTables} → ReadTables s n m exit → n * m ≤ maxGuests * maxStations
+room {s} {n} {m} t =
+    product-fits n m (omega (arith, t .shape .guests-most, t .n-is)) (omega (arith, t .shape .stations-most, t .m-is))
 
 take-over : (xs l y : List ℕ) (n : ℕ) → y ≡ over xs l → length xs ≡ n → take n y ≡ xs
 unfolding over

@@ -5,8 +5,6 @@ use mathlib.Core.Path.{_≡_}
 use native.Mathlib.Omega.{arith}
 use lib.ListN.{length, length-append}
 use Rattle.model.specs.Limits.{maxGuests, maxStations}
-use Rattle.model.specs.Numbers.{number}
-use Rattle.model.specs.declared.refusal.Refusal.{Refusal}
 use Rattle.model.specs.Refusals.{refused}
 use Rattle.model.specs.market.Market.{Tables, market, marketBy, screen}
 use Rattle.model.specs.market.Outcome.{Results, Outcome, settle, seen, outcome, outcomeOf}
@@ -27,10 +25,9 @@ pub prints : {t l l′ : List ℕ} {q : ℕ} → Wrote l 0 t l′ q → length t
 prints {t} {l} {l′} {q} w h =
     record { buffer-is = wrote-all l t l′ q w; length-is = omega (arith, w .next); fits = omega (arith, w .next) }
 
-pub length-refusal : (r : Refusal) → length (refusalText r) ≤ maxText
+pub length-refusal : (k : ℕ) → length (refusalText k) ≤ maxText
 unfolding refusalText
-length-refusal r =
-    omega (arith, length-append (field refusedWord (number r)) lineEnd, length-field refusedWord (number r))
+length-refusal k = omega (arith, length-append (field refusedWord k) lineEnd, length-field refusedWord k)
 
 length-text :
     (o : Outcome) → length (o .results .stations) ≤ maxGuests → length (o .results .sold) ≤ maxStations
@@ -53,7 +50,7 @@ length-text o n m =
     )
 
 pub prints-refused :
-    {l l′ : List ℕ} {q : ℕ} (t : Tables) (x : Refusal) → verdict t ≡ refused x → Wrote l 0 (refusalText x) l′ q
+    {l l′ : List ℕ} {q : ℕ} (t : Tables) (x : ℕ) → verdict t ≡ refused x → Wrote l 0 (refusalText x) l′ q
     → Prints (marketTextOf t) l q l′
 unfolding marketTextOf marketText
 prints-refused t x e w = rw e (prints w (length-refusal x))

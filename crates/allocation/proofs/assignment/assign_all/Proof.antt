@@ -9,23 +9,23 @@ use Rattle.allocation.proofs.assignment.Assignment.{after-none}
 slice-aggregate-assign : tie.Need-slice-aggregate-assign
 slice-aggregate-assign c =
     let entry = c .before .before .before .before .before .before .before .before in
-    zeros-long maxGuests _ (entry .pre .0 .within .guests-most)
+    zeros-long maxGuests _ (entry .pre .0 .within .shape .guests-most)
 
 slice-aggregate-assign-2 : tie.Need-slice-aggregate-assign-2
 slice-aggregate-assign-2 c =
     let entry = c .before .before .before .before .before .before .before .before .before in
-    zeros-long maxGuests _ (entry .pre .0 .within .guests-most)
+    zeros-long maxGuests _ (entry .pre .0 .within .shape .guests-most)
 
 slice-aggregate-assign-3 : tie.Need-slice-aggregate-assign-3
 slice-aggregate-assign-3 c =
     let entry = c .before .before .before .before .before .before .before .before .before .before in
-    zeros-long maxGuests _ (entry .pre .0 .within .guests-most)
+    zeros-long maxGuests _ (entry .pre .0 .within .shape .guests-most)
 
 assign-requires : tie.Need-assign-requires
 assign-requires c κs =
     let entry = c .before .before .before .before .before .before .before .before .before .before
     .before .before .before in
-    let most = entry .pre .0 .within .guests-most in
+    let most = entry .pre .0 .within .shape .guests-most in
     (entry .pre .0, (sym (zeros-long maxGuests _ most), (after-none most, entry .pre .1)))
 
 pub assign-all-spec : {M : Type 1} → statement M

@@ -29,16 +29,28 @@ critical-total-requires c κs =
     let g = at-gather .gather .ensures in
     let low = all-low (regular _ _ _ _) _ _ (entry .pre .0) _ (entry .pre .1 .0 .0)
     (ltb-true _ _ (sym (at-below .below .ensures) ∙ at-if1 .if1 .taken)) _ (g .totals-are) in
-    ((omega (arith, long _ _ (g .totals-are), entry .pre .0 .within .guests-most), none-above g), (low, top-low g low))
+    ((omega (arith, long _ _ (g .totals-are), entry .pre .0 .within .shape .guests-most), none-above g), (low, top-low g low))
 
 tie-bound-requires : tie.Need-tie-bound-requires
 tie-bound-requires c κs =
     let at-gather = c .before .before .before .before .before .before in
     let entry = entry-before-below (at-gather .before .before .before) in (
-      omega (arith, long _ _ (at-gather .gather .ensures .totals-are), entry .pre .0 .within .guests-most),
+      omega (arith, long _ _ (at-gather .gather .ensures .totals-are), entry .pre .0 .within .shape .guests-most),
       few-above maxGuests (c .before .critical-total .ensures)
-          (omega (arith, long _ _ (at-gather .gather .ensures .totals-are), entry .pre .0 .within .guests-most)),
+          (omega (arith, long _ _ (at-gather .gather .ensures .totals-are), entry .pre .0 .within .shape .guests-most)),
     )
+
+slice-write-criticals : tie.Need-slice-write-criticals
+slice-write-criticals c =
+    let at-gather = c .before .before .before .before .before .before .before in
+    let entry = entry-before-below (at-gather .before .before .before) in
+    omega (arith, entry .pre .0 .within .shape .stations-most, entry .pre .1 .0 .0, entry .pre .1 .1 .criticals-long)
+
+cast-offer : tie.Need-cast-offer
+cast-offer c =
+    let at-gather = c .before .before .before .before .before .before .before .before in
+    let entry = entry-before-below (at-gather .before .before .before) in
+    record { fits = omega (arith, entry .pre .0 .within .shape .stations-most, entry .pre .1 .0 .0) }
 
 offer-requires : tie.Need-offer-requires
 offer-requires c κs =
@@ -92,7 +104,9 @@ station-spec =
     cast-b
     critical-total-requires
     tie-bound-requires
-    (λ c. search needs) (λ c. search needs) (λ c. search needs) (λ c. search needs)
+    (λ c. search needs) (λ c. search needs)
+    slice-write-criticals
+    cast-offer
     offer-requires
     (λ c. search needs) (λ c. search needs) (λ c. search needs) (λ c. search needs)
     returns

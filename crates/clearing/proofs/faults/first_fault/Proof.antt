@@ -1,33 +1,33 @@
-use mathlib.Core.Path.{sym, ap, _∙_}
+use mathlib.Core.Path.{sym, _∙_}
 use borrow.Author.Needs.{needs}
 use Rattle.model.specs.market.Faults.{counts, lengths, lent, values, clearingFaults}
 use Rattle.model.proofs.Refusals.{fault-here, fault-later}
 use Rattle.model.proofs.market.Acceptance.{counted}
-use Rattle.clearing.specs.Verdicts.{asVerdict}
+use Rattle.model.specs.Numbers.{answerOfVerdict}
 use Rattle.clearing.proofs.faults.first_fault.Statement.{statement}
 use Rattle.clearing.proofs.faults.first_fault.Tie as tie
 
 returns : tie.Need-returns
-unfolding clearingFaults counts lengths lent asVerdict
-returns c = sym (ap asVerdict (fault-here _ (sym (c .before .bad-counts .ensures) ∙ c .if1 .taken)))
+unfolding clearingFaults counts lengths lent answerOfVerdict
+returns c = sym ((fault-here _ (sym (c .before .bad-counts .ensures) ∙ c .if1 .taken)))
 
 bad-lengths-requires : tie.Need-bad-lengths-requires
 bad-lengths-requires c κs = let k = counted _ _ (sym (c .before .bad-counts .ensures) ∙ c .if1 .left) in (k .0, k .2)
 
 returns-2 : tie.Need-returns-2
-unfolding clearingFaults counts lengths lent asVerdict
+unfolding clearingFaults counts lengths lent answerOfVerdict
 returns-2 c =
-    sym (ap asVerdict (fault-later _ _
+    sym ((fault-later _ _
     (sym (c .before .before .before .bad-counts .ensures) ∙ c .before .before .if1 .left)
     ∙ fault-here _ (sym (c .before .bad-lengths .ensures) ∙ c .if2 .taken)))
 
 returns-3 : tie.Need-returns-3
-unfolding clearingFaults counts lengths lent asVerdict
+unfolding clearingFaults counts lengths lent answerOfVerdict
 returns-3 c =
     let at-bad-lengths = c .before .before .before in
     let at-if1 = at-bad-lengths .before in
     let at-bad-counts = at-if1 .before in
-    sym (ap asVerdict (fault-later _ _ (sym (at-bad-counts .bad-counts .ensures) ∙ at-if1 .if1 .left)
+    sym ((fault-later _ _ (sym (at-bad-counts .bad-counts .ensures) ∙ at-if1 .if1 .left)
     ∙ fault-later _ _ (sym (at-bad-lengths .bad-lengths .ensures) ∙ c .before .before .if2 .left)
     ∙ fault-here _ (sym (c .before .bad-lent .ensures) ∙ c .if3 .taken)))
 
@@ -39,7 +39,7 @@ returns-4 c =
     let at-if1 = at-bad-lengths .before in
     let at-bad-counts = at-if1 .before in
     c .value-fault .ensures
-    ∙ sym (ap asVerdict (fault-later _ _ (sym (at-bad-counts .bad-counts .ensures) ∙ at-if1 .if1 .left)
+    ∙ sym ((fault-later _ _ (sym (at-bad-counts .bad-counts .ensures) ∙ at-if1 .if1 .left)
     ∙ fault-later _ _ (sym (at-bad-lengths .bad-lengths .ensures) ∙ at-if2 .if2 .left)
     ∙ fault-later _ _ (sym (c .before .before .bad-lent .ensures) ∙ c .before .if3 .left)))
 
