@@ -31,15 +31,16 @@ pub fn read(
     bays: &mut [u16],
     bids: &mut [u32],
 ) -> Reading
-    ensures { λ r. ⌜ Reads (now (sheet .entry)) (now (amounts .entry)) (now (asks .entry)) (now (bays .entry)) (now (bids .entry)) r (now (amounts .exit)) (now (asks .exit)) (now (bays .exit)) (now (bids .exit)) ⌝ }
+    ensures { λ r. ⌜ Reads (now (sheet .entry)) (now (amounts .entry)) (now (asks .entry)) (now (bays .entry))
+        (now (bids .entry)) r (now (amounts .exit)) (now (asks .exit)) (now (bays .exit)) (now (bids .exit)) ⌝ }
 {
     if mislent(amounts.len(), asks.len(), bays.len(), bids.len()) {
         return Reading::Refused(Refusal::LentLengths);
     }
     match checking::check(sheet) {
         Reading::Read { guests, stations } => {
-            let after_header = Cursor { at: 4 };
-            let c = filling::fill_stations(sheet, after_header, stations, asks, bays);
+            let header = Cursor::start().header(sheet);
+            let c = filling::fill_stations(sheet, header.next, stations, asks, bays);
             filling::fill_rows(sheet, c, guests, stations, amounts, bids);
             Reading::Read { guests, stations }
         }

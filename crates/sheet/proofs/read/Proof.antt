@@ -31,14 +31,20 @@ lengths c = c .before .mislent .ensures ∙ ap (λ b. b gives LentLengths) (c .i
 returns : tie.Need-returns
 returns c = refused-lent _ _ _ _ _ (c .before .mislent .ensures ∙ ap (λ b. b gives LentLengths) (c .if1 .taken))
 
+header-requires : tie.Need-header-requires
+header-requires c κs =
+    let t = sheet-sound _ (got (c .before .before) .0) in
+    (c .start .ensures, omega (arith, t .stations-in))
+
 fill-stations-requires : tie.Need-fill-stations-requires
 fill-stations-requires c κs =
-    let after-guests = c .before .before .before in
+    let at-header = c .before .before in
+    let after-guests = at-header .before .before .before in
     let else1 = after-guests .before .before .before in
     let g = got after-guests in
     let t = sheet-sound _ (g .0) in
     let l = lent-lengths _ _ _ _ (lengths else1) in (
-      search needs,
+      at-header .header .ensures .place,
       omega (arith, t .stations-in, g .2),
       omega (arith, t .narrow, g .2, l .1),
       omega (arith, t .narrow, g .2, l .2),
@@ -47,7 +53,8 @@ fill-stations-requires c κs =
 fill-rows-requires : tie.Need-fill-rows-requires
 fill-rows-requires c κs =
     let at-fill-stations = c .before .before .before .before .before .before in
-    let after-guests = at-fill-stations .before .before .before .before in
+    let at-header = at-fill-stations .before .before .before in
+    let after-guests = at-header .before .before .before in
     let else1 = after-guests .before .before .before in
     let g = got after-guests in
     let t = sheet-sound _ (g .0) in
@@ -57,14 +64,14 @@ fill-rows-requires c κs =
       rows-good t (g .1) (g .2),
       omega (arith, t .few, g .1, l .0),
       room-for _ _ _ (omega (arith, t .few, g .1)) (omega (arith, t .narrow, g .2)) (l .3),
-      omega (arith, t .stations-in),
     )
 
 returns-2 : tie.Need-returns-2
 returns-2 c =
     let at-fill-rows = c .before .before .before .before in
     let at-fill-stations = at-fill-rows .before .before .before .before .before .before .before in
-    let after-guests = at-fill-stations .before .before .before .before in
+    let at-header = at-fill-stations .before .before .before in
+    let after-guests = at-header .before .before .before in
     let else1 = after-guests .before .before .before in
     let g = got after-guests in
     let f = at-fill-stations .fill-stations .ensures in
@@ -84,7 +91,8 @@ read-spec =
     (tie.spec
     (λ c κs. search needs)
     returns
-    (λ c κs. search needs) (λ c. search needs)
+    (λ c κs. search needs) (λ c. search needs) (λ c κs. search needs)
+    header-requires
     fill-stations-requires
     fill-rows-requires
     (λ c. search needs) (λ c. search needs) (λ c. search needs) (λ c. search needs) (λ c. search needs)
