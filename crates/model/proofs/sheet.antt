@@ -1,4 +1,5 @@
 pub mod Answers
+pub mod Bits
 pub mod Faults
 pub mod Fields
 pub mod Holds

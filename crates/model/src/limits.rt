@@ -1,6 +1,7 @@
 // The limits of the bay market.
 ghost use mathlib.Core.Path.{_≡_};
-ghost use Rattle.model.specs.Limits.{limits as limitsOf};
+ghost use Rattle.model.specs.Counting.{_<?_, _=?_, _or_};
+ghost use Rattle.model.specs.Limits.{limits as limitsOf, maxGuests, maxStations};
 
 pub const MAX_GUESTS: usize = 200;
 
@@ -39,4 +40,11 @@ pub fn stated_limits() -> Limits
         account: MAX_ACCOUNT,
         round: MAX_ROUND,
     }
+}
+
+// Whether a market of so many guests and stations is none.
+pub fn counts_out_of_range(guests: usize, stations: usize) -> bool
+    ensures { λ r. ⌜ r ≡ (maxGuests <? guests or stations =? 0 or maxStations <? stations) ⌝ }
+{
+    (MAX_GUESTS < guests) | (stations == 0) | (MAX_STATIONS < stations)
 }

@@ -1,19 +1,12 @@
 -- What the functions of the filling pass promise. Nothing that `sheet::read` promises depends on this file.
-use Prim.Native.Nat.{ℕ, _+_, _*_}
-use mathlib.Core.Bool.{Bool}
+use Prim.Native.Nat.{ℕ}
 use mathlib.Core.List.{List, _++_}
 use mathlib.Core.Path.{_≡_}
 use lib.ListN.{take}
-use Rattle.model.specs.Counting.{only, list, joined}
-use Rattle.model.specs.sheet.Fields.{number}
+use Rattle.model.specs.Counting.{list, joined}
 use Rattle.model.specs.sheet.Rows.{rowAt, askOf, baysOf, amountOf, bidOf}
 use Rattle.sheet.specs.declared.fields.Cursor.{Cursor}
 use Rattle.model.specs.sheet.Over.{over}
-
--- the bid at p is x, where it has a field
-pub record BidTaken (s : List ℕ) (p : ℕ) (set : Bool) (x : ℕ) (to : Cursor) : Type 0 where
-  pub value : x ≡ only set (number s p 4)
-  pub place : to .at ≡ p + 4 * only set 1
 
 -- l with f 0, .., f (m - 1) at the places from base on
 unfoldable pub placed : (base m : ℕ) → (ℕ → ℕ) → List ℕ → List ℕ

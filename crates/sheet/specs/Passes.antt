@@ -1,10 +1,11 @@
 -- What a pass over rows promises. Nothing that `sheet::read` promises depends on this file.
 use Prim.Native.Nat.{ℕ}
-use Rattle.model.specs.Refusals.{Verdict, accepted, refused}
+use Rattle.model.specs.Numbers.{number}
+use Rattle.model.specs.Refusals.{Answer, accepted, refused}
 use Rattle.sheet.specs.declared.passes.Step.the-variants.{Next, Fault}
 use Rattle.sheet.specs.declared.passes.Step.{Step}
 
--- past a sound row, or its fault
-unfoldable pub stepBy : Verdict → ℕ → Step
-stepBy accepted p = Next (record { at = p })
-stepBy (refused r) p = Fault r
+-- the place after sound rows, or their fault
+unfoldable pub answerOfStep : Step → Answer ℕ
+answerOfStep (Next c) = accepted (c .at)
+answerOfStep (Fault r) = refused (number r)

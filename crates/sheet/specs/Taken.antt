@@ -3,9 +3,16 @@ use Prim.Native.Nat.{ℕ, _+_}
 use mathlib.Core.List.{List}
 use mathlib.Core.Path.{_≡_}
 use Rattle.model.specs.sheet.Fields.{number}
+use Rattle.model.specs.sheet.Content.{guests, stations}
 use Rattle.sheet.specs.declared.fields.Cursor.{Cursor}
 
 -- the field of k bytes at p is x, and `to` is the place after it
 pub record Taken (s : List ℕ) (p k x : ℕ) (to : Cursor) : Type 0 where
   pub value : x ≡ number s p k
   pub place : to .at ≡ p + k
+
+-- the counts of a sheet, and the place after them
+pub record HeaderTaken (s : List ℕ) (n m : ℕ) (to : Cursor) : Type 0 where
+  pub n-is : n ≡ guests s
+  pub m-is : m ≡ stations s
+  pub place : to .at ≡ 4

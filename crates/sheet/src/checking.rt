@@ -3,45 +3,37 @@ use crate::fields::Cursor;
 use crate::passes;
 use crate::passes::Step;
 use model::answers::Reading;
-use model::limits::MAX_GUESTS;
-use model::limits::MAX_STATIONS;
+use model::limits;
 use model::refusal::Refusal;
 ghost use mathlib.Core.Path.{_≡_};
-ghost use Rattle.model.specs.declared.refusal.Refusal.the-variants.{CountsOutOfRange};
-ghost use Rattle.model.specs.market.Faults.{counts};
-ghost use Rattle.model.specs.Refusals.{_gives_};
-ghost use Rattle.model.specs.sheet.Content.{readSheet, answerOf};
-
-fn miscounted(guests: usize, stations: usize) -> bool
-    ensures { λ r. ⌜ counts guests stations ≡ (r gives CountsOutOfRange) ⌝ }
-{
-    (MAX_GUESTS < guests) | (stations == 0) | (MAX_STATIONS < stations)
-}
+ghost use Rattle.model.specs.Numbers.{answerOfReading};
+ghost use Rattle.model.specs.Refusals.{firstFault, giving};
+ghost use Rattle.model.specs.sheet.Content.{guests as guestsOf, stations as stationsOf, sheetFaults};
 
 pub fn check(s: &[u8]) -> Reading
-    ensures { λ r. ⌜ r ≡ answerOf (readSheet (now (s .entry))) ⌝ }
+    ensures { λ r. ⌜ answerOfReading r ≡ giving (firstFault (sheetFaults (now (s .entry))))
+        (guestsOf (now (s .entry)), stationsOf (now (s .entry))) ⌝ }
 {
-    let start = Cursor { at: 0 };
+    let start = Cursor::start();
     if start.ends(s, 4) {
         return Reading::Refused(Refusal::SheetEnds);
     }
-    let n = start.two(s);
-    let m = n.next.two(s);
-    let guests = n.value as usize;
-    let stations = m.value as usize;
-    if miscounted(guests, stations) {
+    let header = start.header(s);
+    let guests = header.guests;
+    let stations = header.stations;
+    if limits::counts_out_of_range(guests, stations) {
         return Reading::Refused(Refusal::CountsOutOfRange);
     }
-    let c = m.next;
+    let c = header.next;
     if c.ends(s, 6 * stations) {
         return Reading::Refused(Refusal::SheetEnds);
     }
     match passes::check_rows(s, c.skip(6 * stations), guests, stations) {
         Step::Next(end) => {
-            if end.at < s.len() {
-                return Reading::Refused(Refusal::TrailingBytes);
+            if end.ends(s, 1) {
+                return Reading::Read { guests, stations };
             }
-            Reading::Read { guests, stations }
+            Reading::Refused(Refusal::TrailingBytes)
         }
         Step::Fault(r) => Reading::Refused(r),
     }

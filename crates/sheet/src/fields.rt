@@ -1,16 +1,16 @@
-// The fields of a sheet: numbers of 2 and of 4 bytes and bit maps, each with the place after it. For `passes`
-// and `checking`, which ask `ends` before they take a field, and for `filling`, whose sheet has no fault: that is what is required here.
+// The fields of a sheet: numbers of 2 and of 4 bytes and bit maps, each with the place after it. What is required is
+// that the sheet does not end inside the field that is taken.
 ghost use Prim.Native.Nat.{_+_, _*_, _^_, _<_, _≤_};
 ghost use mathlib.Core.Path.{_≡_};
 ghost use lib.ListN.{length};
 ghost use Rattle.model.specs.Limits.{maxStations};
-ghost use Rattle.model.specs.Counting.{_<?_, only, count};
+ghost use Rattle.model.specs.Counting.{_<?_, count};
 ghost use Rattle.model.specs.sheet.Fields.{number, mapWidth, hasBit};
-ghost use Rattle.sheet.specs.Taken.{Taken};
+ghost use Rattle.sheet.specs.Taken.{Taken, HeaderTaken};
 
-// The place reached in a sheet.
+// The place reached in a sheet. One is made at the sheet's start; all others come from it, by what is taken.
 pub struct Cursor {
-    pub at: usize,
+    at: usize,
 }
 
 // What the cursor takes, with the place after it.
@@ -26,6 +26,12 @@ pub struct Long {
 
 pub struct Map {
     pub bits: u64,
+    pub next: Cursor,
+}
+
+pub struct Header {
+    pub guests: usize,
+    pub stations: usize,
     pub next: Cursor,
 }
 
@@ -51,6 +57,12 @@ fn number(s: &[u8], at: usize, k: usize) -> u64
 }
 
 impl Cursor {
+    pub fn start() -> Cursor
+        ensures { λ r. ⌜ r .at ≡ 0 ⌝ }
+    {
+        Cursor { at: 0 }
+    }
+
     // Whether the sheet ends inside the next k bytes.
     pub fn ends(self, s: &[u8], k: usize) -> bool
         requires { ⌜ self .at ≤ length (now s) ⌝ }
@@ -93,6 +105,21 @@ impl Cursor {
         }
     }
 
+    // The two counts.
+    pub fn header(self, s: &[u8]) -> Header
+        requires { ⌜ (self .at ≡ 0) × (4 ≤ length (now s)) ⌝ }
+        ensures { λ r. ⌜ HeaderTaken (now (s .entry)) (r .guests) (r .stations) (r .next) ⌝ }
+    {
+        let n = self.two(s);
+        let m = n.next.two(s);
+        let next = m.next;
+        Header {
+            guests: n.value as usize,
+            stations: m.value as usize,
+            next,
+        }
+    }
+
     // A bit map.
     pub fn map(self, s: &[u8], stations: usize) -> Map
         requires { ⌜ (stations ≤ maxStations) × (self .at + mapWidth stations ≤ length (now s)) ⌝ }
@@ -113,14 +140,6 @@ pub fn map_width(stations: usize) -> usize
     ensures { λ r. ⌜ r ≡ mapWidth stations ⌝ }
 {
     (stations + 7) / 8
-}
-
-// A station's bit of a map, the first station being 0. It is a number: bits follow no pattern, and a branch on them would be slow.
-pub fn bit(bits: u64, station: usize) -> usize
-    requires { ⌜ station < 64 ⌝ }
-    ensures { λ r. ⌜ r ≡ only (hasBit bits station) 1 ⌝ }
-{
-    ((bits >> station) % 2) as usize
 }
 
 // How many bits of a map are set.

@@ -1,18 +1,18 @@
-// The filling pass of the reader: the sheet has no fault, and its fields are written into the lent tables.
+// The filling pass of the reader: the sheet has no fault, which is what is required here, and its fields are written
+// into the lent tables.
 use crate::fields;
 use crate::fields::Cursor;
-use crate::fields::Long;
 ghost use Prim.Native.Nat.{_+_, _*_, _^_, _<_, _≤_};
 ghost use mathlib.Core.Path.{_≡_};
 ghost use lib.ListN.{length};
 ghost use Rattle.model.specs.Limits.{maxStations};
-ghost use Rattle.model.specs.Counting.{only, count};
+ghost use Rattle.model.specs.Counting.{count};
 ghost use Rattle.model.specs.Refusals.{accepted, firstFault};
 ghost use Rattle.model.specs.sheet.Fields.{number, hasBit};
 ghost use Rattle.model.specs.sheet.Rows.{rowAt, bidBy, rowsFaults};
-ghost use Rattle.sheet.specs.Filling.{BidTaken, StationsFilled, RowFilled, RowsFilled};
+ghost use Rattle.sheet.specs.Filling.{placed, StationsFilled, RowFilled, RowsFilled};
 
-// The asks and bays of all stations. For `read`, whose check has found no fault: that is what it and `fill_rows` require.
+// The asks and bays of all stations.
 pub fn fill_stations(
     s: &[u8],
     c: Cursor,
@@ -20,8 +20,10 @@ pub fn fill_stations(
     asks: &mut [u32],
     bays: &mut [u16],
 ) -> Cursor
-    requires { ⌜ (c .at ≡ 4) × (4 + 6 * stations ≤ length (now s)) × (stations ≤ length (now asks)) × (stations ≤ length (now bays)) ⌝ }
-    ensures { λ r. ⌜ StationsFilled (now (s .entry)) stations (now (asks .entry)) (now (bays .entry)) r (now (asks .exit)) (now (bays .exit)) ⌝ }
+    requires { ⌜ (c .at ≡ 4) × (4 + 6 * stations ≤ length (now s)) × (stations ≤ length (now asks))
+        × (stations ≤ length (now bays)) ⌝ }
+    ensures { λ r. ⌜ StationsFilled (now (s .entry)) stations (now (asks .entry)) (now (bays .entry)) r
+        (now (asks .exit)) (now (bays .exit)) ⌝ }
 {
     let mut d = c;
     let mut j = 0;
@@ -36,21 +38,20 @@ pub fn fill_stations(
     d
 }
 
-// The bid of a station by its row's map, with c where its field stands if it has one; if not, the sheet's first bytes are read in its place.
-fn take_bid(s: &[u8], c: Cursor, bits: u64, station: usize) -> Long
-    requires { ⌜ (station < 64) × (c .at + 4 * only (hasBit bits station) 1 ≤ length (now s)) × (4 ≤ length (now s)) ⌝ }
-    ensures { λ r. ⌜ BidTaken (now (s .entry)) (c .at) (hasBit bits station) (r .value) (r .next) ⌝ }
+// No bids at the places from base on.
+fn clear_row(stations: usize, base: usize, bids: &mut [u32])
+    requires { ⌜ base + stations ≤ length (now bids) ⌝ }
+    ensures { λ _. ⌜ now (bids .exit) ≡ placed base stations (λ _. 0) (now (bids .entry)) ⌝ }
 {
-    let set = fields::bit(bits, station);
-    let from = Cursor { at: c.at * set };
-    let field = from.four(s);
-    Long {
-        value: field.value * (set as u32),
-        next: c.skip(4 * set),
+    let mut j = 0;
+    while j < stations {
+        bids[base + j] = 0;
+        j += 1;
     }
 }
 
-// The bids of a row whose bits are set for some stations, to the places from base on.
+// The bids of a row whose bits are set for some stations, to the places from base on: a field for each set bit, the
+// lowest first.
 fn fill_some(
     s: &[u8],
     c: Cursor,
@@ -59,16 +60,20 @@ fn fill_some(
     base: usize,
     bids: &mut [u32],
 ) -> Cursor
-    requires { ⌜ (stations ≤ maxStations) × (c .at + 4 * count stations (hasBit bits) ≤ length (now s)) × (base + stations ≤ length (now bids)) × (4 ≤ length (now s)) ⌝ }
-    ensures { λ r. ⌜ RowFilled (c .at + 4 * count stations (hasBit bits)) base stations (bidBy (now (s .entry)) bits (c .at)) (now (bids .entry)) r (now (bids .exit)) ⌝ }
+    requires { ⌜ (stations ≤ maxStations) × (bits < 2 ^ stations)
+        × (c .at + 4 * count stations (hasBit bits) ≤ length (now s)) × (base + stations ≤ length (now bids)) ⌝ }
+    ensures { λ r. ⌜ RowFilled (c .at + 4 * count stations (hasBit bits)) base stations
+        (bidBy (now (s .entry)) bits (c .at)) (now (bids .entry)) r (now (bids .exit)) ⌝ }
 {
+    clear_row(stations, base, bids);
     let mut d = c;
-    let mut j = 0;
-    while j < stations {
-        let bid = take_bid(s, d, bits, j);
+    let mut left = bits;
+    while 0 < left {
+        let j = u64::trailing_zeros(left) as usize;
+        let bid = d.four(s);
         bids[base + j] = bid.value;
         d = bid.next;
-        j += 1;
+        left -= 1 << j;
     }
     d
 }
@@ -76,7 +81,8 @@ fn fill_some(
 // The same where the bits of all stations are set.
 fn fill_all(s: &[u8], c: Cursor, stations: usize, base: usize, bids: &mut [u32]) -> Cursor
     requires { ⌜ (c .at + 4 * stations ≤ length (now s)) × (base + stations ≤ length (now bids)) ⌝ }
-    ensures { λ r. ⌜ RowFilled (c .at + 4 * stations) base stations (λ j. number (now (s .entry)) (c .at + 4 * j) 4) (now (bids .entry)) r (now (bids .exit)) ⌝ }
+    ensures { λ r. ⌜ RowFilled (c .at + 4 * stations) base stations (λ j. number (now (s .entry)) (c .at + 4 * j) 4)
+        (now (bids .entry)) r (now (bids .exit)) ⌝ }
 {
     let mut d = c;
     let mut j = 0;
@@ -97,8 +103,10 @@ fn fill_row(
     base: usize,
     bids: &mut [u32],
 ) -> Cursor
-    requires { ⌜ (stations ≤ maxStations) × (bits < 2 ^ stations) × (c .at + 4 * count stations (hasBit bits) ≤ length (now s)) × (base + stations ≤ length (now bids)) × (4 ≤ length (now s)) ⌝ }
-    ensures { λ r. ⌜ RowFilled (c .at + 4 * count stations (hasBit bits)) base stations (bidBy (now (s .entry)) bits (c .at)) (now (bids .entry)) r (now (bids .exit)) ⌝ }
+    requires { ⌜ (stations ≤ maxStations) × (bits < 2 ^ stations)
+        × (c .at + 4 * count stations (hasBit bits) ≤ length (now s)) × (base + stations ≤ length (now bids)) ⌝ }
+    ensures { λ r. ⌜ RowFilled (c .at + 4 * count stations (hasBit bits)) base stations
+        (bidBy (now (s .entry)) bits (c .at)) (now (bids .entry)) r (now (bids .exit)) ⌝ }
 {
     if fields::count_bits(bits) == stations {
         return fill_all(s, c, stations, base, bids);
@@ -106,7 +114,7 @@ fn fill_row(
     fill_some(s, c, bits, stations, base, bids)
 }
 
-// The amounts and bids of all guests. Required as in `fill_stations`.
+// The amounts and bids of all guests.
 pub fn fill_rows(
     s: &[u8],
     c: Cursor,
@@ -115,8 +123,11 @@ pub fn fill_rows(
     amounts: &mut [u16],
     bids: &mut [u32],
 )
-    requires { ⌜ (stations ≤ maxStations) × (c .at ≡ rowAt (now s) stations 0) × (firstFault (rowsFaults (now s) stations guests) ≡ accepted) × (guests ≤ length (now amounts)) × (guests * stations ≤ length (now bids)) × (4 ≤ length (now s)) ⌝ }
-    ensures { λ _. ⌜ RowsFilled (now (s .entry)) guests stations (now (amounts .entry)) (now (bids .entry)) (now (amounts .exit)) (now (bids .exit)) ⌝ }
+    requires { ⌜ (stations ≤ maxStations) × (c .at ≡ rowAt (now s) stations 0)
+        × (firstFault (rowsFaults (now s) stations guests) ≡ accepted tt) × (guests ≤ length (now amounts))
+        × (guests * stations ≤ length (now bids)) ⌝ }
+    ensures { λ _. ⌜ RowsFilled (now (s .entry)) guests stations (now (amounts .entry)) (now (bids .entry))
+        (now (amounts .exit)) (now (bids .exit)) ⌝ }
 {
     let mut d = c;
     let mut i = 0;

@@ -10,12 +10,11 @@ use model::limits::MAX_GUESTS;
 use model::limits::MAX_STATIONS;
 use model::refusal::Refusal;
 ghost use mathlib.Core.Path.{_≡_};
-ghost use Rattle.model.specs.declared.refusal.Refusal.the-variants.{LentLengths};
 ghost use Rattle.model.specs.Refusals.{_gives_};
-ghost use Rattle.model.specs.contracts.Reads.{lentTables, Reads};
+ghost use Rattle.model.specs.contracts.Reads.{lentTables, tableLengths, Reads};
 
 fn mislent(amounts: usize, asks: usize, bays: usize, bids: usize) -> bool
-    ensures { λ r. ⌜ lentTables amounts asks bays bids ≡ (r gives LentLengths) ⌝ }
+    ensures { λ r. ⌜ tableLengths amounts asks bays bids ≡ (r gives 10) ⌝ }
 {
     (amounts != MAX_GUESTS)
         | (asks != MAX_STATIONS)
@@ -31,15 +30,18 @@ pub fn read(
     bays: &mut [u16],
     bids: &mut [u32],
 ) -> Reading
-    ensures { λ r. ⌜ Reads (now (sheet .entry)) (now (amounts .entry)) (now (asks .entry)) (now (bays .entry)) (now (bids .entry)) r (now (amounts .exit)) (now (asks .exit)) (now (bays .exit)) (now (bids .exit)) ⌝ }
+    ensures { λ r. ⌜ Reads (now (sheet .entry))
+        (lentTables (now (amounts .entry)) (now (asks .entry)) (now (bays .entry)) (now (bids .entry)))
+        r
+        (lentTables (now (amounts .exit)) (now (asks .exit)) (now (bays .exit)) (now (bids .exit))) ⌝ }
 {
     if mislent(amounts.len(), asks.len(), bays.len(), bids.len()) {
         return Reading::Refused(Refusal::LentLengths);
     }
     match checking::check(sheet) {
         Reading::Read { guests, stations } => {
-            let after_header = Cursor { at: 4 };
-            let c = filling::fill_stations(sheet, after_header, stations, asks, bays);
+            let header = Cursor::start().header(sheet);
+            let c = filling::fill_stations(sheet, header.next, stations, asks, bays);
             filling::fill_rows(sheet, c, guests, stations, amounts, bids);
             Reading::Read { guests, stations }
         }

@@ -6,9 +6,9 @@ ghost use Prim.Native.Nat.{_≤_};
 ghost use mathlib.Core.Path.{_≡_};
 ghost use lib.ListN.{length};
 ghost use Rattle.model.specs.Limits.{maxStations};
-ghost use Rattle.model.specs.Refusals.{firstFault};
+ghost use Rattle.model.specs.Refusals.{firstFault, giving};
 ghost use Rattle.model.specs.sheet.Rows.{nextAt, rowAt, rowFaults, rowsFaults};
-ghost use Rattle.sheet.specs.Passes.{stepBy};
+ghost use Rattle.sheet.specs.Passes.{answerOfStep};
 
 // Where a row, or all rows, end, or their first fault.
 pub enum Step {
@@ -19,7 +19,8 @@ pub enum Step {
 // A stray bit is a fault before the bids are looked for.
 fn check_row(s: &[u8], c: Cursor, stations: usize) -> Step
     requires { ⌜ (stations ≤ maxStations) × (c .at ≤ length (now s)) ⌝ }
-    ensures { λ r. ⌜ r ≡ stepBy (firstFault (rowFaults (now (s .entry)) stations (c .at))) (nextAt (now (s .entry)) stations (c .at)) ⌝ }
+    ensures { λ r. ⌜ answerOfStep r ≡ giving (firstFault (rowFaults (now (s .entry)) stations (c .at)))
+        (nextAt (now (s .entry)) stations (c .at)) ⌝ }
 {
     if c.ends(s, 2) {
         return Step::Fault(Refusal::SheetEnds);
@@ -40,10 +41,11 @@ fn check_row(s: &[u8], c: Cursor, stations: usize) -> Step
     Step::Next(e.skip(size))
 }
 
-// For `checking`, which has read the counts and found the stations' fields there: that is what it requires.
+// The stations' fields are there, and c stands after them.
 pub fn check_rows(s: &[u8], c: Cursor, guests: usize, stations: usize) -> Step
     requires { ⌜ (stations ≤ maxStations) × (c .at ≤ length (now s)) × (c .at ≡ rowAt (now s) stations 0) ⌝ }
-    ensures { λ r. ⌜ r ≡ stepBy (firstFault (rowsFaults (now (s .entry)) stations guests)) (rowAt (now (s .entry)) stations guests) ⌝ }
+    ensures { λ r. ⌜ answerOfStep r ≡ giving (firstFault (rowsFaults (now (s .entry)) stations guests))
+        (rowAt (now (s .entry)) stations guests) ⌝ }
 {
     let mut d = c;
     let mut i = 0;

@@ -6,7 +6,7 @@ use mathlib.Core.Path.{_≡_, refl, ap, _∙_}
 use native.Mathlib.Omega.{arith}
 use lib.ListN.{length}
 use Rattle.model.specs.Limits.{maxGuests, maxStations}
-use Rattle.model.specs.Counting.{_<?_}
+use Rattle.model.specs.Counting.{_<?_, _=?_, _or_}
 use Rattle.model.specs.market.Faults.{counts}
 use Rattle.model.specs.Refusals.{_gives_, accepted, refused, firstFault}
 use Rattle.model.proofs.market.Acceptance.{counted}
@@ -27,6 +27,12 @@ pub record Headed (s : List ℕ) (n m : ℕ) : Type 0 where
   pub within : 4 ≤ length s
   pub n-is : n ≡ guests s
   pub m-is : m ≡ stations s
+
+-- the row of the counts, by the test
+pub counts-by :
+    (n m : ℕ) (b : Bool) → b ≡ (maxGuests <? n or m =? 0 or maxStations <? m) → counts n m ≡ (b gives 2)
+unfolding counts
+counts-by n m b e = rw e refl
 
 -- what the test of the counts leaves
 pub counts-within :

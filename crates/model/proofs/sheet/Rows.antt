@@ -144,6 +144,13 @@ sound-at s m (suc n) i p e l g = ⊎-elim
     (λ (h : i < n). sound-at s m n i p (rows-split s m n e .0) h g)
     (eq-or-lt-of-le (le-of-suc-le-suc l))
 
+-- and they end within the sheet
+pub rows-within :
+    (s : List ℕ) (m n : ℕ) → rowAt s m 0 ≤ length s → firstFault (rowsFaults s m n) ≡ accepted tt → rowAt s m n ≤ length s
+unfolding rowAt
+rows-within s m zero h e = h
+rows-within s m (suc n) h e = row-sound s m (rowAt s m n) (rows-split s m n e .1) .bids-in
+
 pub first-row : (s : List ℕ) (m : ℕ) → rowAt s m 0 ≡ 4 + 6 * m
 unfolding rowAt
 first-row s m = refl

@@ -1,14 +1,24 @@
 -- Laws of a table that is written from its start on.
 use Prim.Native.Nat.{ℕ, suc, _+_, _≤_, _<_}
 use mathlib.Core.List.{List, [], _∷_, _++_, append-assoc, append-nil}
+use mathlib.Core.Logic.{⊎-elim}
 use mathlib.Core.Path.{_≡_, refl, sym, ap, _∙_}
+use native.Mathlib.Nat.{zero-add, suc-add}
 use native.Mathlib.Omega.{arith}
 use lib.ListN.{length, getD, take, drop, set, length-append, length-set, take-append-drop}
-use lib.Seq.{drop-cons, set-at, take-at, drop-append-add, drop-drop, length-take-le}
+use lib.Seq.{drop-cons, set-at, take-at, drop-at, drop-append-add, drop-drop, length-take-le, set-append-left}
+use lib.Seq.{getD-set-same, getD-set-other}
 use Rattle.model.specs.Counting.{list}
-use Rattle.model.proofs.Counting.{length-list, list-cong, list-step}
+use Rattle.model.proofs.Counting.{length-list, getD-list, list-cong, list-step}
+use Rattle.model.proofs.Loops.{is-list}
+use Rattle.model.proofs.Tests.{eq-or-ne}
 use Rattle.model.specs.sheet.Over.{over}
 use Rattle.sheet.specs.Filling.{placed}
+
+set-append-add : (xs ys : List ℕ) (j a : ℕ) → set (xs ++ ys) (length xs + j) a ≡ xs ++ set ys j a
+set-append-add [] ys j a = ap (λ n. set ys n a) (zero-add j)
+set-append-add (x ∷ xs) ys j a =
+    ap (λ n. set (x ∷ (xs ++ ys)) n a) (suc-add (length xs) j) ∙ ap (λ r. x ∷ r) (set-append-add xs ys j a)
 
 -- l is l₀ with xs over its first places
 pub record Filled (xs l₀ l : List ℕ) : Type 0 where
@@ -69,6 +79,47 @@ pub placed-cong :
     (base m : ℕ) (f g : ℕ → ℕ) (l : List ℕ) → ((j : ℕ) → j < m → f j ≡ g j) → placed base m f l ≡ placed base m g l
 unfolding placed
 placed-cong base m f g l h = ap (λ y. over (take base l ++ y) l) (list-cong m f g h)
+
+-- one place of the row anew
+pub placed-set :
+    (base m j v : ℕ) (f g : ℕ → ℕ) (l : List ℕ) → base ≤ length l → j < m → v ≡ g j
+    → ((k : ℕ) → k < m → (k ≡ j → ⊥) → f k ≡ g k) → set (placed base m f l) (base + j) v ≡ placed base m g l
+unfolding placed over
+placed-set base m j v f g l b h e o =
+    let front = length-take-le base l b in
+    let long = length-append (take base l) (list m f) in
+    let same : length (take base l ++ list m f) ≡ length (take base l ++ list m g) =
+    omega (arith, long, length-append (take base l) (list m g), length-list m f, length-list m g) in
+    let row : set (list m f) j v ≡ list m g =
+    is-list m g _ (length-set (list m f) j v ∙ length-list m f) (λ k lk. ⊎-elim
+    (λ (q : k ≡ j). rw q (getD-set-same (list m f) j v 0 (omega (arith, length-list m f)) ∙ e))
+    (λ (q : k ≡ j → ⊥). getD-set-other (list m f) j k v 0 q ∙ getD-list m f k lk ∙ o k lk q)
+    (eq-or-ne k j)) in
+    set-append-left (take base l ++ list m f) _ (base + j) v (omega (arith, long, front, length-list m f))
+    ∙ ap (λ y. y ++ drop (length (take base l ++ list m f)) l)
+    (ap (λ n. set (take base l ++ list m f) (n + j) v) (sym front) ∙ set-append-add (take base l) (list m f) j v
+    ∙ ap (λ y. take base l ++ y) row)
+    ∙ ap (λ n. take base l ++ list m g ++ drop n l) same
+
+-- a row over a row
+pub placed-again :
+    (base m : ℕ) (f g : ℕ → ℕ) (l : List ℕ) → base ≤ length l → placed base m g (placed base m f l) ≡ placed base m g l
+unfolding placed over
+placed-again base m f g l b =
+    let front = length-take-le base l b in
+    let same : length (take base l ++ list m g) ≡ length (take base l ++ list m f) =
+    omega (
+      arith,
+      length-append (take base l) (list m f),
+      length-append (take base l) (list m g),
+      length-list m f,
+      length-list m g,
+    ) in
+    let tail = drop (length (take base l ++ list m f)) l in
+    let head : take base (take base l ++ list m f ++ tail) ≡ take base l =
+    ap (take base) (append-assoc (take base l) (list m f) tail) ∙ take-at (take base l) _ base front in
+    rw head (ap (λ y. take base l ++ list m g ++ y)
+    (drop-at (take base l ++ list m f) tail _ (sym same) ∙ ap (λ n. drop n l) (sym same)))
 
 -- a whole row more
 pub filled-row :

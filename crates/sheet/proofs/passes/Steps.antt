@@ -1,29 +1,30 @@
 -- The steps of the pass over rows, told and read.
 use Prim.Native.Nat.{ℕ}
-use mathlib.Core.Path.{_≡_, refl, ap}
-use native.Mathlib.Omega.{arith}
+use mathlib.Core.Path.{_≡_, sym, ap, _∙_}
 use Rattle.model.specs.declared.refusal.Refusal.{Refusal}
-use Rattle.model.specs.Refusals.{Verdict, accepted, refused}
+use Rattle.model.specs.Numbers.{number}
+use Rattle.model.specs.Refusals.{Verdict, accepted, refused, giving}
+use Rattle.model.proofs.Refusals.{giving-accepted, giving-refused, gave-accepted, gave-refused}
 use Rattle.sheet.specs.declared.fields.Cursor.{Cursor}
-use Rattle.sheet.specs.Passes.{stepBy}
+use Rattle.sheet.specs.Passes.{answerOfStep}
 use Rattle.sheet.specs.declared.passes.Step.the-variants.{Next, Fault}
 use Rattle.sheet.specs.declared.passes.Step.{Step}
 
-pub step-fault : (v : Verdict) (r : Refusal) (p : ℕ) → v ≡ refused r → Fault r ≡ stepBy v p
-unfolding stepBy
-step-fault v r p e = rw e refl
+pub step-fault : (v : Verdict) (x : Refusal) (p : ℕ) → v ≡ refused (number x) → answerOfStep (Fault x) ≡ giving v p
+unfolding answerOfStep
+step-fault v x p e = sym (giving-refused _ _ e)
 
-pub step-next : (v : Verdict) (p : ℕ) (c : Cursor) → v ≡ accepted → c .at ≡ p → Next c ≡ stepBy v p
-unfolding stepBy
-step-next v p c e f = rw (e, ← f) refl
+pub step-next : (v : Verdict) (p : ℕ) (c : Cursor) → v ≡ accepted tt → c .at ≡ p → answerOfStep (Next c) ≡ giving v p
+unfolding answerOfStep
+step-next v p c e f = ap accepted f ∙ sym (giving-accepted _ e)
 
 pub told-next :
-    (v : Verdict) (p : ℕ) (c : Cursor) (r : Step) → r ≡ stepBy v p → r ≡ Next c → (v ≡ accepted) × (c .at ≡ p)
-unfolding stepBy
-told-next accepted p c r e f = let g : c ≡ record { at = p } = cc in (refl, ap (λ (d : Cursor). d .at) g)
-told-next (refused x) p c r e f = let z : _≡_ {A = ℕ} 0 1 = cc in absurd (omega arith)
+    (v : Verdict) (p : ℕ) (c : Cursor) (r : Step) → answerOfStep r ≡ giving v p → r ≡ Next c
+    → (v ≡ accepted tt) × (c .at ≡ p)
+unfolding answerOfStep
+told-next v p c r e f = let (a, b) = gave-accepted v p (c .at) (sym e ∙ ap answerOfStep f) in (a, sym b)
 
-pub told-fault : (v : Verdict) (p : ℕ) (x : Refusal) (r : Step) → r ≡ stepBy v p → r ≡ Fault x → v ≡ refused x
-unfolding stepBy
-told-fault accepted p x r e f = let z : _≡_ {A = ℕ} 0 1 = cc in absurd (omega arith)
-told-fault (refused y) p x r e f = let g : y ≡ x = cc in ap refused g
+pub told-fault :
+    (v : Verdict) (p : ℕ) (x : Refusal) (r : Step) → answerOfStep r ≡ giving v p → r ≡ Fault x → v ≡ refused (number x)
+unfolding answerOfStep
+told-fault v p x r e f = gave-refused v p _ (sym e ∙ ap answerOfStep f)

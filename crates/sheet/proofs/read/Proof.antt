@@ -4,41 +4,45 @@ use mathlib.Core.Path.{_≡_, _∙_, ap}
 use native.Mathlib.Omega.{arith}
 use lib.ListN.{length}
 use borrow.Author.Needs.{needs}
-use Rattle.model.specs.declared.refusal.Refusal.the-variants.{LentLengths}
 use Rattle.model.specs.Refusals.{_gives_, accepted, firstFault}
-use Rattle.model.specs.sheet.Content.{guests, stations, sheetFaults, readSheet}
+use Rattle.model.specs.sheet.Content.{guests, stations, sheetFaults}
 use Rattle.model.proofs.sheet.Faults.{sheet-sound}
 use Rattle.model.proofs.sheet.Answers.{told-read}
-use Rattle.model.specs.contracts.Reads.{lentTables}
+use Rattle.model.specs.contracts.Reads.{tableLengths}
 use Rattle.model.proofs.sheet.Tables.{lent-lengths, rows-good, room-for, refused-lent, refused-sheet, read-all}
 use Rattle.sheet.proofs.read.Statement.{statement}
 use Rattle.sheet.proofs.read.Tie as tie
 
 got : (c : tie.After-guests) →
     let entry = c .before .before .before .before .before .before .before .before .before .before in
-    (firstFault (sheetFaults (entry .args .sheet .now)) ≡ accepted)
+    (firstFault (sheetFaults (entry .args .sheet .now)) ≡ accepted tt)
     × (c .guests .given .0 .0 ≡ guests (entry .args .sheet .now))
     × (c .guests .given .0 .1 .0 ≡ stations (entry .args .sheet .now))
-unfolding readSheet
-got c = told-read _ _ _ _ _ (c .before .before .check .ensures) (c .guests .given .1)
+got c = told-read _ _ _ _ _ _ (c .before .before .check .ensures) (c .guests .given .1)
 
 lengths : (c : tie.Else1) →
     let entry = c .before .before .before .before .before .before .before in
-    lentTables (length (entry .args .amounts .now)) (length (entry .args .asks .now)) (length (entry .args .bays .now))
-    (length (entry .args .bids .now)) ≡ (false gives LentLengths)
-lengths c = c .before .mislent .ensures ∙ ap (λ b. b gives LentLengths) (c .if1 .left)
+    tableLengths (length (entry .args .amounts .now)) (length (entry .args .asks .now)) (length (entry .args .bays .now))
+    (length (entry .args .bids .now)) ≡ (false gives 10)
+lengths c = c .before .mislent .ensures ∙ ap (λ b. b gives 10) (c .if1 .left)
 
 returns : tie.Need-returns
-returns c = refused-lent _ _ _ _ _ (c .before .mislent .ensures ∙ ap (λ b. b gives LentLengths) (c .if1 .taken))
+returns c = refused-lent _ _ _ _ _ (c .before .mislent .ensures ∙ ap (λ b. b gives 10) (c .if1 .taken))
+
+header-requires : tie.Need-header-requires
+header-requires c κs =
+    let t = sheet-sound _ (got (c .before .before) .0) in
+    (c .start .ensures, omega (arith, t .stations-in))
 
 fill-stations-requires : tie.Need-fill-stations-requires
 fill-stations-requires c κs =
-    let after-guests = c .before .before .before in
+    let at-header = c .before .before in
+    let after-guests = at-header .before .before .before in
     let else1 = after-guests .before .before .before in
     let g = got after-guests in
     let t = sheet-sound _ (g .0) in
     let l = lent-lengths _ _ _ _ (lengths else1) in (
-      search needs,
+      at-header .header .ensures .place,
       omega (arith, t .stations-in, g .2),
       omega (arith, t .narrow, g .2, l .1),
       omega (arith, t .narrow, g .2, l .2),
@@ -47,7 +51,8 @@ fill-stations-requires c κs =
 fill-rows-requires : tie.Need-fill-rows-requires
 fill-rows-requires c κs =
     let at-fill-stations = c .before .before .before .before .before .before in
-    let after-guests = at-fill-stations .before .before .before .before in
+    let at-header = at-fill-stations .before .before .before in
+    let after-guests = at-header .before .before .before in
     let else1 = after-guests .before .before .before in
     let g = got after-guests in
     let t = sheet-sound _ (g .0) in
@@ -57,14 +62,14 @@ fill-rows-requires c κs =
       rows-good t (g .1) (g .2),
       omega (arith, t .few, g .1, l .0),
       room-for _ _ _ (omega (arith, t .few, g .1)) (omega (arith, t .narrow, g .2)) (l .3),
-      omega (arith, t .stations-in),
     )
 
 returns-2 : tie.Need-returns-2
 returns-2 c =
     let at-fill-rows = c .before .before .before .before in
     let at-fill-stations = at-fill-rows .before .before .before .before .before .before .before in
-    let after-guests = at-fill-stations .before .before .before .before in
+    let at-header = at-fill-stations .before .before .before in
+    let after-guests = at-header .before .before .before in
     let else1 = after-guests .before .before .before in
     let g = got after-guests in
     let f = at-fill-stations .fill-stations .ensures in
@@ -84,7 +89,8 @@ read-spec =
     (tie.spec
     (λ c κs. search needs)
     returns
-    (λ c κs. search needs) (λ c. search needs)
+    (λ c κs. search needs) (λ c. search needs) (λ c κs. search needs)
+    header-requires
     fill-stations-requires
     fill-rows-requires
     (λ c. search needs) (λ c. search needs) (λ c. search needs) (λ c. search needs) (λ c. search needs)

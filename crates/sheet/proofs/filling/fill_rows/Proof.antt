@@ -88,7 +88,6 @@ fill-row-requires c κs =
       rw (t .map) (r .no-stray),
       omega (arith, to-next t, r .bids-in),
       omega (arith, at-loop .loop .inv .3 .same, room _ _ _ _ (at-loop-test .loop-test .taken) (entry .pre .4)),
-      omega arith,
     )
 
 loop-again : tie.Need-loop-again Inv-loop μ-loop

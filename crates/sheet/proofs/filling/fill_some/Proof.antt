@@ -1,70 +1,104 @@
--- The loop: the first j places of the row hold their bids, and d is past the fields of the set bits below j.
-use Prim.Native.Nat.{_≤_, _+_, _*_, _-_}
-use mathlib.Core.List.{_++_}
-use mathlib.Core.Path.{ap, _≡_}
-use native.Mathlib.Nat.{le-antisymm}
+-- The walk over the set bits, from the lowest on: `left` has those that are not taken.
+use Prim.Native.Nat.{_*_, _-_, _%_, _^_, _≤_, _<_}
+use mathlib.Core.Path.{_≡_, refl, _∙_, ap}
 use native.Mathlib.Omega.{arith}
-use lib.ListN.{take}
+use lib.Count.{trailingZeros}
+use lib.ListN.{length, length-set}
 use borrow.Author.Needs.{needs}
-use Rattle.model.specs.Counting.{count, list}
-use Rattle.model.proofs.Counting.{count-start, count-step, count-up}
-use Rattle.model.specs.sheet.Fields.{hasBit}
-use Rattle.model.specs.sheet.Rows.{bidBy}
-use Rattle.sheet.proofs.filling.Bids.{bid-is}
-use Rattle.sheet.proofs.filling.Filled.{Filled, row-start, row-turn, row-end}
+use Rattle.model.proofs.sheet.Fields.{pow-pos}
+use Rattle.sheet.specs.Filling.{placed}
+use Rattle.sheet.proofs.filling.Bids.{Walked, walk-start, walk-bit, walk-field, walk-power, walk-less, walk-turn}
+use Rattle.sheet.proofs.filling.Bids.{walk-place, walk-end}
+use Rattle.sheet.proofs.filling.Filled.{placed-again}
 use Rattle.sheet.proofs.filling.fill_some.Statement.{statement}
 use Rattle.sheet.proofs.filling.fill_some.Tie as tie
 
 abbrev Inv-loop : tie.InvT-loop
-Inv-loop s bits stations base bids₀ d₀ j₀ bids d j =
-    (j ≤ stations) × (d .at ≡ d₀ .at + 4 * count j (hasBit bits))
-    × Filled (take base bids₀ ++ list j (bidBy s bits (d₀ .at))) bids₀ bids
+Inv-loop s bits stations base bids₀ d₀ left₀ bids d left =
+    (length bids ≡ length bids₀) × Walked s bits stations base (d₀ .at) bids₀ bids (d .at) left
 
 abbrev μ-loop : tie.MeasureT-loop
-μ-loop s bits stations base bids₀ d₀ j₀ bids d j = stations - j
+μ-loop s bits stations base bids₀ d₀ left₀ bids d left = left
 
-loop-holds : tie.Need-loop-holds Inv-loop μ-loop
-loop-holds c = (
-  search needs,
-  omega (arith, count-start (hasBit (c .before .before .args .bits))),
-  row-start _ (c .before .before .args .bids .now) (c .before .before .args .base) (omega arith),
+abbrev entry : tie.At-loop Inv-loop μ-loop → tie.Start Inv-loop μ-loop
+entry p = p .before .before .before .before .before .before .before
+
+-- the next set bit is a station's
+station : (c : tie.In-loop Inv-loop μ-loop) →
+    trailingZeros 64 (c .before .loop .left) < entry (c .before) .args .stations
+station c = walk-bit _ _ _ _ _ _ (c .before .loop .inv .1) (omega arith) (entry (c .before) .pre .1) (omega arith)
+
+-- its power, which is taken away
+power : (c : tie.In-loop Inv-loop μ-loop) →
+    let left = c .before .loop .left in
+    (1 * 2 ^ trailingZeros 64 left % 2 ^ 64 ≡ 2 ^ trailingZeros 64 left) × (2 ^ trailingZeros 64 left ≤ left)
+power c = (
+  walk-power _ _ _ _ _ _ (c .before .loop .inv .1) (omega arith) (entry (c .before) .pre .1) (omega arith),
+  walk-less _ _ _ _ _ _ (c .before .loop .inv .1) (omega arith) (entry (c .before) .pre .1) (omega arith),
 )
 
-take-bid-requires : tie.Need-take-bid-requires Inv-loop μ-loop
-take-bid-requires c κs =
-    let entry = c .before .before .before .before in
-    let f = hasBit (entry .args .bits) in (
-      omega arith,
-      omega (
-        arith,
-        count-step (c .before .loop .j) f,
-        count-up (c .before .loop .j + 1) (entry .args .stations) f (omega arith),
-      ),
-      omega arith,
-    )
+loop-holds : tie.Need-loop-holds Inv-loop μ-loop
+loop-holds c =
+    let at-clear-row = c .before .before in
+    let entry = at-clear-row .before .before .before .before in
+    (refl, walk-start _ _ _ _ _ (entry .args .bids .now) _ (omega arith) (at-clear-row .clear-row .ensures))
+
+cast-j : tie.Need-cast-j Inv-loop μ-loop
+cast-j c = omega (arith, station c)
+
+four-requires : tie.Need-four-requires Inv-loop μ-loop
+four-requires c κs =
+    let at-loop = c .before in
+    omega (arith, walk-field _ _ _ _ _ _ (at-loop .loop .inv .1) (omega arith) (entry at-loop .pre .1) (omega arith))
+
+add-bids : tie.Need-add-bids Inv-loop μ-loop
+add-bids c = let h = station (c .before) in search needs
+
+mul-bids : tie.Need-mul-bids Inv-loop μ-loop
+mul-bids c = let h = station (c .before) in search needs
 
 slice-write-bids : tie.Need-slice-write-bids Inv-loop μ-loop
-slice-write-bids c = omega (arith, c .before .before .loop .inv .2 .same)
+slice-write-bids c =
+    let at-clear-row = c .before .before .before .before .before in
+    omega (arith, c .before .before .loop .inv .0, at-clear-row .clear-row .kept, station (c .before))
+
+shl-left : tie.Need-shl-left Inv-loop μ-loop
+shl-left c = omega (arith, station (c .before .before))
+
+sub-left : tie.Need-sub-left Inv-loop μ-loop
+sub-left c = omega (arith, power (c .before .before) .0, power (c .before .before) .1)
+
+loop-less : tie.Need-loop-less Inv-loop μ-loop
+loop-less c =
+    omega (
+      arith,
+      power (c .before .before) .0,
+      power (c .before .before) .1,
+      pow-pos (trailingZeros 64 (c .before .before .before .loop .left)),
+    )
 
 loop-again : tie.Need-loop-again Inv-loop μ-loop
 loop-again c =
     let at-loop = c .before .before .before in
-    let entry = at-loop .before .before .before in (
-      search needs,
-      omega (arith, c .before .take-bid .ensures .place, count-step (at-loop .loop .j) (hasBit (entry .args .bits))),
-      row-turn _ _ _ _ _ _ (at-loop .loop .inv .2) (omega arith)
-          (bid-is _ _ _ _ _ _ (at-loop .loop .inv .1) (c .before .take-bid .ensures .value)),
+    let at-clear-row = at-loop .before .before .before in (
+      simp length-set (at-loop .loop .inv .0),
+      walk-turn _ _ _ _ _ _ (at-loop .loop .inv .1) (omega arith) (entry at-loop .pre .1) (omega arith) _ _ _
+          (omega (arith, at-clear-row .clear-row .kept)) (c .before .four .ensures .value)
+          (c .before .four .ensures .place)
+          (ap (λ x. at-loop .loop .left - x) (power (c .before .before) .0)),
     )
 
 same-length : tie.Need-same-length Inv-loop μ-loop
-same-length c = c .before .loop .inv .2 .same
+same-length c = c .before .loop .inv .0 ∙ c .before .before .before .before .clear-row .kept .1 .1 .0
 
 returns : tie.Need-returns Inv-loop μ-loop
 returns c =
-    let e = le-antisymm (c .before .loop .inv .0) (c .loop-test .left) in
+    let at-clear-row = c .before .before .before .before in
+    let t = c .before .loop .inv .1 in
     record {
-      place = omega (arith, ap (λ k. count k (hasBit (c .before .before .before .before .args .bits))) e);
-      bids-are = row-end _ _ _ _ _ _ (c .before .loop .inv .2) e;
+      place = walk-place _ _ _ _ _ _ t (c .loop-test .left);
+      bids-are = walk-end _ _ _ _ _ _ t (c .loop-test .left)
+          ∙ ap (placed _ _ _) (at-clear-row .clear-row .ensures) ∙ placed-again _ _ _ _ _ (omega arith);
     }
 
 pub fill-some-spec : {M : Type 1} → statement M
@@ -73,11 +107,16 @@ fill-some-spec =
     (tie.spec
     Inv-loop
     μ-loop
+    (λ c κs. search needs)
     loop-holds
-    take-bid-requires
-    (λ c. search needs) (λ c. search needs)
+    cast-j
+    four-requires
+    add-bids
+    mul-bids
     slice-write-bids
-    (λ c. search needs) (λ c. search needs)
+    shl-left
+    sub-left
+    loop-less
     loop-again
     same-length
     returns)
