@@ -11,7 +11,7 @@ put-requires : tie.Need-put-requires
 put-requires c κs = omega (arith, field-end _ _ (c .before .before .before .put-field .ensures))
 
 abbrev entry-before-put-field : tie.After-put-field → tie.Start
-entry-before-put-field p = p .before .before .before .before .before .before .before .before
+entry-before-put-field p = p .before .before .before .before .before .before .before .before .before
 
 guest-lines-requires : tie.Need-guest-lines-requires
 guest-lines-requires c κs =
@@ -93,7 +93,7 @@ pub clearing-text-spec : {M : Type 1} → statement M
 clearing-text-spec =
     tie.close
     (tie.spec
-    (λ c. search needs) (λ c κs. search needs)
+    (λ c. search needs) (λ c. search needs) (λ c κs. search needs)
     put-requires
     guest-lines-requires
     station-lines-requires

@@ -1,3 +1,4 @@
+use native.Mathlib.Omega.{arith}
 use borrow.Author.Needs.{needs}
 use Rattle.model.proofs.contracts.Clears.{clear-refused, clear-cleared}
 use Rattle.report.proofs.printing.Printing.{prints-refused, prints-cleared}
@@ -18,6 +19,19 @@ returns c =
     (record { stations-long = l .0; charges-long = l .1; sold-long = l .2; paid-long = l .3 }) _
     (at-answer .answer .given .1)) (c .before .before .refusal-text .ensures)
 
+clearing-text-requires : tie.Need-clearing-text-requires
+clearing-text-requires c κs =
+    let at-answer2 = c .before .before .before .before .before .before in
+    let at-clear = at-answer2 .before .before .before .before .before .before .before .before .before .before in
+    let entry = entry-before-clear at-clear in
+    let (few, narrow) = entry .pre .0 in
+    let (stations, charges, sold, paid) = entry .pre .1 in (
+      omega (arith, few, stations),
+      omega (arith, stations, charges),
+      omega (arith, narrow, sold),
+      omega (arith, sold, paid),
+    )
+
 returns-2 : tie.Need-returns-2
 returns-2 c =
     let at-answer2 = c .before .before .before .before .before .before .before .before .before in
@@ -34,7 +48,8 @@ print-cleared-spec =
     tie.close
     (tie.spec
     (λ c κs. search needs) (λ c. search needs) (λ c κs. search needs) (λ c. search needs)
-    (λ c κs. search needs) (λ c. search needs) (λ c. search needs) (λ c. search needs) (λ c. search needs)
+    clearing-text-requires
+    (λ c. search needs) (λ c. search needs) (λ c. search needs) (λ c. search needs)
     (λ c. search needs)
     returns
     (λ c. search needs) (λ c. search needs) (λ c. search needs) (λ c. search needs) (λ c. search needs)
