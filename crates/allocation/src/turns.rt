@@ -40,7 +40,7 @@ pub fn station(
         let critical = selection::critical_total(totals, top, b);
         let bound = ties::tie_bound(totals, critical.total, critical.above, b);
         let s = j + 1;
-        criticals[s] = critical.total;
+        criticals[s] = critical.total.narrow();
         offers::offer(
             totals,
             least,
