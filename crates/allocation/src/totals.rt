@@ -10,7 +10,6 @@ ghost use Rattle.allocation.specs.Totals.{totalFor, totalAt, Gathered};
 
 // A guest's total at a station, 0 where the bid is below the cut.
 fn total_for(bid: UnitPrice, amount: u16, cut: UnitPrice) -> Mills
-    requires { ⌜ (bid .0 ≤ maxPrice) × (amount ≤ maxAmount) ⌝ }
     ensures { λ r. ⌜ r .0 ≡ totalFor (bid .0) amount (cut .0) ⌝ }
 {
     if bid.below(cut) {

@@ -30,6 +30,7 @@ loop-again : tie.Need-loop-again Inv-loop μ-loop
 loop-again c =
     sum-turn (c .before .before .before .before .before .before .before .loop .inv) (c .before .before .before .before .before .before .loop-test .taken) (c .before .excess .ensures ∙ ap₂ _-_ (c .before .before .before .before .wide .ensures) (c .before .before .wide2 .ensures))
     (c .plus .ensures)
+
 loop-holds : tie.Need-loop-holds Inv-loop μ-loop
 loop-holds c = sum-none
 
