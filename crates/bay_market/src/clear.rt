@@ -37,8 +37,8 @@ pub extern "C" fn bay_market_clear(
             cut: at,
             margin: kept,
         } => {
-            *cut = at;
-            *margin = kept;
+            *cut = at.0;
+            *margin = kept.0;
             0
         }
     }

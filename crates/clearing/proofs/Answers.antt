@@ -26,10 +26,12 @@ use Rattle.pricing.specs.Charges.{leastAt}
 use Rattle.allocation.specs.Stages.{AtCut}
 use Rattle.allocation.specs.Assignment.{Assigned}
 use Rattle.allocation.proofs.assignment.Assignment.{numbered}
-use Rattle.model.specs.contracts.Clears.{answerTo, resultsOf, Clears}
+use Rattle.model.specs.contracts.Clears.{unitPrice, mills, answerTo, resultsOf, Clears}
 use Rattle.clearing.specs.Settles.{Settles}
 use Rattle.model.specs.declared.answers.Clearing.{Clearing}
 use Rattle.model.specs.declared.answers.Clearing.the-variants as clearings
+use Rattle.model.specs.declared.money.UnitPrice.{UnitPrice}
+use Rattle.model.specs.declared.money.Mills.{Mills}
 use Rattle.model.proofs.contracts.Accepts.{Accepts, accepts}
 
 -- ---- the table of refusals
@@ -92,13 +94,13 @@ module _ (t : Tables) {stations charges : List ℕ} (a : Assigned t stations cha
         go k (suc j) = refl
 
     pub settles :
-        {m x : ℕ} {sales payments : List ℕ} → m ≡ length (t .asks)
+        {m : ℕ} {k : UnitPrice} {x : Mills} {sales payments : List ℕ} → k .0 ≡ c → m ≡ length (t .asks)
         → PaidOut (kwhAt stations (t .amounts)) c m sales payments
-        → x ≡ sum (length charges) (λ i. getD charges i 0 - getD least i 0)
-        → Settles t (clearings.Cleared c x) (results stations charges sales payments)
+        → x .0 ≡ sum (length charges) (λ i. getD charges i 0 - getD least i 0)
+        → Settles t (clearings.Cleared k x) (results stations charges sales payments)
     unfolding outcome settle paid seen screen market marketBy
-    settles em p e = record {
-      answered = ap₂ clearings.Cleared (A .is-cut)
+    settles ek em p e = record {
+      answered = ap₂ (λ k x. clearings.Cleared (unitPrice k) (mills x)) (ek ∙ A .is-cut)
           (e ∙ ap (λ n. sum n (λ i. getD charges i 0 - getD least i 0)) charges-count ∙ margin-is);
       left = λ i. record {
         stations = a .stations-are i;
@@ -150,6 +152,6 @@ clear-settled asks bays amounts bids width r e s =
     let v = is-accepted _ (sym e) in
     let o = ap outcome (sym (width-of asks bays amounts bids width (accepts t r v .within))) in
     record {
-      answered = rw v (s .answered ∙ ap (λ o. clearings.Cleared (o .cut) (o .margin)) o);
+      answered = rw v (s .answered ∙ ap (λ o. clearings.Cleared (unitPrice (o .cut)) (mills (o .margin))) o);
       left = rw v (s .left ∙ ap (λ o. o .results) o);
     }

@@ -42,10 +42,7 @@ fn clear_with_room(
     assignment::assign_all(asks, bays, amounts, bids, cut, least, stations, charges);
     sales::sell(stations, amounts, cut, sold, paid);
     let margin = margin::margin(charges, least);
-    Clearing::Cleared {
-        cut: cut.0,
-        margin: margin.0,
-    }
+    Clearing::Cleared { cut, margin }
 }
 
 fn clear_accepted(

@@ -1,4 +1,6 @@
 // The answers of the entry points.
+use crate::money::Mills;
+use crate::money::UnitPrice;
 use crate::refusal::Refusal;
 
 // What a sheet comes to: the counts of the market read, or the refusal.
@@ -8,7 +10,7 @@ pub enum Reading {
 }
 
 pub enum Clearing {
-    Cleared { cut: u32, margin: u64 },
+    Cleared { cut: UnitPrice, margin: Mills },
     Refused(Refusal),
 }
 

@@ -39,8 +39,8 @@ fn print_cleared(
     match answer {
         Clearing::Refused(refusal) => page::refusal_text(refusal, out),
         Clearing::Cleared { cut, margin } => page::clearing_text(
-            cut,
-            margin,
+            cut.0,
+            margin.0,
             stations,
             charges,
             sold,

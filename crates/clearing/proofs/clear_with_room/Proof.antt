@@ -1,4 +1,4 @@
-use mathlib.Core.Path.{sym, _∙_}
+use mathlib.Core.Path.{refl, sym, _∙_}
 use native.Mathlib.Omega.{arith}
 use borrow.Author.Needs.{needs}
 use Rattle.model.specs.market.Market.{regular}
@@ -62,7 +62,7 @@ returns c =
     let entry = entry-before-cut at-cut′ in
     settles (regular _ _ _ _) (at-assign-all .assign-all .ensures)
     (at-cut (regular _ _ _ _) (entry .pre .0) (at-cut′ .cut .ensures) (at-least-charges .least-charges .ensures))
-    (entry .pre .1 .0 .sold-long) (at-sell .sell .ensures) (c .margin .ensures)
+    refl (entry .pre .1 .0 .sold-long) (at-sell .sell .ensures) (c .margin .ensures)
 
 pub clear-with-room-spec : {M : Type 1} → statement M
 clear-with-room-spec =

@@ -15,7 +15,7 @@ use Rattle.model.specs.market.Mechanism.{at, charge, charged, sold, paid
 use Rattle.model.specs.market.Outcome.{Results, settle, seen, decided, outcome, results}
 use Rattle.model.specs.market.Faults.{outside, counts, lengths, lent, values, clearingFaults}
 use Rattle.model.specs.claims.Truth.{AlikeButForGuest, AlikeButForStation}
-use Rattle.model.specs.contracts.Clears.{answerTo, resultsOf, Clears}
+use Rattle.model.specs.contracts.Clears.{unitPrice, mills, answerTo, resultsOf, Clears}
 use Rattle.model.specs.claims.Calls.{ClearedCall, guestGainIn, stationGainIn, CallWithin}
 use Rattle.model.specs.declared.answers.Clearing.the-variants.{Cleared}
 use Rattle.model.proofs.claims.Calls.{guest-truthful-calls, station-truthful-calls, call-limits}
@@ -37,7 +37,8 @@ overask = tables (7 ∷ 6 ∷ []) (1 ∷ 1 ∷ []) (3 ∷ 2 ∷ []) (9 ∷ 0 ∷
 
 -- the three calls, by computation
 abbrev pub called :
-    (t : Tables) (cut margin : ℕ) (exit : Results) → Clears t lists (Cleared cut margin) exit → ClearedCall t
+    (t : Tables) (cut margin : ℕ) (exit : Results) → Clears t lists (Cleared (unitPrice cut) (mills margin)) exit
+    → ClearedCall t
 called t cut margin exit c = record { entry = lists; cut = cut; margin = margin; exit = exit; call = c }
 
 pub calls : ClearedCall honest × ClearedCall overbid × ClearedCall overask

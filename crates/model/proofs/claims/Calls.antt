@@ -15,7 +15,7 @@ use Rattle.model.specs.claims.Truth.{ClearsWithin}
 use Rattle.model.proofs.Counting.{sum-cong, count-cong, getD-list}
 use Rattle.model.proofs.market.Acceptance.{accepted-reads}
 use Rattle.model.proofs.claims.Truth.{guest-truthful, station-truthful, clearing-limits}
-use Rattle.model.specs.contracts.Clears.{answerTo, resultsOf}
+use Rattle.model.specs.contracts.Clears.{unitPrice, mills, answerTo, resultsOf}
 use Rattle.model.specs.claims.Calls.{RefusedLeaves, ClearedCall, guestGainIn, stationGainIn, GuestTruthfulCalls}
 use Rattle.model.specs.claims.Calls.{StationTruthfulCalls, CallWithin, CallLimits}
 use Rattle.model.specs.declared.answers.Clearing.the-variants.{Cleared, Refused}
@@ -35,7 +35,7 @@ module _ (t : Tables) (k : ClearedCall t) where
   unfolding answerTo
   no-fault = go (firstFault (clearingFaults t (k .entry))) (k .call .answered)
     where
-      go : (v : Verdict) → Cleared (k .cut) (k .margin) ≡ answerTo v (outcome t) → v ≡ accepted
+      go : (v : Verdict) → Cleared (unitPrice (k .cut)) (mills (k .margin)) ≡ answerTo v (outcome t) → v ≡ accepted
       go accepted e = refl
       go (refused r) e = absurd (let z : _≡_ {A = ℕ} 0 1 = cc in omega arith)
 
@@ -49,9 +49,10 @@ module _ (t : Tables) (k : ClearedCall t) where
   margin-is : k .margin ≡ margin (seen t) (decided t)
   unfolding answerTo outcome settle
   margin-is =
-      let e : Cleared (k .cut) (k .margin) ≡ Cleared ((outcome t) .cut) ((outcome t) .margin) = k .call .answered
+      let e : Cleared (unitPrice (k .cut)) (mills (k .margin)) ≡ answerTo accepted (outcome t) = k .call .answered
       ∙ ap (λ v. answerTo v (outcome t)) no-fault in
-      cc
+      let m : mills (k .margin) ≡ mills ((outcome t) .margin) = cc in
+      ap (λ m. m .0) m
 
   station-of : (i : ℕ) → i < length (t .amounts) → getD (k .exit .stations) i 0 ≡ (decided t) .assigned i
   unfolding outcome settle seen screen market marketBy

@@ -15,9 +15,11 @@ use Rattle.model.specs.market.Faults.{lent, marketFaults, verdict, clear
 use Rattle.model.specs.claims.Readings.{RightLengths}
 use Rattle.model.proofs.Tests.{neither, is-eq}
 use Rattle.model.proofs.Loops.{zeros-long}
-use Rattle.model.specs.contracts.Clears.{answerTo, resultsOf, Clears}
+use Rattle.model.specs.contracts.Clears.{unitPrice, mills, answerTo, resultsOf, Clears}
 use Rattle.model.specs.declared.answers.Clearing.{Clearing}
 use Rattle.model.specs.declared.answers.Clearing.the-variants.{Cleared, Refused}
+use Rattle.model.specs.declared.money.UnitPrice.{UnitPrice}
+use Rattle.model.specs.declared.money.Mills.{Mills}
 
 without-third :
     (a b : Row) (x : Bool) (r : Refusal) (rows : List Row) → x ≡ false
@@ -72,11 +74,14 @@ module _ (t : Tables) (entry exit : Results) (answer : Clearing) (c : Clears t e
   clear-refused x q = answer-refused x (verdict t) (sym said ∙ q)
 
   answer-cleared :
-      (k m : ℕ) (v : Verdict) → verdict t ≡ v → answerTo v (outcome t) ≡ Cleared k m
-      → exit ≡ resultsOf v (outcome t) entry → ClearedAs t k m exit
+      (k : UnitPrice) (m : Mills) (v : Verdict) → verdict t ≡ v → answerTo v (outcome t) ≡ Cleared k m
+      → exit ≡ resultsOf v (outcome t) entry → ClearedAs t (k .0) (m .0) exit
   unfolding answerTo resultsOf
-  answer-cleared k m accepted e q x = record { is-accepted = e; cut-is = cc; margin-is = cc; results-are = x }
+  answer-cleared k m accepted e q x =
+      let a : k ≡ unitPrice ((outcome t) .cut) = cc in
+      let b : m ≡ mills ((outcome t) .margin) = cc in
+      record { is-accepted = e; cut-is = ap (λ k. k .0) a; margin-is = ap (λ m. m .0) b; results-are = x }
   answer-cleared k m (refused y) e q x = absurd (let z : _≡_ {A = ℕ} 0 1 = cc in omega arith)
 
-  pub clear-cleared : (k m : ℕ) → answer ≡ Cleared k m → ClearedAs t k m exit
+  pub clear-cleared : (k : UnitPrice) (m : Mills) → answer ≡ Cleared k m → ClearedAs t (k .0) (m .0) exit
   clear-cleared k m q = answer-cleared k m (verdict t) refl (sym said ∙ q) left

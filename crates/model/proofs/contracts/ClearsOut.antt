@@ -1,6 +1,6 @@
 -- The exported clearing's promise from that of `clear`.
 use Prim.Native.Nat.{ℕ}
-use mathlib.Core.Path.{_≡_, refl, sym, _∙_}
+use mathlib.Core.Path.{_≡_, refl, sym, ap, _∙_}
 use native.Mathlib.Omega.{arith}
 use Rattle.model.specs.Numbers.{number}
 use Rattle.model.specs.declared.refusal.Refusal.{Refusal}
@@ -8,9 +8,11 @@ use Rattle.model.specs.Refusals.{Verdict, accepted, refused, firstFault,
 use Rattle.model.specs.market.Market.{Tables}
 use Rattle.model.specs.market.Outcome.{Results, outcome}
 use Rattle.model.specs.market.Faults.{clearingFaults}
-use Rattle.model.specs.contracts.Clears.{answerTo, Clears}
+use Rattle.model.specs.contracts.Clears.{unitPrice, mills, answerTo, Clears}
 use Rattle.model.specs.declared.answers.Clearing.{Clearing}
 use Rattle.model.specs.declared.answers.Clearing.the-variants as clearing
+use Rattle.model.specs.declared.money.UnitPrice.{UnitPrice}
+use Rattle.model.specs.declared.money.Mills.{Mills}
 use Rattle.model.specs.contracts.ClearsOut.{given, ClearsOut}
 
 module _ (t : Tables) (entry exit : Results) (answer : Clearing) (c : Clears t entry answer exit) (cut margin : ℕ) where
@@ -37,11 +39,15 @@ module _ (t : Tables) (entry exit : Results) (answer : Clearing) (c : Clears t e
   clears-refused x r q p = refused-as x r _ refl (sym (c .answered) ∙ q) p
 
   cleared-as :
-      (a b : ℕ) (v : Verdict) → found ≡ v → answerTo v (outcome t) ≡ clearing.Cleared a b
-      → ClearsOut t entry cut margin 0 exit a b
+      (a : UnitPrice) (b : Mills) (v : Verdict) → found ≡ v → answerTo v (outcome t) ≡ clearing.Cleared a b
+      → ClearsOut t entry cut margin 0 exit (a .0) (b .0)
   unfolding answerTo code given
-  cleared-as a b accepted e q = clears-by accepted e 0 a b refl (cc) (cc)
+  cleared-as a b accepted e q =
+      let p : a ≡ unitPrice ((outcome t) .cut) = cc in
+      let m : b ≡ mills ((outcome t) .margin) = cc in
+      clears-by accepted e 0 (a .0) (b .0) refl (ap (λ a. a .0) p) (ap (λ b. b .0) m)
   cleared-as a b (refused y) e q = absurd (let z : _≡_ {A = ℕ} 0 1 = cc in omega arith)
 
-  pub clears-market : (a b : ℕ) → answer ≡ clearing.Cleared a b → ClearsOut t entry cut margin 0 exit a b
+  pub clears-market :
+      (a : UnitPrice) (b : Mills) → answer ≡ clearing.Cleared a b → ClearsOut t entry cut margin 0 exit (a .0) (b .0)
   clears-market a b q = cleared-as a b _ refl (sym (c .answered) ∙ q)

@@ -11,7 +11,7 @@ use Rattle.model.specs.market.Market.{Tables, bidAt}
 use Rattle.model.specs.market.Mechanism.{at}
 use Rattle.model.specs.market.Outcome.{Results}
 use Rattle.model.specs.claims.Truth.{AlikeButForGuest, AlikeButForStation}
-use Rattle.model.specs.contracts.Clears.{Clears}
+use Rattle.model.specs.contracts.Clears.{unitPrice, mills, Clears}
 use Rattle.model.specs.declared.answers.Clearing.the-variants.{Cleared, Refused}
 use Rattle.model.specs.declared.refusal.Refusal.{Refusal}
 
@@ -25,7 +25,7 @@ pub record ClearedCall (t : Tables) : Type 0 where
   pub cut : ℕ
   pub margin : ℕ
   pub exit : Results
-  pub call : Clears t entry (Cleared cut margin) exit
+  pub call : Clears t entry (Cleared (unitPrice cut) (mills margin)) exit
 
 -- guest i's gain: by its worths w per kWh, worth at the station named times amount, less charge
 unfoldable pub guestGainIn : Tables → Results → (w : ℕ → ℕ) (i : ℕ) → ℤ
