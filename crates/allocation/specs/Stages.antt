@@ -1,15 +1,16 @@
 -- An accepted market at its cut, and the choices after some stations.
-use Prim.Native.Nat.{ℕ, _+_, _≤_, _<_}
+use Prim.Native.Nat.{ℕ, zero, suc, _+_, _≤_, _<_}
 use mathlib.Core.Bool.{Bool, true, false}
 use mathlib.Core.List.{List}
 use mathlib.Core.Path.{_≡_}
 use lib.ListN.{getD, length}
 use Rattle.model.specs.Limits.{maxStations, maxPrice}
-use Rattle.model.specs.Counting.{list}
+use Rattle.model.specs.Counting.{_<?_, only, list}
 use Rattle.model.specs.market.Market.{Tables, market, cut, Screened, queue, provisional, critical}
 use Rattle.model.specs.market.Mechanism.{at, best, surplus}
+use Rattle.model.specs.market.Outcome.{seen}
 use Rattle.model.specs.claims.Readings.{WithinLimits}
-use Rattle.allocation.specs.Totals.{maxTotal}
+use Rattle.allocation.specs.Totals.{maxTotal, totalAt}
 use Rattle.pricing.specs.Charges.{leastAt}
 
 -- a market within the limits with its cut and least charges
@@ -26,17 +27,37 @@ stationBy S j i = best j (λ k. provisional (queue S k) i) (surplus S i)
 unfoldable pub gainBy : Screened → (j i : ℕ) → ℕ
 gainBy S j i = at (λ k. surplus S i k + 1) (stationBy S j i)
 
--- after the first j stations: the choices and gains of n guests, and the critical total of each of these
--- stations at its number
+-- the critical total of station number s where it is among the first j, else 0; number 0 is no station
+unfoldable pub criticalBy : Screened → (j s : ℕ) → ℕ
+criticalBy S j zero = 0
+criticalBy S j (suc k) = only (k <? j) (critical (queue S k))
+
+-- after the first j stations: the choices and gains of n guests, and the critical total of each station number
 pub record After (S : Screened) (n j : ℕ) (chosen gains criticals : List ℕ) : Type 0 where
   pub chosen-are : chosen ≡ list n (stationBy S j)
   pub gains-are : gains ≡ list n (gainBy S j)
   pub gains-low : (k : ℕ) → k < n → getD gains k 0 ≤ maxTotal + 1
-  pub criticals-long : length criticals ≡ maxStations + 1
-  pub criticals-are : (k : ℕ) → k < j → getD criticals (k + 1) 0 ≡ critical (queue S k)
-  pub criticals-left : (k : ℕ) → j ≤ k → getD criticals (k + 1) 0 ≡ 0
+  pub criticals-are : criticals ≡ list (maxStations + 1) (criticalBy S j)
 
--- the table of totals after a turn: those gathered where the station is open, else as it was
+-- of a market's guests
+abbrev pub AfterIn : Tables → (j : ℕ) (chosen gains criticals : List ℕ) → Type 0
+AfterIn t j chosen gains criticals = After (seen t) (length (t .amounts)) j chosen gains criticals
+
+-- the table of totals after a turn: those gathered where the station is open, else as it was; and after the first j
 unfoldable pub gatheredIf : Bool → (gathered entry : List ℕ) → List ℕ
 gatheredIf true gathered entry = gathered
 gatheredIf false gathered entry = entry
+
+unfoldable pub turnTotals : (t : Tables) (c j : ℕ) (entry : List ℕ) → List ℕ
+turnTotals t c j entry =
+    gatheredIf (getD (t .asks) j 0 <? c)
+    (list (length (t .amounts)) (totalAt (t .bids) (t .amounts) (length (t .asks)) j c)) entry
+
+unfoldable pub totalsAfter : (t : Tables) (c j : ℕ) (entry : List ℕ) → List ℕ
+totalsAfter t c zero entry = entry
+totalsAfter t c (suc j) entry = turnTotals t c j (totalsAfter t c j entry)
+
+-- what the first j turns leave in the lent tables, of which the totals were totals₀
+pub record Turned (t : Tables) (c j : ℕ) (totals₀ totals chosen gains criticals : List ℕ) : Type 0 where
+  pub after : AfterIn t j chosen gains criticals
+  pub totals-are : totals ≡ totalsAfter t c j totals₀

@@ -4,12 +4,10 @@ use model::limits::MAX_GUESTS;
 use model::limits::MAX_STATIONS;
 use model::money::UnitPrice;
 use pricing::charges;
-ghost use Prim.Native.Nat.{_+_, _<_};
 ghost use mathlib.Core.Path.{_≡_};
 ghost use lib.ListN.{length};
-ghost use Rattle.model.specs.market.Outcome.{seen};
 ghost use Rattle.model.specs.market.Market.{regular};
-ghost use Rattle.allocation.specs.Stages.{AtCut, After};
+ghost use Rattle.allocation.specs.Stages.{AtCut, AfterIn, Turned};
 ghost use Rattle.allocation.specs.Assignment.{Assigned};
 
 // Every station's turn.
@@ -27,8 +25,12 @@ fn all_stations(
 )
     requires { ⌜ AtCut (regular (now asks) (now bays) (now amounts) (now bids)) (cut .0) (now least) ⌝ }
     requires { ⌜ length (now totals) ≡ length (now amounts) ⌝ }
-    requires { ⌜ After (seen (regular (now asks) (now bays) (now amounts) (now bids))) (length (now amounts)) 0 (now chosen) (now gains) (now criticals) ⌝ }
-    ensures { λ _. ⌜ After (seen (regular (now (asks .entry)) (now (bays .entry)) (now (amounts .entry)) (now (bids .entry)))) (length (now (amounts .entry))) (length (now (asks .entry))) (now (chosen .exit)) (now (gains .exit)) (now (criticals .exit)) ⌝ }
+    requires { ⌜ AfterIn (regular (now asks) (now bays) (now amounts) (now bids)) 0
+        (now chosen) (now gains) (now criticals) ⌝ }
+    ensures { λ _. ⌜ (let t =
+        regular (now (asks .entry)) (now (bays .entry)) (now (amounts .entry)) (now (bids .entry)) in
+        Turned t (cut .0) (length (t .asks)) (now (totals .entry))
+        (now (totals .exit)) (now (chosen .exit)) (now (gains .exit)) (now (criticals .exit))) ⌝ }
 {
     let mut j = 0;
     while j < asks.len() {
@@ -66,9 +68,14 @@ fn assign(
 )
     requires { ⌜ AtCut (regular (now asks) (now bays) (now amounts) (now bids)) (cut .0) (now least) ⌝ }
     requires { ⌜ length (now totals) ≡ length (now amounts) ⌝ }
-    requires { ⌜ After (seen (regular (now asks) (now bays) (now amounts) (now bids))) (length (now amounts)) 0 (now chosen) (now gains) (now criticals) ⌝ }
+    requires { ⌜ AfterIn (regular (now asks) (now bays) (now amounts) (now bids)) 0
+        (now chosen) (now gains) (now criticals) ⌝ }
     requires { ⌜ (length (now stations) ≡ length (now amounts)) × (length (now charges) ≡ length (now amounts)) ⌝ }
-    ensures { λ _. ⌜ Assigned (regular (now (asks .entry)) (now (bays .entry)) (now (amounts .entry)) (now (bids .entry))) (now (stations .exit)) (now (charges .exit)) ⌝ }
+    ensures { λ _. ⌜ (let t =
+        regular (now (asks .entry)) (now (bays .entry)) (now (amounts .entry)) (now (bids .entry)) in
+        Turned t (cut .0) (length (t .asks)) (now (totals .entry))
+        (now (totals .exit)) (now (chosen .exit)) (now (gains .exit)) (now (criticals .exit))
+        × Assigned t (now (stations .exit)) (now (charges .exit))) ⌝ }
 {
     all_stations(
         asks,
@@ -98,7 +105,8 @@ pub fn assign_all(
 )
     requires { ⌜ AtCut (regular (now asks) (now bays) (now amounts) (now bids)) (cut .0) (now least) ⌝ }
     requires { ⌜ (length (now stations) ≡ length (now amounts)) × (length (now charges) ≡ length (now amounts)) ⌝ }
-    ensures { λ _. ⌜ Assigned (regular (now (asks .entry)) (now (bays .entry)) (now (amounts .entry)) (now (bids .entry))) (now (stations .exit)) (now (charges .exit)) ⌝ }
+    ensures { λ _. ⌜ Assigned (regular (now (asks .entry)) (now (bays .entry)) (now (amounts .entry)) (now (bids .entry)))
+        (now (stations .exit)) (now (charges .exit)) ⌝ }
 {
     let mut totals = [0u32; MAX_GUESTS];
     let mut chosen = [0u32; MAX_GUESTS];

@@ -2,7 +2,6 @@
 pub mod assignment;
 mod offers;
 mod selection;
-mod signed;
 mod ties;
 mod totals;
 mod turns;

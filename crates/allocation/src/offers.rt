@@ -1,6 +1,6 @@
 // Offers of a station's places to guests.
-use crate::signed;
 use model::money::Mills;
+use model::signed;
 ghost use Prim.Native.Nat.{_+_, _-_, _^_, _<_, _≤_};
 ghost use mathlib.Core.Bool.{true};
 ghost use mathlib.Core.Path.{_≡_};
@@ -9,44 +9,44 @@ ghost use Rattle.allocation.specs.Totals.{maxTotal};
 ghost use Rattle.allocation.specs.Offers.{picked, wonBy, gainFor, Offerable, Offered};
 
 // The total that guest k must be above: the critical total, or one less for whoever wins its tie.
-fn bar(critical: u32, k: u32, bound: u32) -> u32
-    requires { ⌜ (critical ≡ 0 → bound ≡ 0) ⌝ }
+fn bar(critical: Mills, k: u32, bound: u32) -> Mills
+    requires { ⌜ (critical .0 ≡ 0 → bound ≡ 0) ⌝ }
     requires { ⌜ (k < 2 ^ 31) × (bound < 2 ^ 31) ⌝ }
-    ensures { λ r. ⌜ r ≡ critical - only (k <? bound) 1 ⌝ }
+    ensures { λ r. ⌜ r .0 ≡ critical .0 - only (k <? bound) 1 ⌝ }
 {
     if signed::below(k, bound) {
-        critical - 1
+        critical.less(Mills(1))
     } else {
         critical
     }
 }
 
 // Whether guest k of this total wins a place: above the critical total, or at it and below the bound.
-fn wins(total: u32, critical: u32, k: u32, bound: u32) -> bool
-    requires { ⌜ (critical ≡ 0 → bound ≡ 0) ⌝ }
-    requires { ⌜ (k < 2 ^ 31) × (bound < 2 ^ 31) × (total ≤ maxTotal) × (critical ≤ maxTotal) ⌝ }
-    ensures { λ r. ⌜ r ≡ wonBy total critical k bound ⌝ }
+fn wins(total: Mills, critical: Mills, k: u32, bound: u32) -> bool
+    requires { ⌜ (critical .0 ≡ 0 → bound ≡ 0) ⌝ }
+    requires { ⌜ (k < 2 ^ 31) × (bound < 2 ^ 31) × (total .0 ≤ maxTotal) × (critical .0 ≤ maxTotal) ⌝ }
+    ensures { λ r. ⌜ r ≡ wonBy (total .0) (critical .0) k bound ⌝ }
 {
-    signed::below(bar(critical, k, bound), total)
+    bar(critical, k, bound).below_small(total)
 }
 
 // One more than total less charge where a place is won, so that 0 is no place.
-fn gain_for(won: bool, total: u32, charge: u32) -> u32
-    requires { ⌜ (total ≤ maxTotal) × (won ≡ true → charge ≤ total) ⌝ }
-    ensures { λ r. ⌜ r ≡ gainFor won total charge ⌝ }
+fn gain_for(won: bool, total: Mills, charge: Mills) -> Mills
+    requires { ⌜ (total .0 ≤ maxTotal) × (won ≡ true → charge .0 ≤ total .0) ⌝ }
+    ensures { λ r. ⌜ r .0 ≡ gainFor won (total .0) (charge .0) ⌝ }
 {
     if won {
-        Mills::wide(total).less(Mills::wide(charge)).narrow() + 1
+        total.less(charge).plus(Mills(1))
     } else {
-        0
+        Mills(0)
     }
 }
 
-fn pick(old: u32, new: u32, a: u32, b: u32) -> u32
-    requires { ⌜ (old ≤ maxTotal + 1) × (new ≤ maxTotal + 1) ⌝ }
-    ensures { λ r. ⌜ r ≡ picked (old <? new) a b ⌝ }
+fn pick(old: Mills, new: Mills, a: u32, b: u32) -> u32
+    requires { ⌜ (old .0 ≤ maxTotal + 1) × (new .0 ≤ maxTotal + 1) ⌝ }
+    ensures { λ r. ⌜ r ≡ picked (old .0 <? new .0) a b ⌝ }
 {
-    if signed::below(old, new) { a } else { b }
+    if old.below_small(new) { a } else { b }
 }
 
 // One station's offers to every guest: where an offer gains more than the best so far, it is chosen. For `turns`: its lists are
@@ -54,23 +54,23 @@ fn pick(old: u32, new: u32, a: u32, b: u32) -> u32
 pub fn offer(
     totals: &[u32],
     least: &[u32],
-    critical: u32,
+    critical: Mills,
     bound: u32,
     station: u32,
     chosen: &mut [u32],
     gains: &mut [u32],
 )
-    requires { ⌜ Offerable (now totals) (now least) critical bound (now chosen) (now gains) ⌝ }
-    ensures { λ _. ⌜ Offered (now (totals .entry)) (now (least .entry)) critical bound station (now (chosen .entry)) (now (gains .entry)) (now (chosen .exit)) (now (gains .exit)) ⌝ }
+    requires { ⌜ Offerable (now totals) (now least) (critical .0) bound (now chosen) (now gains) ⌝ }
+    ensures { λ _. ⌜ Offered (now (totals .entry)) (now (least .entry)) (critical .0) bound station (now (chosen .entry)) (now (gains .entry)) (now (chosen .exit)) (now (gains .exit)) ⌝ }
 {
     let mut i = 0;
     while i < totals.len() {
-        let total = totals[i];
-        let charge = signed::larger(least[i], critical);
+        let total = Mills::wide(totals[i]);
+        let charge = Mills::wide(least[i]).larger_small(critical);
         let gain = gain_for(wins(total, critical, i as u32, bound), total, charge);
-        let old = gains[i];
+        let old = Mills::wide(gains[i]);
         chosen[i] = pick(old, gain, station, chosen[i]);
-        gains[i] = pick(old, gain, gain, old);
+        gains[i] = old.larger_small(gain).narrow();
         i += 1;
     }
 }

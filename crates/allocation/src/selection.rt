@@ -1,6 +1,6 @@
 // The critical total of a station: bisection over its guests' totals.
-use crate::signed;
-ghost use Prim.Native.Nat.{_+_, _<_, _≤_};
+use model::money::Mills;
+ghost use Prim.Native.Nat.{_+_, _-_, _/_, _<_, _≤_};
 ghost use mathlib.Core.Path.{_≡_};
 ghost use lib.ListN.{length};
 ghost use Rattle.model.specs.Limits.{maxGuests};
@@ -8,14 +8,14 @@ ghost use Rattle.model.specs.Counting.{_≤?_, only};
 ghost use Rattle.allocation.specs.Totals.{maxTotal, Totals};
 ghost use Rattle.allocation.specs.Selection.{above, greatestUpTo, Selected};
 
-fn count_above(xs: &[u32], t: u32) -> u32
-    requires { ⌜ (length (now xs) ≤ maxGuests) × Totals (now xs) × (t ≤ maxTotal) ⌝ }
-    ensures { λ r. ⌜ r ≡ above (now (xs .entry)) t ⌝ }
+fn count_above(xs: &[u32], t: Mills) -> u32
+    requires { ⌜ (length (now xs) ≤ maxGuests) × Totals (now xs) × (t .0 ≤ maxTotal) ⌝ }
+    ensures { λ r. ⌜ r ≡ above (now (xs .entry)) (t .0) ⌝ }
 {
     let mut n: u32 = 0;
     let mut i = 0;
     while i < xs.len() {
-        if signed::below(t, xs[i]) {
+        if t.below_small(Mills::wide(xs[i])) {
             n += 1;
         }
         i += 1;
@@ -23,49 +23,57 @@ fn count_above(xs: &[u32], t: u32) -> u32
     n
 }
 
-fn capped(x: u32, t: u32) -> u32
-    requires { ⌜ (x ≤ maxTotal) × (t ≤ maxTotal) ⌝ }
-    ensures { λ r. ⌜ r ≡ only (x ≤? t) x ⌝ }
+fn capped(x: Mills, t: Mills) -> Mills
+    requires { ⌜ (x .0 ≤ maxTotal) × (t .0 ≤ maxTotal) ⌝ }
+    ensures { λ r. ⌜ r .0 ≡ only (x .0 ≤? t .0) (x .0) ⌝ }
 {
-    if signed::below(t, x) { 0 } else { x }
+    if t.below_small(x) { Mills(0) } else { x }
 }
 
 // The greatest element that is at most t, 0 for none.
-fn largest_at_most(xs: &[u32], t: u32) -> u32
-    requires { ⌜ Totals (now xs) × (t ≤ maxTotal) ⌝ }
-    ensures { λ r. ⌜ r ≡ greatestUpTo (now (xs .entry)) t ⌝ }
+fn largest_at_most(xs: &[u32], t: Mills) -> Mills
+    requires { ⌜ Totals (now xs) × (t .0 ≤ maxTotal) ⌝ }
+    ensures { λ r. ⌜ r .0 ≡ greatestUpTo (now (xs .entry)) (t .0) ⌝ }
 {
-    let mut r: u32 = 0;
+    let mut r = Mills(0);
     let mut i = 0;
     while i < xs.len() {
-        r = signed::larger(r, capped(xs[i], t));
+        r = r.larger_small(capped(Mills::wide(xs[i]), t));
         i += 1;
     }
     r
 }
 
+// Halfway between the two.
+fn middle(low: Mills, high: Mills) -> Mills
+    requires { ⌜ low .0 ≤ high .0 ⌝ }
+    ensures { λ r. ⌜ r .0 ≡ low .0 + (high .0 - low .0) / 2 ⌝ }
+{
+    Mills(low.0 + (high.0 - low.0) / 2)
+}
+
 // A station's critical total, and how many totals are above it.
 pub struct Critical {
-    pub total: u32,
+    pub total: Mills,
     pub above: u32,
 }
 
 // The critical total (document 01: the floor) of a station with b bays: the total at place b + 1 in falling order, 0 where there are
 // no more than b; no total is above top. By bisection on the value, with a count at each step. The first probe is just below the greatest:
 // many may be tied there, and a single bay needs no other. For `turns`: the totals are those of `gather`, and top is their greatest.
-pub fn critical_total(totals: &[u32], top: u32, b: u32) -> Critical
-    requires { ⌜ (length (now totals) ≤ maxGuests) × (above (now totals) top ≡ 0) ⌝ }
-    requires { ⌜ Totals (now totals) × (top ≤ maxTotal) ⌝ }
-    ensures { λ r. ⌜ Selected (now (totals .entry)) b (r .total) (r .above) ⌝ }
+pub fn critical_total(totals: &[u32], top: Mills, b: u32) -> Critical
+    requires { ⌜ (length (now totals) ≤ maxGuests) × (above (now totals) (top .0) ≡ 0) ⌝ }
+    requires { ⌜ Totals (now totals) × (top .0 ≤ maxTotal) ⌝ }
+    ensures { λ r. ⌜ Selected (now (totals .entry)) b (r .total .0) (r .above) ⌝ }
 {
-    let candidates = count_above(totals, 0);
+    let candidates = count_above(totals, Mills(0));
     if candidates <= b {
         return Critical {
-            total: 0,
+            total: Mills(0),
             above: candidates,
         };
     }
-    let last = top - 1;
+    let last = top.less(Mills(1));
     let near = count_above(totals, last);
     if b < near {
         return Critical {
@@ -79,10 +87,10 @@ pub fn critical_total(totals: &[u32], top: u32, b: u32) -> Critical
             above: near,
         };
     }
-    let mut low: u32 = 0;
+    let mut low = Mills(0);
     let mut high = top;
-    while low < high {
-        let mid = low + (high - low) / 2;
+    while low.0 < high.0 {
+        let mid = middle(low, high);
         let c = count_above(totals, mid);
         if c == b {
             return Critical {
@@ -93,7 +101,7 @@ pub fn critical_total(totals: &[u32], top: u32, b: u32) -> Critical
         if c < b {
             high = mid;
         } else {
-            low = mid + 1;
+            low = mid.plus(Mills(1));
         }
     }
     Critical {

@@ -6,12 +6,9 @@ use crate::totals;
 use model::money::UnitPrice;
 ghost use Prim.Native.Nat.{_+_, _<_};
 ghost use mathlib.Core.Path.{_≡_};
-ghost use lib.ListN.{length, getD};
-ghost use Rattle.model.specs.Counting.{_<?_, list};
-ghost use Rattle.model.specs.market.Outcome.{seen};
+ghost use lib.ListN.{length};
 ghost use Rattle.model.specs.market.Market.{regular};
-ghost use Rattle.allocation.specs.Totals.{totalAt};
-ghost use Rattle.allocation.specs.Stages.{AtCut, After, gatheredIf};
+ghost use Rattle.allocation.specs.Stages.{AtCut, AfterIn, turnTotals};
 
 // Station j's turn, after the stations before it. For `assignment`, whose market is accepted and at its cut.
 pub fn station(
@@ -29,9 +26,11 @@ pub fn station(
 )
     requires { ⌜ AtCut (regular (now asks) (now bays) (now amounts) (now bids)) (cut .0) (now least) ⌝ }
     requires { ⌜ (j < length (now asks)) × (length (now totals) ≡ length (now amounts)) ⌝ }
-    requires { ⌜ After (seen (regular (now asks) (now bays) (now amounts) (now bids))) (length (now amounts)) j (now chosen) (now gains) (now criticals) ⌝ }
-    ensures { λ _. ⌜ After (seen (regular (now (asks .entry)) (now (bays .entry)) (now (amounts .entry)) (now (bids .entry)))) (length (now (amounts .entry))) (j + 1) (now (chosen .exit)) (now (gains .exit)) (now (criticals .exit)) ⌝ }
-    ensures { λ _. ⌜ now (totals .exit) ≡ gatheredIf (getD (now (asks .entry)) j 0 <? cut .0) (list (length (now (amounts .entry))) (totalAt (now (bids .entry)) (now (amounts .entry)) (length (now (asks .entry))) j (cut .0))) (now (totals .entry)) ⌝ }
+    requires { ⌜ AfterIn (regular (now asks) (now bays) (now amounts) (now bids)) j
+        (now chosen) (now gains) (now criticals) ⌝ }
+    ensures { λ _. ⌜ (let t = regular (now (asks .entry)) (now (bays .entry)) (now (amounts .entry)) (now (bids .entry)) in
+        AfterIn t (j + 1) (now (chosen .exit)) (now (gains .exit)) (now (criticals .exit))
+        × (now (totals .exit) ≡ turnTotals t (cut .0) j (now (totals .entry)))) ⌝ }
 {
     let ask = asks[j];
     if UnitPrice(ask).below(cut) {
@@ -40,7 +39,7 @@ pub fn station(
         let critical = selection::critical_total(totals, top, b);
         let bound = ties::tie_bound(totals, critical.total, critical.above, b);
         let s = j + 1;
-        criticals[s] = critical.total;
+        criticals[s] = critical.total.narrow();
         offers::offer(
             totals,
             least,

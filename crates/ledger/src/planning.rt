@@ -49,7 +49,7 @@ fn clear_round(asks: &[u32], bays: &[u16], amounts: &[u16], bids: &[u32], width:
     );
     match answer {
         Clearing::Refused(refusal) => round::refusing(refusal),
-        Clearing::Cleared { cut: _, margin } => round::cleared_round(charges, sold, paid, margin),
+        Clearing::Cleared { cut: _, margin } => round::cleared_round(charges, sold, paid, margin.0),
     }
 }
 

@@ -69,6 +69,11 @@ unfolding sum
 sum-scale zero c f = omega arith
 sum-scale (suc n) c f = omega (arith, sum-scale n c f)
 
+pub sum-most : (n y : ℕ) (f : ℕ → ℕ) → ((k : ℕ) → k < n → f k ≤ y) → sum n f ≤ y * n
+unfolding sum
+sum-most zero y f h = omega arith
+sum-most (suc n) y f h = omega (arith, sum-most n y f (λ k l. h k (up l)), h n here)
+
 -- a sum of sums, the other way round
 pub sum-swap : (n m : ℕ) (f : ℕ → ℕ → ℕ) → sum n (λ i. sum m (f i)) ≡ sum m (λ j. sum n (λ i. f i j))
 unfolding sum

@@ -2,6 +2,7 @@
 use Prim.Native.Nat.{ℕ, _+_, _*_, _≤_, _<_, max}
 use mathlib.Core.Bool.{Bool, true, false, _||_}
 use mathlib.Core.List.{List}
+use mathlib.Core.Logic.{_⊎_, ⊎-elim}
 use mathlib.Core.Path.{_≡_, refl, sym, ap, _∙_}
 use native.Mathlib.Nat.{le-antisymm, mul-le-mul-right}
 use native.Mathlib.Numerals.{add-one}
@@ -12,46 +13,70 @@ use lib.Seq.{getD-set-same, getD-set-other, ext-getD, getD-take}
 use borrow.Author.Count.{below-none, below-more}
 use Rattle.model.specs.Counting.{_<?_, _or_, sum, greatest, count, some, any, list}
 use Rattle.model.specs.market.Faults.{outside}
-use Rattle.model.proofs.Counting.{count-yes, count-not, length-list, getD-list, list-cong}
+use Rattle.model.proofs.Counting.{sum-most, count-yes, count-not, count-start, count-most}
+use Rattle.model.proofs.Counting.{greatest-le, length-list, getD-list, list-cong}
 
--- ---- counts
+-- ---- loops that fold `sum`, `count`, `greatest` or `some`: within the first n, and r is that of the first i
 
-pub count-hit : (f : ℕ → Bool) (i n : ℕ) → n ≡ count i f → f i ≡ true → n + 1 ≡ count (i + 1) f
-count-hit f i n e h = omega (arith, count-yes i f h)
+pub record Folded {A B : Type 0} (fold : ℕ → (ℕ → B) → A) (n : ℕ) (f : ℕ → B) (r : A) (i : ℕ) : Type 0 where
+  pub within : i ≤ n
+  pub so-far : r ≡ fold i f
 
-pub count-miss : (f : ℕ → Bool) (i n : ℕ) → n ≡ count i f → f i ≡ false → n ≡ count (i + 1) f
-count-miss f i n e h = omega (arith, count-not i f h)
+pub folded-none :
+    {A B : Type 0} {fold : ℕ → (ℕ → B) → A} {n : ℕ} {f : ℕ → B} {r : A} → r ≡ fold 0 f → Folded fold n f r 0
+folded-none {n = n} e = record { within = omega arith; so-far = e }
 
-pub count-end : (f : ℕ → Bool) (i n l : ℕ) → n ≡ count i f → i ≤ l → l ≤ i → n ≡ count l f
-count-end f i n l e a b = e ∙ ap (λ k. count k f) (le-antisymm a b)
+pub folded-turn :
+    {A B : Type 0} {fold : ℕ → (ℕ → B) → A} {n i : ℕ} {f : ℕ → B} {r s : A}
+    → Folded fold n f r i → i < n → s ≡ fold (i + 1) f → Folded fold n f s (i + 1)
+folded-turn h l e = record { within = omega arith; so-far = e }
 
--- ---- sums
-
-pub sum-none : (f : ℕ → ℕ) → 0 ≡ sum 0 f
-unfolding sum
-sum-none f = refl
+pub folded-end :
+    {A B : Type 0} {fold : ℕ → (ℕ → B) → A} {n i : ℕ} {f : ℕ → B} {r : A}
+    → Folded fold n f r i → n ≤ i → r ≡ fold n f
+folded-end {fold = fold} {f = f} h b = h .so-far ∙ ap (λ k. fold k f) (le-antisymm (h .within) b)
 
 pub sum-more : (f : ℕ → ℕ) (i r s x : ℕ) → r ≡ sum i f → x ≡ f i → s ≡ r + x → s ≡ sum (i + 1) f
 unfolding sum
 sum-more f i r s x e h q = rw (add-one, ← e, ← h) q
 
-pub sum-end : (f : ℕ → ℕ) (i n l : ℕ) → n ≡ sum i f → i ≤ l → l ≤ i → n ≡ sum l f
-sum-end f i n l e a b = e ∙ ap (λ k. sum k f) (le-antisymm a b)
+pub sum-none : {n : ℕ} {f : ℕ → ℕ} → Folded sum n f 0 0
+unfolding sum
+sum-none = folded-none refl
 
--- ---- the greatest
+pub sum-turn :
+    {n i r s x : ℕ} {f : ℕ → ℕ} → Folded sum n f r i → i < n → x ≡ f i → s ≡ r + x → Folded sum n f s (i + 1)
+sum-turn {i = i} {r} {s} {x} {f} h l e q = folded-turn h l (sum-more f i r s x (h .so-far) e q)
 
-pub greatest-none : (f : ℕ → ℕ) → 0 ≡ greatest 0 f
+pub sum-low : {n i r : ℕ} {f : ℕ → ℕ} (y : ℕ) → Folded sum n f r i → ((k : ℕ) → k < n → f k ≤ y) → r ≤ y * i
+sum-low {i = i} {f = f} y h low = omega (arith, h .so-far, sum-most i y f (λ k l. low k (omega (arith, h .within))))
+
+pub counted-none : {n : ℕ} {f : ℕ → Bool} → Folded count n f 0 0
+counted-none {f = f} = folded-none (sym (count-start f))
+
+-- the next one passes, or not
+pub count-turn :
+    {n i r s : ℕ} {f : ℕ → Bool} → Folded count n f r i → i < n
+    → ((f i ≡ true) × (s ≡ r + 1)) ⊎ ((f i ≡ false) × (s ≡ r)) → Folded count n f s (i + 1)
+count-turn {i = i} {f = f} h l w = folded-turn h l (⊎-elim
+    (λ (e, q). omega (arith, h .so-far, count-yes i f e)) (λ (e, q). omega (arith, h .so-far, count-not i f e)) w)
+
+pub count-low : {n i r : ℕ} {f : ℕ → Bool} → Folded count n f r i → r ≤ i
+count-low {i = i} {f = f} h = omega (arith, h .so-far, count-most i f)
+
+pub greatest-none : {n : ℕ} {f : ℕ → ℕ} → Folded greatest n f 0 0
 unfolding greatest
-greatest-none f = refl
+greatest-none = folded-none refl
 
-pub greatest-more : (f : ℕ → ℕ) (i r s x : ℕ) → r ≡ greatest i f → x ≡ f i → s ≡ max r x → s ≡ greatest (i + 1) f
+pub greatest-turn :
+    {n i r s x : ℕ} {f : ℕ → ℕ} → Folded greatest n f r i → i < n → x ≡ f i → s ≡ max r x
+    → Folded greatest n f s (i + 1)
 unfolding greatest
-greatest-more f i r s x e h q = rw (add-one, ← e, ← h) q
+greatest-turn h l e q = folded-turn h l (rw (add-one, ← h .so-far, ← e) q)
 
-pub greatest-end : (f : ℕ → ℕ) (i n l : ℕ) → n ≡ greatest i f → i ≤ l → l ≤ i → n ≡ greatest l f
-greatest-end f i n l e a b = e ∙ ap (λ k. greatest k f) (le-antisymm a b)
-
--- ---- scans
+pub greatest-low :
+    {n i r y : ℕ} {f : ℕ → ℕ} → Folded greatest n f r i → ((k : ℕ) → k < n → f k ≤ y) → r ≤ y
+greatest-low {i = i} {y = y} {f} h low = rw (h .so-far) (greatest-le i f y (λ k l. low k (omega (arith, h .within))))
 
 -- the code's or is that of the tests
 pub or-is : (a b : Bool) → (a || b) ≡ (a or b)
@@ -63,12 +88,6 @@ pub scan-none : (f : ℕ → Bool) → false ≡ some 0 f
 unfolding some
 scan-none f = refl
 
-pub scan-more : (xs : List ℕ) (low high i : ℕ) (b : Bool) → let x = getD xs i 0 in
-    b ≡ some i (λ k. outside low high (getD xs k 0))
-    → (b || (ltb x low || ltb high x)) ≡ some (i + 1) (λ k. outside low high (getD xs k 0))
-unfolding some outside _<?_
-scan-more xs low high i b e = rw (add-one, ← e) (or-is b _ ∙ ap (λ z. b or z) (or-is _ _))
-
 pub scan-turn : (f : ℕ → Bool) (i : ℕ) (b c : Bool) → b ≡ some i f → c ≡ f i → (b || c) ≡ some (i + 1) f
 unfolding some
 scan-turn f i b c e h = rw (add-one, ← e, ← h) (or-is b c)
@@ -76,11 +95,23 @@ scan-turn f i b c e h = rw (add-one, ← e, ← h) (or-is b c)
 pub some-end : (f : ℕ → Bool) {i n : ℕ} {b : Bool} → b ≡ some i f → i ≤ n → n ≤ i → b ≡ some n f
 some-end f e l r = e ∙ ap (λ n. some n f) (le-antisymm l r)
 
-pub scan-end :
-    (xs : List ℕ) (f : ℕ → Bool) {i : ℕ} {b : Bool} → b ≡ some i (λ k. f (getD xs k 0)) → i ≤ length xs
-    → length xs ≤ i → b ≡ any xs f
+pub some-none : {n : ℕ} {f : ℕ → Bool} → Folded some n f false 0
+some-none {f = f} = folded-none (scan-none f)
+
+pub some-turn :
+    {n i : ℕ} {f : ℕ → Bool} {b c : Bool} → Folded some n f b i → i < n → c ≡ f i → Folded some n f (b || c) (i + 1)
+some-turn {i = i} {f} {b} {c} h l e = folded-turn h l (scan-turn f i b c (h .so-far) e)
+
+pub any-end :
+    (xs : List ℕ) (f : ℕ → Bool) {i : ℕ} {b : Bool}
+    → Folded some (length xs) (λ k. f (getD xs k 0)) b i → length xs ≤ i → b ≡ any xs f
 unfolding any
-scan-end xs f {b = b} e l r = e ∙ ap (λ n. some n (λ k. f (getD xs k 0))) (le-antisymm l r)
+any-end xs f h r = folded-end h r
+
+-- the code's test of a number is the limits' one
+pub outside-is : (low high x : ℕ) → (ltb x low || ltb high x) ≡ outside low high x
+unfolding outside _<?_
+outside-is low high x = or-is _ _
 
 -- ---- a loop that stores f i at i: l is l₀ with f k at each k below i
 
@@ -129,6 +160,27 @@ zeros-are size n h =
 
 pub filled-list : (n : ℕ) {f : ℕ → ℕ} {l₀ l : List ℕ} {i : ℕ} → Filled f l₀ l i → length l₀ ≡ n → n ≤ i → l ≡ list n f
 filled-list n h e b = is-list n _ _ (h .same ∙ e) (λ k a. h .done k (omega arith))
+
+-- a table of n filled in order: within it, and the first i stored
+pub record Filling (n : ℕ) (f : ℕ → ℕ) (l₀ l : List ℕ) (i : ℕ) : Type 0 where
+  pub within : i ≤ n
+  pub long : length l₀ ≡ n
+  pub filled : Filled f l₀ l i
+
+pub filling-none : {n : ℕ} {f : ℕ → ℕ} {l : List ℕ} → length l ≡ n → Filling n f l l 0
+filling-none e = record { within = omega arith; long = e; filled = filled-none }
+
+pub filling-turn :
+    {n : ℕ} {f : ℕ → ℕ} {l₀ l : List ℕ} {i v : ℕ} → Filling n f l₀ l i → i < n → v ≡ f i
+    → Filling n f l₀ (set l i v) (i + 1)
+filling-turn h l e =
+    record { within = omega arith; long = h .long; filled = filled-more (h .filled) (omega (arith, h .long)) e }
+
+pub filling-end : {n : ℕ} {f : ℕ → ℕ} {l₀ l : List ℕ} {i : ℕ} → Filling n f l₀ l i → n ≤ i → l ≡ list n f
+filling-end {n} h b = filled-list n (h .filled) (h .long) b
+
+pub filling-long : {n : ℕ} {f : ℕ → ℕ} {l₀ l : List ℕ} {i : ℕ} → Filling n f l₀ l i → length l ≡ n
+filling-long h = h .filled .same ∙ h .long
 
 -- row i, column j of a table of n rows of m is within the table
 pub in-table : (n m i j : ℕ) → i < n → j < m → i * m + j < n * m

@@ -5,3 +5,4 @@ pub mod answers;
 pub mod limits;
 pub mod money;
 pub mod refusal;
+pub mod signed;

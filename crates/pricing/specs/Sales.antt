@@ -12,7 +12,7 @@ kwhAt stations amounts s = sum (length amounts) (λ k. only (getD stations k 0 =
 
 -- the kWh of each station number in a table; those with none take the places past the last number
 abbrev pub slots : ℕ
-slots = 45
+slots = maxStations + 5
 
 pub record Tallied (stations amounts kwh : List ℕ) : Type 0 where
   pub long : length kwh ≡ slots

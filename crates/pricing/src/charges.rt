@@ -8,11 +8,10 @@ ghost use Rattle.model.specs.Limits.{maxPrice, maxAmount};
 ghost use Rattle.model.specs.Counting.{_<?_, only, list};
 ghost use Rattle.pricing.specs.Charges.{leastAt, Chargeable, Charged};
 
-fn least_charge(cut: UnitPrice, amount: u16) -> u32
-    requires { ⌜ (cut .0 ≤ maxPrice) × (amount ≤ maxAmount) ⌝ }
-    ensures { λ r. ⌜ r ≡ cut .0 * amount ⌝ }
+fn least_charge(cut: UnitPrice, amount: u16) -> Mills
+    ensures { λ r. ⌜ r .0 ≡ cut .0 * amount ⌝ }
 {
-    cut.times(amount as u32).narrow()
+    cut.times(amount as u32)
 }
 
 // Cut times amount for each guest. For `clearing`, once the market is found good.
@@ -23,19 +22,19 @@ pub fn least_charges(amounts: &[u16], cut: UnitPrice, least: &mut [u32])
 {
     let mut i = 0;
     while i < amounts.len() {
-        least[i] = least_charge(cut, amounts[i]);
+        least[i] = least_charge(cut, amounts[i]).narrow();
         i += 1;
     }
 }
 
 // The charge at a station by its number and critical total; nothing at number 0, which is none.
-fn charge_at(station: u32, least: u32, critical: u32) -> u32
-    ensures { λ r. ⌜ r ≡ only (0 <? station) (max least critical) ⌝ }
+fn charge_at(station: u32, least: Mills, critical: Mills) -> Mills
+    ensures { λ r. ⌜ r .0 ≡ only (0 <? station) (max (least .0) (critical .0)) ⌝ }
 {
     if 0 < station {
-        Mills::wide(least).larger(Mills::wide(critical)).narrow()
+        least.larger(critical)
     } else {
-        0
+        Mills(0)
     }
 }
 
@@ -54,9 +53,9 @@ pub fn charge_guests(
     let mut i = 0;
     while i < chosen.len() {
         let s = chosen[i];
-        let critical = criticals[s as usize];
+        let critical = Mills::wide(criticals[s as usize]);
         stations[i] = s as u16;
-        charges[i] = charge_at(s, least[i], critical);
+        charges[i] = charge_at(s, Mills::wide(least[i]), critical).narrow();
         i += 1;
     }
 }

@@ -5,13 +5,13 @@ ghost use mathlib.Core.Path.{_≡_};
 ghost use Rattle.pricing.specs.MedianAsk.{under, eligible, medianAsk};
 
 // How many asks lie below x.
-fn count_below(asks: &[u32], x: u32) -> usize
-    ensures { λ r. ⌜ r ≡ under (now (asks .entry)) x ⌝ }
+fn count_below(asks: &[u32], x: UnitPrice) -> usize
+    ensures { λ r. ⌜ r ≡ under (now (asks .entry)) (x .0) ⌝ }
 {
     let mut n: usize = 0;
     let mut i = 0;
     while i < asks.len() {
-        if asks[i] < x {
+        if UnitPrice(asks[i]).below(x) {
             n += 1;
         }
         i += 1;
@@ -23,7 +23,7 @@ fn count_below(asks: &[u32], x: u32) -> usize
 fn raised(asks: &[u32], r: UnitPrice, x: UnitPrice, position: usize) -> UnitPrice
     ensures { λ s. ⌜ s .0 ≡ max (r .0) (eligible (now (asks .entry)) position (x .0)) ⌝ }
 {
-    if count_below(asks, x.0) < position {
+    if count_below(asks, x) < position {
         if r.below(x) { x } else { r }
     } else {
         r

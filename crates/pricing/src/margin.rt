@@ -6,11 +6,10 @@ ghost use lib.ListN.{length, getD};
 ghost use Rattle.model.specs.Limits.{maxGuests};
 ghost use Rattle.model.specs.Counting.{sum};
 
-fn excess(charge: u32, least: u32) -> Mills
-    ensures { λ r. ⌜ r .0 ≡ charge - least ⌝ }
+fn excess(charge: Mills, least: Mills) -> Mills
+    ensures { λ r. ⌜ r .0 ≡ charge .0 - least .0 ⌝ }
 {
-    let other = Mills::wide(least);
-    Mills::wide(charge).larger(other).less(other)
+    charge.larger(least).less(least)
 }
 
 // What the charges exceed the least charges by, in all: whoever is charged nothing adds nothing. For `clearing`, which has a
@@ -22,7 +21,7 @@ pub fn margin(charges: &[u32], least: &[u32]) -> Mills
     let mut r = Mills(0);
     let mut i = 0;
     while i < charges.len() {
-        r = r.plus(excess(charges[i], least[i]));
+        r = r.plus(excess(Mills::wide(charges[i]), Mills::wide(least[i])));
         i += 1;
     }
     r

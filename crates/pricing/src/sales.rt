@@ -58,7 +58,7 @@ pub fn sell(stations: &[u16], amounts: &[u16], cut: UnitPrice, sold: &mut [u32],
     requires { ⌜ (length (now sold) ≤ maxStations) × (length (now paid) ≡ length (now sold)) ⌝ }
     ensures { λ _. ⌜ PaidOut (kwhAt (now (stations .entry)) (now (amounts .entry))) (cut .0) (length (now (sold .entry))) (now (sold .exit)) (now (paid .exit)) ⌝ }
 {
-    let mut kwh = [0u32; 45];
+    let mut kwh = [0u32; MAX_STATIONS + 5];
     tally_sales(stations, amounts, &mut kwh);
     pay_out(&kwh, cut, sold, paid);
 }

@@ -5,8 +5,7 @@ use mathlib.Core.Path.{_≡_, refl, sym, ap, ap₂, _∙_}
 use native.Mathlib.Nat.{le-refl, le-antisymm}
 use native.Mathlib.Numerals.{add-one}
 use native.Mathlib.Omega.{arith}
-use lib.ListN.{getD, length, take, replicate, length-replicate}
-use borrow.Author.Count.{below-none}
+use lib.ListN.{getD, length, take, replicate}
 use Rattle.model.specs.Limits.{maxGuests, maxStations}
 use Rattle.model.specs.Counting.{_<?_, only}
 use Rattle.model.specs.market.Market.{Tables, marketBy, market, cut, Screened, screen, critical}
@@ -15,34 +14,58 @@ use Rattle.model.specs.market.Outcome.{seen, decided, outcome, settle}
 use Rattle.model.specs.claims.Readings.{WithinLimits}
 use Rattle.model.proofs.Tests.{only-yes, only-no, is-lt, not-lt}
 use Rattle.model.proofs.market.Truthful.{assignment-reads}
-use Rattle.model.proofs.Loops.{long, element, relist, zeros-are}
+use Rattle.model.proofs.Counting.{list-cong}
+use Rattle.model.proofs.Loops.{long, element, relist, zeros, zeros-are}
 use Rattle.pricing.specs.Charges.{Chargeable, chargedAt, Charged}
-use Rattle.allocation.specs.Stages.{AtCut, stationBy, gainBy, After}
+use Rattle.allocation.specs.Stages.{AtCut, stationBy, gainBy, criticalBy, After, AfterIn, turnTotals, totalsAfter}
+use Rattle.allocation.specs.Stages.{Turned}
 use Rattle.allocation.specs.Assignment.{Assigned}
 
-pub after-end :
-    {S : Screened} {n j m : ℕ} {chosen gains criticals : List ℕ} → After S n j chosen gains criticals → j ≤ m → m ≤ j
-    → After S n m chosen gains criticals
-after-end h a b = rw (le-antisymm b a) h
+-- the turns that a loop has taken: j of them, as far as the stations go
+pub record Turning (t : Tables) (c j : ℕ) (totals₀ totals chosen gains criticals : List ℕ) : Type 0 where
+  pub within : j ≤ length (t .asks)
+  pub long : length totals ≡ length (t .amounts)
+  pub turned : Turned t c j totals₀ totals chosen gains criticals
+
+pub turning-none :
+    {t : Tables} {c : ℕ} {totals chosen gains criticals : List ℕ} → length totals ≡ length (t .amounts)
+    → AfterIn t 0 chosen gains criticals → Turning t c 0 totals totals chosen gains criticals
+unfolding totalsAfter
+turning-none e a = record { within = omega arith; long = e; turned = record { after = a; totals-are = refl } }
+
+pub turning-more :
+    {t : Tables} {c j : ℕ} {totals₀ totals chosen gains criticals totals′ chosen′ gains′ criticals′ : List ℕ}
+    → Turning t c j totals₀ totals chosen gains criticals → j < length (t .asks) → length totals′ ≡ length totals
+    → AfterIn t (j + 1) chosen′ gains′ criticals′ × (totals′ ≡ turnTotals t c j totals)
+    → Turning t c (j + 1) totals₀ totals′ chosen′ gains′ criticals′
+unfolding totalsAfter
+turning-more {t} {c} {j} h l e (a, q) = record {
+  within = omega arith;
+  long = e ∙ h .long;
+  turned = record { after = a; totals-are = rw add-one (q ∙ ap (turnTotals t c j) (h .turned .totals-are)) };
+}
+
+pub turning-end :
+    {t : Tables} {c j : ℕ} {totals₀ totals chosen gains criticals : List ℕ}
+    → Turning t c j totals₀ totals chosen gains criticals → length (t .asks) ≤ j
+    → Turned t c (length (t .asks)) totals₀ totals chosen gains criticals
+turning-end h b = rw (le-antisymm b (h .within)) (h .turned)
 
 pub after-none :
     {S : Screened} {n : ℕ} → n ≤ maxGuests
     → After S n 0 (take n (replicate {A = ℕ} maxGuests 0)) (take n (replicate {A = ℕ} maxGuests 0))
     (replicate {A = ℕ} (maxStations + 1) 0)
-unfolding stationBy gainBy best at
-after-none {n = n} h = record {
+unfolding stationBy gainBy criticalBy best at
+after-none {S} {n} h = record {
   chosen-are = zeros-are maxGuests n h;
   gains-are = zeros-are maxGuests n h;
   gains-low = λ k lk. rw (element _ _ (zeros-are maxGuests n h) k lk) (omega arith);
-  criticals-long = length-replicate {A = ℕ} (maxStations + 1) 0;
-  criticals-are = below-none _;
-  criticals-left = λ k _. getD-zeros (maxStations + 1) (k + 1);
+  criticals-are = zeros (maxStations + 1) ∙ list-cong _ _ _ (λ k _. sym (critical-none k));
 }
   where
-    getD-zeros : (n k : ℕ) → getD (replicate {A = ℕ} n 0) k 0 ≡ 0
-    getD-zeros zero k = refl
-    getD-zeros (suc n) zero = refl
-    getD-zeros (suc n) (suc k) = getD-zeros n k
+    critical-none : (s : ℕ) → criticalBy S 0 s ≡ 0
+    critical-none zero = refl
+    critical-none (suc k) = only-no _ _ (not-lt _ _ (omega arith))
 
 -- the choice after the last station is the assignment
 last-choice : (t : Tables) (i : ℕ) → stationBy (seen t) (length (t .asks)) i ≡ (decided t) .assigned i
@@ -73,7 +96,7 @@ module _ (t : Tables) {c : ℕ} {least chosen gains criticals : List ℕ} (A : A
         stations-long = ls ∙ sym n;
         charges-long = lc ∙ sym n;
         numbers = λ k l. numbered t (A .within) k _ (sym (choice k (omega arith)));
-        criticals-long = omega (arith, a .criticals-long);
+        criticals-long = omega (arith, long _ _ (a .criticals-are));
       }
 
   least-here : (k : ℕ) → k < length (t .amounts) → getD least k 0 ≡ (seen t) .cut * (seen t) .amount k
@@ -81,8 +104,10 @@ module _ (t : Tables) {c : ℕ} {least chosen gains criticals : List ℕ} (A : A
   least-here k l = element _ _ (A .least-are) k l ∙ ap (λ x. x * getD (t .amounts) k 0) (A .is-cut)
 
   critical-at : (j : ℕ) → j < length (t .asks) → getD criticals (suc j) 0 ≡ (decided t) .critical j
-  unfolding decided truthful
-  critical-at j l = ap (λ x. getD criticals x 0) (sym (add-one j)) ∙ a .criticals-are j l
+  unfolding decided truthful criticalBy
+  critical-at j l =
+      element _ _ (a .criticals-are) (suc j) (omega (arith, A .within .shape .stations-most))
+      ∙ only-yes _ _ (is-lt _ _ l)
 
   charged-by :
       (k s : ℕ) → k < length (t .amounts) → (decided t) .assigned k ≡ s

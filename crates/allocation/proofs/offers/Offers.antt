@@ -10,7 +10,7 @@ use lib.ListN.{getD, length, set}
 use Rattle.model.specs.Counting.{_<?_, _=?_, _and_, _or_, only}
 use Rattle.model.proofs.Tests.{both, first, second, and-no, or-cases, or-left, or-right, neither, only-le, only-yes}
 use Rattle.model.proofs.Tests.{only-no, lt-yes, eq-yes, is-lt, not-lt, is-eq, not-eq, lt-or-le, eq-or-ne}
-use Rattle.model.proofs.Loops.{Filled, filled-none, filled-more, filled-list}
+use Rattle.model.proofs.Loops.{Filling, filling-none, filling-turn, filling-end}
 use Rattle.allocation.specs.Totals.{maxTotal}
 use Rattle.allocation.specs.Offers.{picked, wonBy, gainFor, chargeAt, gainAt, taken, Offerable, Offered}
 
@@ -73,43 +73,46 @@ gain-lost w total charge e = sym (only-no w _ e)
 -- the lists after the first i guests have been offered a place
 pub record Offering (totals least : List ℕ) (t e s : ℕ) (chosen₀ gains₀ : List ℕ) (i : ℕ)
     (chosen gains : List ℕ) : Type 0 where
-  pub chosen-are : Filled (taken gains₀ (gainAt totals least t e) (λ _. s) chosen₀) chosen₀ chosen i
-  pub gains-are : Filled (taken gains₀ (gainAt totals least t e) (gainAt totals least t e) gains₀) gains₀ gains i
+  pub chosen-are :
+      Filling (length totals) (taken gains₀ (gainAt totals least t e) (λ _. s) chosen₀) chosen₀ chosen i
+  pub gains-are :
+      Filling (length totals) (taken gains₀ (gainAt totals least t e) (gainAt totals least t e) gains₀) gains₀ gains i
 
 pub offers-none :
     {totals least : List ℕ} {t e s : ℕ} {chosen gains : List ℕ}
-    → Offering totals least t e s chosen gains 0 chosen gains
-offers-none = record { chosen-are = filled-none; gains-are = filled-none }
+    → Offerable totals least t e chosen gains → Offering totals least t e s chosen gains 0 chosen gains
+offers-none o = record { chosen-are = filling-none (o .chosen-long); gains-are = filling-none (o .gains-long) }
 
 -- the next guest's gain is as it was
 pub gain-left :
     {totals least : List ℕ} {t e s : ℕ} {chosen₀ gains₀ : List ℕ} {i : ℕ} {chosen gains : List ℕ}
     → Offerable totals least t e chosen₀ gains₀
     → Offering totals least t e s chosen₀ gains₀ i chosen gains → i < length totals → getD gains i 0 ≤ maxTotal + 1
-gain-left {i = i} o h l = rw (h .gains-are .left i (le-refl i)) (o .gains-low i (omega (arith, o .gains-long)))
+gain-left {i = i} o h l = rw (h .gains-are .filled .left i (le-refl i)) (o .gains-low i (omega (arith, o .gains-long)))
 
--- one guest more: w, c and g are what the code found, and v1 and v2 what it stored
+picked-max : (a b : ℕ) → max a b ≡ picked (a <? b) b a
+unfolding picked
+picked-max a b = ⊎-elim (λ (l : a < b). rw (is-lt a b l) (omega arith)) (λ (l : b ≤ a). rw (not-lt a b l) (omega arith))
+    (lt-or-le a b)
+
+-- one guest more: of the total x, the least charge y and the gain z before, the code found w, c and
+-- g, and stored v1 and v2
 pub offers-more :
     {totals least : List ℕ} {t e s : ℕ} {chosen₀ gains₀ : List ℕ} {i : ℕ} {chosen gains : List ℕ}
-    {w : Bool} {c g v1 v2 : ℕ}
-    → Offerable totals least t e chosen₀ gains₀
+    {w : Bool} {x y z c g v1 v2 : ℕ}
     → Offering totals least t e s chosen₀ gains₀ i chosen gains → i < length totals
-    → w ≡ wonBy (getD totals i 0) t i e → c ≡ max (getD least i 0) t → g ≡ gainFor w (getD totals i 0) c
-    → v1 ≡ picked (getD gains i 0 <? g) s (getD chosen i 0)
-    → v2 ≡ picked (getD gains i 0 <? g) g (getD gains i 0)
+    → x ≡ getD totals i 0 → y ≡ getD least i 0 → z ≡ getD gains i 0
+    → w ≡ wonBy x t i e → c ≡ max y t → g ≡ gainFor w x c
+    → v1 ≡ picked (z <? g) s (getD chosen i 0) → v2 ≡ max z g
     → Offering totals least t e s chosen₀ gains₀ (i + 1) (set chosen i v1) (set gains i v2)
 unfolding taken gainAt chargeAt
-offers-more {i = i} o h l ew ec eg e1 e2 = record {
-  chosen-are = filled-more (h .chosen-are) (omega (arith, o .chosen-long))
-      (cc (h .gains-are .left i (le-refl i), h .chosen-are .left i (le-refl i)));
-  gains-are = filled-more (h .gains-are) (omega (arith, o .gains-long)) (cc (h .gains-are .left i (le-refl i)));
+offers-more {i = i} {z = z} {g = g} h l ex ey ez ew ec eg e1 e2 = record {
+  chosen-are = filling-turn (h .chosen-are) l
+      (cc (h .gains-are .filled .left i (le-refl i), h .chosen-are .filled .left i (le-refl i)));
+  gains-are = filling-turn (h .gains-are) l (cc (h .gains-are .filled .left i (le-refl i), picked-max z g));
 }
 
 pub offers-end : {totals least : List ℕ} {t e s : ℕ} {chosen₀ gains₀ : List ℕ} {i : ℕ} {chosen gains : List ℕ}
-    → Offerable totals least t e chosen₀ gains₀
     → Offering totals least t e s chosen₀ gains₀ i chosen gains → length totals ≤ i
     → Offered totals least t e s chosen₀ gains₀ chosen gains
-offers-end o h b = record {
-  chosen-are = filled-list _ (h .chosen-are) (o .chosen-long) b;
-  gains-are = filled-list _ (h .gains-are) (o .gains-long) b;
-}
+offers-end h b = record { chosen-are = filling-end (h .chosen-are) b; gains-are = filling-end (h .gains-are) b }

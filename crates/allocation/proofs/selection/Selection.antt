@@ -86,7 +86,3 @@ up-to-selected l b t a e q =
 pub selected-low : {l : List ℕ} {b t a top : ℕ} → Selected l b t a → above l top ≡ 0 → t ≤ top
 selected-low {l} {b} {t} {top = top} s z =
     ⊎-elim (λ (p : top < t). absurd (omega (arith, s .least-few .least top p))) (λ p. p) (lt-or-le top t)
-
-pub greatest-low :
-    (l : List ℕ) (t i : ℕ) → Totals l → i ≤ length l → greatest i (λ k. only (getD l k 0 ≤? t) (getD l k 0)) ≤ maxTotal
-greatest-low l t i h m = greatest-le i _ maxTotal (λ k lk. only-le _ _ _ (λ _. h k (omega arith)))

@@ -4,22 +4,22 @@ use mathlib.Core.Bool.{Bool, true, false}
 use mathlib.Core.List.{List}
 use mathlib.Core.Logic.{⊎-elim}
 use mathlib.Core.Path.{_≡_, refl, sym, ap, ap₂, _∙_}
-use native.Mathlib.Nat.{le-refl, le-antisymm, mul-le-mul, mul-le-mul-right}
+use native.Mathlib.Nat.{le-antisymm, mul-le-mul, mul-le-mul-right}
 use native.Mathlib.Numerals.{add-one}
 use native.Mathlib.Omega.{arith}
 use lib.ListN.{getD, length, set, length-set}
 use lib.Seq.{getD-set-same, getD-set-other}
-use borrow.Author.Count.{below-more}
 use Rattle.model.specs.Limits.{maxStations}
 use Rattle.model.specs.Counting.{_<?_, _≤?_, _and_, only, list}
 use Rattle.model.specs.market.Market.{Tables, bidAt, Market, marketBy, byNumber, market, cut, opens, Screened, screen}
 use Rattle.model.specs.market.Market.{Queue, queue, provisional, critical}
 use Rattle.model.specs.market.Mechanism.{at, better, best, surplus}
 use Rattle.model.specs.market.Outcome.{seen}
-use Rattle.model.proofs.Tests.{clash, first, and-no, only-le, le-yes, le-no, is-lt, not-lt, lt-or-le, only-cong}
+use Rattle.model.proofs.Tests.{clash, first, and-no, only-yes, only-no, only-le, le-yes, le-no, is-lt, not-lt}
+use Rattle.model.proofs.Tests.{lt-or-le, eq-or-ne, only-cong}
 use Rattle.model.proofs.Counting.{greatest-le, list-cong}
 use Rattle.model.proofs.market.Queues.{provisional-candidate}
-use Rattle.model.proofs.Loops.{long, element, relist, in-table}
+use Rattle.model.proofs.Loops.{long, element, is-list, relist, in-table}
 use Rattle.allocation.specs.Ties.{TieBound}
 use Rattle.allocation.specs.Totals.{maxTotal, Totals, totalFor, totalAt, Gathered}
 use Rattle.allocation.proofs.totals.Totals.{total-yes, total-no, total-low}
@@ -28,7 +28,7 @@ use Rattle.allocation.specs.Selection.{above, LeastFew, Selected}
 use Rattle.allocation.proofs.selection.Selection.{above-most, above-greatest, selected-low}
 use Rattle.allocation.specs.Offers.{picked, wonBy, gainFor, chargeAt, gainAt, taken, Offerable, Offered}
 use Rattle.allocation.proofs.offers.Offers.{gain-low}
-use Rattle.allocation.specs.Stages.{AtCut, stationBy, gainBy, After}
+use Rattle.allocation.specs.Stages.{AtCut, stationBy, gainBy, criticalBy, After}
 use Rattle.allocation.proofs.turns.Winners.{Shows, critical-is, provisional-is}
 
 -- ---- one guest's choice: gains are kept as one more, so that 0 is no station
@@ -66,14 +66,33 @@ station-step S j i = rw add-one refl
 -- ---- the lists after a station
 
 -- the critical totals with one more, at number j + 1
+critical-own : (S : Screened) (j : ℕ) → criticalBy S (j + 1) (suc j) ≡ critical (queue S j)
+unfolding criticalBy
+critical-own S j = only-yes _ _ (is-lt _ _ (omega arith))
+
+critical-later : (S : Screened) (j : ℕ) → criticalBy S j (suc j) ≡ 0
+unfolding criticalBy
+critical-later S j = only-no _ _ (not-lt _ _ (omega arith))
+
+critical-other : (S : Screened) (j s : ℕ) → (s ≡ suc j → ⊥) → criticalBy S (j + 1) s ≡ criticalBy S j s
+unfolding criticalBy
+critical-other S j zero n = refl
+critical-other S j (suc k) n = ap (λ b. only b (critical (queue S k))) (⊎-elim
+    (λ (l : k < j). is-lt _ _ (omega arith) ∙ sym (is-lt _ _ l))
+    (λ (l : j ≤ k). not-lt _ _ (omega arith) ∙ sym (not-lt _ _ l))
+    (lt-or-le k j))
+
 set-critical :
-    {n j v : ℕ} {S : Screened} {chosen gains criticals : List ℕ} → After S n j chosen gains criticals → j < maxStations
-    → v ≡ critical (queue S j)
-    → (k : ℕ) → k < j + 1 → getD (set criticals (j + 1) v) (k + 1) 0 ≡ critical (queue S k)
-set-critical {n} {j} {v} {S} {criticals = criticals} h l e =
-    below-more (λ k. getD (set criticals (j + 1) v) (k + 1) 0 ≡ critical (queue S k)) j
-    (λ k a. getD-set-other criticals (j + 1) (k + 1) v 0 (omega arith) ∙ h .criticals-are k a)
-    (getD-set-same criticals (j + 1) v 0 (omega (arith, h .criticals-long)) ∙ e)
+    (S : Screened) (j : ℕ) {s v : ℕ} {criticals : List ℕ} → criticals ≡ list (maxStations + 1) (criticalBy S j)
+    → j < maxStations → s ≡ j + 1 → v ≡ critical (queue S j)
+    → set criticals s v ≡ list (maxStations + 1) (criticalBy S (j + 1))
+set-critical S j {s} {v} {criticals} h l es e =
+    is-list _ _ _ (length-set criticals s v ∙ long _ _ h) (λ k lk. ⊎-elim
+    (λ (z : k ≡ s). rw (z, getD-set-same criticals s v 0 (omega (arith, long _ _ h)), es ∙ add-one j)
+    (e ∙ sym (critical-own S j)))
+    (λ (z : k ≡ s → ⊥). getD-set-other criticals s k v 0 z ∙ element _ _ h k lk
+    ∙ sym (critical-other S j k (λ y. z (y ∙ sym (es ∙ add-one j)))))
+    (eq-or-ne k s))
 
 picked-le : (b : Bool) (x y m : ℕ) → x ≤ m → y ≤ m → picked b x y ≤ m
 unfolding picked
@@ -118,9 +137,7 @@ module _ (S : Screened) (n j : ℕ) (totals least : List ℕ) (t e s : ℕ) (cho
     gains-are = relist _ n _ _ (o .gains-are) as-long gain-step;
     gains-low =
         λ k lk. rw (element _ _ (relist _ n _ _ (o .gains-are) as-long (λ _ _. refl)) k lk) (gain-stays-low k lk);
-    criticals-long = length-set criticals s t ∙ h .criticals-long;
-    criticals-are = rw es (set-critical h few critical-is);
-    criticals-left = λ k l. getD-set-other criticals s (k + 1) t 0 (omega arith) ∙ h .criticals-left k (omega arith);
+    criticals-are = set-critical S j (h .criticals-are) few es critical-is;
   }
 
 -- nobody has a place at a station that is not open, so that its turn changes nothing
@@ -145,14 +162,15 @@ pub after-closed :
     (M : Market) (n j : ℕ) {chosen gains criticals : List ℕ} → cut M ≤ M .ask j
     → After (screen M) n j chosen gains criticals → After (screen M) n (j + 1) chosen gains criticals
 unfolding gainBy
-after-closed M n j {criticals = criticals} h a = record {
+after-closed M n j h a = record {
   chosen-are = a .chosen-are ∙ list-cong n _ _ (λ k lk. stays M j k h);
   gains-low = a .gains-low;
   gains-are = a .gains-are ∙ list-cong n _ _ (λ k lk. ap (at (λ i. surplus (screen M) k i + 1)) (stays M j k h));
-  criticals-long = a .criticals-long;
-  criticals-are = below-more (λ k. getD criticals (k + 1) 0 ≡ critical (queue (screen M) k)) j (a .criticals-are)
-      (a .criticals-left j (le-refl j) ∙ closed-critical M j h);
-  criticals-left = λ k l. a .criticals-left k (omega arith);
+  criticals-are = a .criticals-are ∙ list-cong _ _ _ (λ s _. ⊎-elim
+      (λ (z : s ≡ suc j).
+      rw z (critical-later (screen M) j ∙ closed-critical M j h ∙ sym (critical-own (screen M) j)))
+      (λ (z : s ≡ suc j → ⊥). sym (critical-other (screen M) j s z))
+      (eq-or-ne s (suc j)));
 }
 
 -- ---- the queue of an open station, and the totals that the code gathers

@@ -28,6 +28,8 @@ use Rattle.model.specs.book.Posting.{posting, toGuest, toSold, toPaid, toHouse}
 use Rattle.model.specs.contracts.Clears.{Clears}
 use Rattle.model.specs.declared.answers.Clearing.{Clearing}
 use Rattle.model.specs.declared.answers.Clearing.the-variants as clearing
+use Rattle.model.specs.declared.money.UnitPrice.{UnitPrice}
+use Rattle.model.specs.declared.money.Mills.{Mills}
 use Rattle.model.proofs.contracts.Clears.{clear-refused, clear-cleared}
 use Rattle.ledger.specs.Plans.{adding, roundBy}
 
@@ -107,15 +109,16 @@ module _ (asks bays amounts bids : List ℕ) (width : ℕ) where
     clear-refuses x r q p = rw (clear-refused t entry exit answer c l x q) p
 
     pub clear-posts :
-        (k m : ℕ) (r : Round) → length amounts ≤ maxGuests → length asks ≤ maxStations → answer ≡ clearing.Cleared k m
+        (k : UnitPrice) (m : Mills) (r : Round) → length amounts ≤ maxGuests → length asks ≤ maxStations
+        → answer ≡ clearing.Cleared k m
         → r
         ≡ posted (exit .charges ++ drop (length amounts) (replicate maxGuests 0))
         (exit .sold ++ drop (length asks) (replicate maxStations 0))
-        (exit .paid ++ drop (length asks) (replicate maxStations 0)) m
+        (exit .paid ++ drop (length asks) (replicate maxStations 0)) (m .0)
         → r ≡ roundBy (verdict t) (posting t 0)
     clear-posts k m r n s q p =
         let d = clear-cleared t entry exit answer c l k m q in
         let x = d .results-are in
         p
-        ∙ full-round (exit .charges) (exit .sold) (exit .paid) m n s (d .margin-is) (ap (λ r. r .charges) x)
+        ∙ full-round (exit .charges) (exit .sold) (exit .paid) (m .0) n s (d .margin-is) (ap (λ r. r .charges) x)
         (ap (λ r. r .sold) x) (ap (λ r. r .paid) x) ∙ ap (λ v. roundBy v (posting t 0)) (sym (d .is-accepted))

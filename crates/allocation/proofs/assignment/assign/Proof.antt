@@ -1,8 +1,8 @@
 use borrow.Author.Needs.{needs}
 use Rattle.model.specs.market.Market.{regular}
+use Rattle.allocation.proofs.assignment.Assignment.{chargeable, assigned}
 use Rattle.allocation.proofs.assignment.assign.Statement.{statement}
 use Rattle.allocation.proofs.assignment.assign.Tie as tie
-use Rattle.allocation.proofs.assignment.Assignment.{chargeable, assigned}
 
 all-stations-requires : tie.Need-all-stations-requires
 all-stations-requires c κs =
@@ -20,7 +20,7 @@ charge-guests-requires c κs =
     let at-all-stations = c .before .before .before .before .before .before .before .before .before
     .before .before .before in
     let entry = entry-before-all-stations at-all-stations in
-    chargeable (regular _ _ _ _) (entry .pre .0) (at-all-stations .all-stations .ensures)
+    chargeable (regular _ _ _ _) (entry .pre .0) (at-all-stations .all-stations .ensures .after)
     (entry .pre .1 .1 .1 .0) (entry .pre .1 .1 .1 .1)
 
 returns : tie.Need-returns
@@ -28,9 +28,11 @@ returns c =
     let at-charge-guests = c .before .before .before .before in
     let at-all-stations = at-charge-guests .before .before .before .before .before .before .before .before .before
     .before .before .before .before in
-    let entry = entry-before-all-stations at-all-stations in
-    assigned (regular _ _ _ _) (entry .pre .0) (at-all-stations .all-stations .ensures)
-    (at-charge-guests .charge-guests .ensures)
+    let entry = entry-before-all-stations at-all-stations in (
+      at-all-stations .all-stations .ensures,
+      assigned (regular _ _ _ _) (entry .pre .0) (at-all-stations .all-stations .ensures .after)
+          (at-charge-guests .charge-guests .ensures),
+    )
 
 pub assign-spec : {M : Type 1} → statement M
 assign-spec =
@@ -38,6 +40,10 @@ assign-spec =
     (tie.spec
     all-stations-requires
     charge-guests-requires
-    (λ c. search needs) (λ c. search needs) (λ c. search needs) (λ c. search needs) (λ c. search needs)
+    (λ c. search needs)
+    (λ c. search needs)
+    (λ c. search needs)
+    (λ c. search needs)
+    (λ c. search needs)
     (λ c. search needs)
     returns)

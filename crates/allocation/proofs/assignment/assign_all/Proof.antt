@@ -2,9 +2,9 @@ use mathlib.Core.Path.{sym}
 use borrow.Author.Needs.{needs}
 use Rattle.model.specs.Limits.{maxGuests}
 use Rattle.model.proofs.Loops.{zeros-long}
+use Rattle.allocation.proofs.assignment.Assignment.{after-none}
 use Rattle.allocation.proofs.assignment.assign_all.Statement.{statement}
 use Rattle.allocation.proofs.assignment.assign_all.Tie as tie
-use Rattle.allocation.proofs.assignment.Assignment.{after-none}
 
 slice-aggregate-assign : tie.Need-slice-aggregate-assign
 slice-aggregate-assign c =
@@ -28,6 +28,11 @@ assign-requires c κs =
     let most = entry .pre .0 .within .shape .guests-most in
     (entry .pre .0, (sym (zeros-long maxGuests _ most), (after-none most, entry .pre .1)))
 
+returns : tie.Need-returns
+returns c =
+    let at-assign = c .before .before .before .before .before .before .before .before in
+    at-assign .assign .ensures .1
+
 pub assign-all-spec : {M : Type 1} → statement M
 assign-all-spec =
     tie.close
@@ -40,4 +45,6 @@ assign-all-spec =
     slice-aggregate-assign-3
     (λ c. search needs)
     assign-requires
-    (λ c. search needs) (λ c. search needs) (λ c. search needs))
+    (λ c. search needs)
+    (λ c. search needs)
+    returns)

@@ -1,97 +1,140 @@
-use Prim.Native.Nat.{_-_, _≤_}
+use Prim.Native.Nat.{_-_}
 use mathlib.Core.Path.{sym, _∙_}
 use native.Mathlib.Omega.{arith}
 use lib.ListN.{length}
 use borrow.Author.Needs.{needs}
-use Rattle.allocation.proofs.offers.offer.Statement.{statement}
-use Rattle.allocation.proofs.offers.offer.Tie as tie
 use Rattle.allocation.proofs.offers.Offers.{won-pays, gain-low, gain-left, Offering, offers-none, offers-more}
 use Rattle.allocation.proofs.offers.Offers.{offers-end}
+use Rattle.allocation.proofs.offers.offer.Statement.{statement}
+use Rattle.allocation.proofs.offers.offer.Tie as tie
 
 abbrev Inv-loop : tie.InvT-loop
 Inv-loop totals least critical bound station chosen₀ gains₀ i₀ chosen gains i =
-    (i ≤ length totals) × Offering totals least critical bound station chosen₀ gains₀ i chosen gains
+    Offering totals least (critical .0) bound station chosen₀ gains₀ i chosen gains
 
 abbrev μ-loop : tie.MeasureT-loop
 μ-loop totals least critical bound station chosen₀ gains₀ i₀ chosen gains i = length totals - i
 
 loop-holds : tie.Need-loop-holds Inv-loop μ-loop
-loop-holds c = (search needs, offers-none)
+loop-holds c = offers-none (c .before .before .before .before .pre)
 
 abbrev entry-before-loop : tie.At-loop Inv-loop μ-loop → tie.Start Inv-loop μ-loop
 entry-before-loop p = p .before .before .before .before .before
 
-larger-requires : tie.Need-larger-requires Inv-loop μ-loop
-larger-requires c κs =
-    let at-loop = c .before .before .before in
-    let entry = entry-before-loop at-loop in
-    let o = entry .pre in (
+larger-small-requires : tie.Need-larger-small-requires Inv-loop μ-loop
+larger-small-requires c κs =
+    let at-loop-test = c .before .before .before .before in
+    let at-loop = at-loop-test .before in
+    let entry = entry-before-loop at-loop in (
       omega (
         arith,
-        o .least-low (at-loop .loop .i) (omega (arith, o .least-long)),
-        o .totals-low (at-loop .loop .i) (c .before .before .loop-test .taken),
+        c .wide2 .ensures,
+        entry .pre .least-low (at-loop .loop .i)
+            (omega (arith, entry .pre .least-long, at-loop-test .loop-test .taken)),
       ),
-      omega (arith, o .critical-low),
+      omega (arith, entry .pre .critical-low),
     )
 
 wins-requires : tie.Need-wins-requires Inv-loop μ-loop
 wins-requires c κs =
-    let at-loop-test = c .before .before .before in
+    let at-wide = c .before .before .before in
+    let at-loop-test = at-wide .before .before in
     let entry = entry-before-loop (at-loop-test .before) in (
       entry .pre .no-tie,
       (
-        omega (arith, entry .pre .few),
+        omega (arith, entry .pre .few, at-loop-test .loop-test .taken),
         omega (arith, entry .pre .bound-low),
-        entry .pre .totals-low _ (at-loop-test .loop-test .taken),
+        omega (arith, at-wide .wide .ensures, entry .pre .totals-low _ (at-loop-test .loop-test .taken)),
         entry .pre .critical-low,
       ),
     )
 
 gain-for-requires : tie.Need-gain-for-requires Inv-loop μ-loop
 gain-for-requires c κs =
-    let at-loop-test = c .before .before .before .before in
+    let at-wide = c .before .before .before .before in
+    let at-loop-test = at-wide .before .before in
     let entry = entry-before-loop (at-loop-test .before) in (
-      entry .pre .totals-low _ (at-loop-test .loop-test .taken),
-      (λ w. rw (c .before .larger .ensures) (won-pays _ _ _ _ _ (entry .pre .covers _ (at-loop-test .loop-test .taken))
+      omega (arith, at-wide .wide .ensures, entry .pre .totals-low _ (at-loop-test .loop-test .taken)),
+      (λ w. rw (c .before .larger-small .ensures) (won-pays _ _ _ _ _
+          (λ p. omega (
+            arith,
+            at-wide .wide .ensures,
+            c .before .before .wide2 .ensures,
+            entry .pre .covers _ (at-loop-test .loop-test .taken) (omega (arith, at-wide .wide .ensures)),
+          ))
           (entry .pre .no-tie) (sym (c .wins .ensures) ∙ w))),
     )
 
 pick-requires : tie.Need-pick-requires Inv-loop μ-loop
 pick-requires c κs =
-    let at-loop-test = c .before .before .before .before .before .before .before in
+    let at-gain-for = c .before .before .before in
+    let at-wide = at-gain-for .before .before .before .before .before in
+    let at-loop-test = at-wide .before .before in
     let at-loop = at-loop-test .before in
     let entry = entry-before-loop at-loop in (
-      gain-left (entry .pre) (at-loop .loop .inv .1) (at-loop-test .loop-test .taken),
-      gain-low _ _ _ (entry .pre .totals-low _ (at-loop-test .loop-test .taken)) (c .before .before .gain-for .ensures),
+      omega (
+        arith,
+        c .before .wide3 .ensures,
+        gain-left (entry .pre) (at-loop .loop .inv) (at-loop-test .loop-test .taken),
+      ),
+      gain-low _ _ _ (omega (arith, at-wide .wide .ensures, entry .pre .totals-low _ (at-loop-test .loop-test .taken)))
+          (at-gain-for .gain-for .ensures),
     )
 
-pick-requires-2 : tie.Need-pick-requires-2 Inv-loop μ-loop
-pick-requires-2 c κs =
-    let at-gain-for = c .before .before .before in
-    let at-loop-test = at-gain-for .before .before .before .before .before in
+larger-small-requires-2 : tie.Need-larger-small-requires-2 Inv-loop μ-loop
+larger-small-requires-2 c κs =
+    let at-gain-for = c .before .before .before .before in
+    let at-wide = at-gain-for .before .before .before .before .before in
+    let at-loop-test = at-wide .before .before in
     let at-loop = at-loop-test .before in
     let entry = entry-before-loop at-loop in (
-      gain-left (entry .pre) (at-loop .loop .inv .1) (at-loop-test .loop-test .taken),
-      gain-low _ _ _ (entry .pre .totals-low _ (at-loop-test .loop-test .taken)) (at-gain-for .gain-for .ensures),
+      omega (
+        arith,
+        c .before .before .wide3 .ensures,
+        gain-left (entry .pre) (at-loop .loop .inv) (at-loop-test .loop-test .taken),
+      ),
+      omega (
+        arith,
+        gain-low _ _ _
+            (omega (arith, at-wide .wide .ensures, entry .pre .totals-low _ (at-loop-test .loop-test .taken)))
+            (at-gain-for .gain-for .ensures),
+      ),
+    )
+
+narrow-requires : tie.Need-narrow-requires Inv-loop μ-loop
+narrow-requires c κs =
+    let at-wide3 = c .before .before .before in
+    let at-gain-for = at-wide3 .before .before in
+    let at-wide = at-gain-for .before .before .before .before .before in
+    let at-loop-test = at-wide .before .before in
+    let at-loop = at-loop-test .before in
+    let entry = entry-before-loop at-loop in
+    omega (
+      arith,
+      c .larger-small2 .ensures,
+      at-wide3 .wide3 .ensures,
+      gain-left (entry .pre) (at-loop .loop .inv) (at-loop-test .loop-test .taken),
+      gain-low _ _ _ (omega (arith, at-wide .wide .ensures, entry .pre .totals-low _ (at-loop-test .loop-test .taken)))
+          (at-gain-for .gain-for .ensures),
     )
 
 loop-again : tie.Need-loop-again Inv-loop μ-loop
 loop-again c =
-    let at-gain-for = c .before .before .before .before in
+    let at-wide3 = c .before .before .before .before in
+    let at-gain-for = at-wide3 .before .before in
     let at-wins = at-gain-for .before in
-    let at-larger = at-wins .before in
-    let at-loop-test = at-larger .before .before .before in
+    let at-larger-small = at-wins .before in
+    let at-wide2 = at-larger-small .before in
+    let at-wide = at-wide2 .before .before in
+    let at-loop-test = at-wide .before .before in
     let at-loop = at-loop-test .before in
-    let entry = entry-before-loop at-loop in (
-      omega arith,
-      offers-more (entry .pre) (at-loop .loop .inv .1) (at-loop-test .loop-test .taken) (at-wins .wins .ensures)
-          (at-larger .larger .ensures) (at-gain-for .gain-for .ensures) (c .before .pick .ensures) (c .pick2 .ensures),
-    )
+    offers-more (at-loop .loop .inv) (at-loop-test .loop-test .taken) (at-wide .wide .ensures)
+    (at-wide2 .wide2 .ensures) (at-wide3 .wide3 .ensures) (at-wins .wins .ensures)
+    (at-larger-small .larger-small .ensures) (at-gain-for .gain-for .ensures) (c .before .before .pick .ensures)
+    (c .narrow .ensures ∙ c .before .larger-small2 .ensures)
 
 returns : tie.Need-returns Inv-loop μ-loop
-returns c =
-    let entry = entry-before-loop (c .before) in
-    offers-end (entry .pre) (c .before .loop .inv .1) (c .loop-test .left)
+returns c = offers-end (c .before .loop .inv) (c .loop-test .left)
 
 pub offer-spec : {M : Type 1} → statement M
 offer-spec =
@@ -100,16 +143,31 @@ offer-spec =
     Inv-loop
     μ-loop
     loop-holds
-    (λ c. search needs) (λ c. search needs) (λ c. search needs) (λ c. search needs)
-    larger-requires
+    (λ c. search needs)
+    (λ c. search needs)
+    (λ c κs. search needs)
+    (λ c. search needs)
+    (λ c. search needs)
+    (λ c κs. search needs)
+    larger-small-requires
     (λ c. search needs)
     wins-requires
     gain-for-requires
-    (λ c. search needs) (λ c. search needs) (λ c. search needs) (λ c. search needs)
+    (λ c. search needs)
+    (λ c. search needs)
+    (λ c κs. search needs)
+    (λ c. search needs)
+    (λ c. search needs)
     pick-requires
-    (λ c. search needs) (λ c. search needs)
-    pick-requires-2
-    (λ c. search needs) (λ c. search needs) (λ c. search needs) (λ c. search needs)
+    (λ c. search needs)
+    (λ c. search needs)
+    larger-small-requires-2
+    narrow-requires
+    (λ c. search needs)
+    (λ c. search needs)
+    (λ c. search needs)
+    (λ c. search needs)
     loop-again
-    (λ c. search needs) (λ c. search needs)
+    (λ c. search needs)
+    (λ c. search needs)
     returns)

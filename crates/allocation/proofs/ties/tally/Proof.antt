@@ -11,4 +11,9 @@ returns-2 : tie.Need-returns-2
 returns-2 c = (omega (arith, only-no _ 1 (not-eq _ _ (c .if1 .left))), omega arith)
 
 pub tally-spec : {M : Type 1} → statement M
-tally-spec = tie.close (tie.spec (λ c. search needs) returns returns-2)
+tally-spec =
+    tie.close
+    (tie.spec
+    (λ c. search needs)
+    returns
+    returns-2)

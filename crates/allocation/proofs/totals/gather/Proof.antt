@@ -1,11 +1,11 @@
 use Prim.Native.Nat.{ℕ, _+_, _*_, _-_, _≤_, _<_}
-use mathlib.Core.Path.{_≡_}
+use mathlib.Core.Path.{_≡_, _∙_}
 use native.Mathlib.Omega.{arith}
 use lib.ListN.{length}
 use borrow.Author.Needs.{needs}
 use Rattle.model.specs.Counting.{greatest}
-use Rattle.model.proofs.Loops.{greatest-none, greatest-more, greatest-end, Filled, filled-none, filled-more}
-use Rattle.model.proofs.Loops.{filled-list, in-table}
+use Rattle.model.proofs.Loops.{Folded, folded-end, greatest-none, greatest-turn, Filling, filling-none, filling-turn}
+use Rattle.model.proofs.Loops.{filling-end, in-table}
 use Rattle.allocation.specs.Totals.{maxTotal, totalAt}
 use Rattle.allocation.proofs.totals.Totals.{total-low}
 use Rattle.allocation.proofs.totals.gather.Statement.{statement}
@@ -13,8 +13,8 @@ use Rattle.allocation.proofs.totals.gather.Tie as tie
 
 abbrev Inv-loop : tie.InvT-loop
 Inv-loop bids amounts m j cut totals₀ top₀ i₀ totals top i =
-    (i ≤ length amounts) × Filled (totalAt bids amounts m j (cut .0)) totals₀ totals i
-    × (top ≡ greatest i (totalAt bids amounts m j (cut .0))) × (top ≤ maxTotal)
+    Filling (length amounts) (totalAt bids amounts m j (cut .0)) totals₀ totals i
+    × Folded greatest (length amounts) (totalAt bids amounts m j (cut .0)) (top .0) i × (top .0 ≤ maxTotal)
 
 abbrev μ-loop : tie.MeasureT-loop
 μ-loop bids amounts m j cut totals₀ top₀ i₀ totals top i = length amounts - i
@@ -43,7 +43,7 @@ total-here c e =
     rw e (total-low _ _ _ (start c .pre .1 .1 .0 _ (inside c)) (start c .pre .1 .1 .1 _ (c .loop-test .taken)))
 
 loop-holds : tie.Need-loop-holds Inv-loop μ-loop
-loop-holds c = (search needs, filled-none, greatest-none _, omega arith)
+loop-holds c = (filling-none (c .before .before .before .pre .1 .0 .1), greatest-none, omega arith)
 
 mul-bid : tie.Need-mul-bid Inv-loop μ-loop
 mul-bid c = omega (arith, inside c)
@@ -57,35 +57,36 @@ mul-bid-2 c = omega (arith, inside c)
 shared-slice-read-bid : tie.Need-shared-slice-read-bid Inv-loop μ-loop
 shared-slice-read-bid c = inside (c .before)
 
-total-for-requires : tie.Need-total-for-requires Inv-loop μ-loop
-total-for-requires c κs =
-    let b = c .before .before in
-    (start b .pre .1 .1 .0 _ (inside b), start b .pre .1 .1 .1 _ (b .loop-test .taken))
+narrow-requires : tie.Need-narrow-requires Inv-loop μ-loop
+narrow-requires c κs = omega (arith, total-here (c .before .before .before) (c .total-for .ensures))
 
-larger-requires : tie.Need-larger-requires Inv-loop μ-loop
-larger-requires c κs =
-    let b = c .before .before .before in
-    (omega (arith, b .before .loop .inv .3), omega (arith, total-here b (c .total-for .ensures)))
+larger-small-requires : tie.Need-larger-small-requires Inv-loop μ-loop
+larger-small-requires c κs =
+    let in-loop = c .before .before .before .before in
+    let at-loop = in-loop .before in
+    (omega (arith, at-loop .loop .inv .2), omega (arith, total-here in-loop (c .before .total-for .ensures)))
 
 loop-again : tie.Need-loop-again Inv-loop μ-loop
 loop-again c =
-    let at-loop = c .before .before .before .before .before in (
-      search needs,
-      filled-more (at-loop .loop .inv .1) (omega arith) (c .before .total-for .ensures),
-      greatest-more _ _ _ _ _ (at-loop .loop .inv .2) (c .before .total-for .ensures) (c .larger .ensures),
-      let b = c .before .before .before .before in
-          omega (arith, c .larger .ensures, b .before .loop .inv .3, total-here b (c .before .total-for .ensures)),
+    let at-loop-test = c .before .before .before .before .before in
+    let at-loop = at-loop-test .before in (
+      filling-turn (at-loop .loop .inv .0) (at-loop-test .loop-test .taken)
+          (c .before .narrow .ensures ∙ c .before .before .total-for .ensures),
+      greatest-turn (at-loop .loop .inv .1) (at-loop-test .loop-test .taken) (c .before .before .total-for .ensures)
+          (c .larger-small .ensures),
+      omega (
+        arith,
+        c .larger-small .ensures,
+        at-loop .loop .inv .2,
+        total-here at-loop-test (c .before .before .total-for .ensures),
+      ),
     )
-
-same-length : tie.Need-same-length Inv-loop μ-loop
-same-length c = c .before .loop .inv .1 .same
 
 returns : tie.Need-returns Inv-loop μ-loop
 returns c =
-    let entry = c .before .before .before .before .before in
     record {
-      totals-are = filled-list _ (c .before .loop .inv .1) (entry .pre .1 .0 .1) (c .loop-test .left);
-      greatest-is = greatest-end _ _ _ _ (c .before .loop .inv .2) (c .before .loop .inv .0) (c .loop-test .left);
+      totals-are = filling-end (c .before .loop .inv .0) (c .loop-test .left);
+      greatest-is = folded-end (c .before .loop .inv .1) (c .loop-test .left);
     }
 
 pub gather-spec : {M : Type 1} → statement M
@@ -99,11 +100,15 @@ gather-spec =
     add-bid
     mul-bid-2
     shared-slice-read-bid
-    (λ c. search needs) (λ c. search needs)
-    total-for-requires
-    (λ c. search needs) (λ c. search needs)
-    larger-requires
-    (λ c. search needs) (λ c. search needs)
+    (λ c. search needs)
+    (λ c. search needs)
+    (λ c κs. search needs)
+    narrow-requires
+    (λ c. search needs)
+    (λ c. search needs)
+    larger-small-requires
+    (λ c. search needs)
+    (λ c. search needs)
     loop-again
-    same-length
+    (λ c. search needs)
     returns)

@@ -1,19 +1,46 @@
+use Prim.Native.Nat.{ℕ, _≤_, _<_}
+use mathlib.Core.List.{List}
 use mathlib.Core.Path.{refl, sym, _∙_}
 use native.Mathlib.Omega.{arith}
+use lib.ListN.{length, getD}
 use borrow.Author.Needs.{needs}
-use borrow.Author.Tests.{ltb-true, ltb-false}
 use Rattle.model.specs.Limits.{maxGuests}
-use Rattle.model.specs.Counting.{_<?_}
 use Rattle.model.specs.market.Market.{regular}
+use Rattle.model.proofs.Tests.{lt-yes, lt-no}
 use Rattle.model.proofs.Loops.{long}
-use Rattle.allocation.specs.Stages.{gatheredIf}
-use Rattle.allocation.proofs.turns.station.Statement.{statement}
-use Rattle.allocation.proofs.turns.station.Tie as tie
+use Rattle.allocation.specs.Totals.{Totals, totalAt, Gathered}
+use Rattle.allocation.specs.Stages.{gatheredIf, turnTotals}
 use Rattle.allocation.proofs.turns.Turns.{few-above, offerable, all-low, none-above, top-low, critical-low, shut}
 use Rattle.allocation.proofs.turns.Turns.{turned}
+use Rattle.allocation.proofs.turns.station.Statement.{statement}
+use Rattle.allocation.proofs.turns.station.Tie as tie
+
+-- the station is open
+opened : (c : tie.After-gather) →
+    let entry = c .before .before .before .before .before .before .before .before .before .before .before
+    .before .before .before in
+    getD (entry .args .asks .now) (entry .args .j) 0 < entry .args .cut .0
+opened c = lt-yes _ _ (sym (c .before .before .before .below .ensures) ∙ c .before .before .if1 .taken)
 
 abbrev entry-before-below : tie.After-below → tie.Start
 entry-before-below p = p .before .before .before .before .before .before .before .before .before .before .before
+
+-- the totals gathered are few, and within the limits
+abbrev Here : tie.After-gather → (l : List ℕ) (top : ℕ) → Type 0
+Here c l top =
+    let entry = entry-before-below (c .before .before .before) in
+    Gathered (length (entry .args .amounts .now)) (totalAt (entry .args .bids .now) (entry .args .amounts .now)
+    (length (entry .args .asks .now)) (entry .args .j) (entry .args .cut .0)) l top
+
+few : (c : tie.After-gather) {l : List ℕ} {top : ℕ} → Here c l top → length l ≤ maxGuests
+few c g =
+    let entry = entry-before-below (c .before .before .before) in
+    omega (arith, long _ _ (g .totals-are), entry .pre .0 .within .shape .guests-most)
+
+low : (c : tie.After-gather) {l : List ℕ} {top : ℕ} → Here c l top → Totals l
+low c g =
+    let entry = entry-before-below (c .before .before .before) in
+    all-low (regular _ _ _ _) _ _ (entry .pre .0) _ (entry .pre .1 .0 .0) (opened c) _ (g .totals-are)
 
 cast-b : tie.Need-cast-b
 cast-b c =
@@ -22,76 +49,89 @@ cast-b c =
 
 critical-total-requires : tie.Need-critical-total-requires
 critical-total-requires c κs =
-    let at-gather = c .before .before .before .before in
-    let at-if1 = at-gather .before .before in
-    let at-below = at-if1 .before in
-    let entry = entry-before-below at-below in
-    let g = at-gather .gather .ensures in
-    let low = all-low (regular _ _ _ _) _ _ (entry .pre .0) _ (entry .pre .1 .0 .0)
-    (ltb-true _ _ (sym (at-below .below .ensures) ∙ at-if1 .if1 .taken)) _ (g .totals-are) in
-    ((omega (arith, long _ _ (g .totals-are), entry .pre .0 .within .shape .guests-most), none-above g), (low, top-low g low))
+    let here = c .before .before .before .before in
+    let g = here .gather .ensures in
+    ((few here g, none-above g), (low here g, top-low g (low here g)))
 
 tie-bound-requires : tie.Need-tie-bound-requires
 tie-bound-requires c κs =
     let at-gather = c .before .before .before .before .before .before in
-    let entry = entry-before-below (at-gather .before .before .before) in (
-      omega (arith, long _ _ (at-gather .gather .ensures .totals-are), entry .pre .0 .within .shape .guests-most),
-      few-above maxGuests (c .before .critical-total .ensures)
-          (omega (arith, long _ _ (at-gather .gather .ensures .totals-are), entry .pre .0 .within .shape .guests-most)),
-    )
+    let g = at-gather .gather .ensures in
+    (few at-gather g, few-above maxGuests (c .before .critical-total .ensures) (few at-gather g))
+
+add-s : tie.Need-add-s
+add-s c =
+    let entry = entry-before-below
+    (c .before .before .before .before .before .before .before .before .before .before) in
+    omega (arith, entry .pre .1 .0 .0, entry .pre .0 .within .shape .stations-most)
+
+narrow-requires : tie.Need-narrow-requires
+narrow-requires c κs =
+    let at-gather = c .before .before .before .before .before .before .before in
+    let g = at-gather .gather .ensures in
+    omega (arith, critical-low g (low at-gather g) (c .before .before .critical-total .ensures))
+
+mul-criticals : tie.Need-mul-criticals
+mul-criticals c =
+    let entry = entry-before-below
+    (c .before .before .before .before .before .before .before .before .before .before .before) in
+    omega (arith, entry .pre .1 .0 .0, entry .pre .0 .within .shape .stations-most)
 
 slice-write-criticals : tie.Need-slice-write-criticals
 slice-write-criticals c =
-    let at-gather = c .before .before .before .before .before .before .before in
-    let entry = entry-before-below (at-gather .before .before .before) in
-    omega (arith, entry .pre .0 .within .shape .stations-most, entry .pre .1 .0 .0, entry .pre .1 .1 .criticals-long)
+    let entry = entry-before-below
+    (c .before .before .before .before .before .before .before .before .before .before .before) in
+    omega (
+      arith,
+      entry .pre .1 .0 .0,
+      entry .pre .0 .within .shape .stations-most,
+      long _ _ (entry .pre .1 .1 .criticals-are),
+    )
 
 cast-offer : tie.Need-cast-offer
 cast-offer c =
-    let at-gather = c .before .before .before .before .before .before .before .before in
-    let entry = entry-before-below (at-gather .before .before .before) in
-    record { fits = omega (arith, entry .pre .0 .within .shape .stations-most, entry .pre .1 .0 .0) }
+    let entry = entry-before-below
+    (c .before .before .before .before .before .before .before .before .before .before .before .before) in
+    omega (arith, entry .pre .1 .0 .0, entry .pre .0 .within .shape .stations-most)
 
 offer-requires : tie.Need-offer-requires
 offer-requires c κs =
-    let at-tie-bound = c .before .before .before in
+    let at-tie-bound = c .before .before .before .before in
+    let at-critical-total = at-tie-bound .before .before in
+    let at-gather = at-critical-total .before .before .before .before .before in
+    let entry = entry-before-below (at-gather .before .before .before) in
+    let g = at-gather .gather .ensures in
+    offerable (regular _ _ _ _) _ _ (entry .pre .0) (entry .pre .1 .0 .0) (g .totals-are) (low at-gather g)
+    (critical-low g (low at-gather g) (at-critical-total .critical-total .ensures))
+    (at-tie-bound .tie-bound .ensures) (entry .pre .1 .1)
+
+returns : tie.Need-returns
+unfolding turnTotals gatheredIf
+returns c =
+    let at-offer = c .before .before .before .before in
+    let at-narrow = at-offer .before .before .before .before in
+    let at-tie-bound = at-narrow .before in
     let at-critical-total = at-tie-bound .before .before in
     let at-gather = at-critical-total .before .before .before .before .before in
     let at-if1 = at-gather .before .before in
     let at-below = at-if1 .before in
     let entry = entry-before-below at-below in
     let g = at-gather .gather .ensures in
-    let low = all-low (regular _ _ _ _) _ _ (entry .pre .0) _ (entry .pre .1 .0 .0)
-    (ltb-true _ _ (sym (at-below .below .ensures) ∙ at-if1 .if1 .taken)) _ (g .totals-are) in
-    offerable (regular _ _ _ _) _ _ (entry .pre .0) (entry .pre .1 .0 .0) (g .totals-are) low
-    (critical-low g low (at-critical-total .critical-total .ensures))
-    (at-tie-bound .tie-bound .ensures) (entry .pre .1 .1)
-
-returns : tie.Need-returns
-unfolding gatheredIf _<?_
-returns c =
-    let at-offer = c .before .before .before .before in
-    let at-tie-bound = at-offer .before .before .before .before in
-    let at-critical-total = at-tie-bound .before .before in
-    let at-gather = at-critical-total .before .before .before .before .before in
-    let at-if1 = at-gather .before .before in
-    let at-below = at-if1 .before in
-    let entry = entry-before-below at-below in
     let critical = at-critical-total .critical-total .ensures in (
-      turned (regular _ _ _ _) _ _ (entry .pre .0) _ (entry .pre .1 .0 .0)
-          (ltb-true _ _ (sym (at-below .below .ensures) ∙ at-if1 .if1 .taken))
-          _ (at-gather .gather .ensures .totals-are) _ _ _ refl (critical .least-few)
+      rw (at-narrow .narrow .ensures) (turned (regular _ _ _ _) _ _ (entry .pre .0) _
+          (entry .pre .1 .0 .0) (opened at-gather)
+          _ (g .totals-are) _ _ _ refl (critical .least-few)
           (rw (← critical .counted) (at-tie-bound .tie-bound .ensures)) _ refl (entry .pre .1 .1)
-          (at-offer .offer .ensures),
-      rw (sym (at-below .below .ensures) ∙ at-if1 .if1 .taken) (at-gather .gather .ensures .totals-are),
+          (at-offer .offer .ensures)),
+      rw (sym (at-below .below .ensures) ∙ at-if1 .if1 .taken) (g .totals-are),
     )
 
 returns-2 : tie.Need-returns-2
-unfolding gatheredIf _<?_
+unfolding turnTotals gatheredIf
 returns-2 c =
     let entry = entry-before-below (c .before) in (
-      shut (regular _ _ _ _) _ _ (entry .pre .0) (ltb-false _ _ (sym (c .before .below .ensures) ∙ c .if1 .left))
-          (entry .pre .1 .1),
+      shut (regular _ _ _ _) _ _ (entry .pre .0)
+          (lt-no _ _ (sym (c .before .below .ensures) ∙ c .if1 .left)) (entry .pre .1 .1),
       rw (sym (c .before .below .ensures) ∙ c .if1 .left) refl,
     )
 
@@ -99,15 +139,24 @@ pub station-spec : {M : Type 1} → statement M
 station-spec =
     tie.close
     (tie.spec
-    (λ c. search needs) (λ c. search needs) (λ c κs. search needs) (λ c κs. search needs) (λ c. search needs)
+    (λ c. search needs)
+    (λ c. search needs)
+    (λ c κs. search needs)
+    (λ c κs. search needs)
+    (λ c. search needs)
     (λ c. search needs)
     cast-b
     critical-total-requires
     tie-bound-requires
-    (λ c. search needs) (λ c. search needs)
+    add-s
+    narrow-requires
+    mul-criticals
     slice-write-criticals
     cast-offer
     offer-requires
-    (λ c. search needs) (λ c. search needs) (λ c. search needs) (λ c. search needs)
+    (λ c. search needs)
+    (λ c. search needs)
+    (λ c. search needs)
+    (λ c. search needs)
     returns
     returns-2)

@@ -1,38 +1,32 @@
-use Prim.Native.Nat.{_≤_, _-_}
+use Prim.Native.Nat.{_-_}
+use mathlib.Core.Path.{_∙_}
 use native.Mathlib.Omega.{arith}
 use lib.ListN.{length}
 use borrow.Author.Needs.{needs}
-use Rattle.model.proofs.Loops.{Filled, filled-none, filled-more, filled-list}
+use Rattle.model.proofs.market.Limits.{product}
+use Rattle.model.proofs.Loops.{Filling, filling-none, filling-turn, filling-end}
 use Rattle.pricing.specs.Charges.{leastAt}
 use Rattle.pricing.proofs.charges.least_charges.Statement.{statement}
 use Rattle.pricing.proofs.charges.least_charges.Tie as tie
 
 abbrev Inv-loop : tie.InvT-loop
-Inv-loop amounts cut least₀ i₀ least i =
-    (i ≤ length amounts) × Filled (leastAt amounts (cut .0)) least₀ least i
+Inv-loop amounts cut least₀ i₀ least i = Filling (length amounts) (leastAt amounts (cut .0)) least₀ least i
 
 abbrev μ-loop : tie.MeasureT-loop
 μ-loop amounts cut least₀ i₀ least i = length amounts - i
 
 loop-holds : tie.Need-loop-holds Inv-loop μ-loop
-loop-holds c = (search needs, filled-none)
+loop-holds c = filling-none (c .before .before .pre .0 .0)
 
-least-charge-requires : tie.Need-least-charge-requires Inv-loop μ-loop
-least-charge-requires c κs =
-    let entry = c .before .before .before .before .before in
-    (entry .pre .0 .1, entry .pre .1 _ (c .before .loop-test .taken))
+narrow-requires : tie.Need-narrow-requires Inv-loop μ-loop
+narrow-requires c κs =
+    omega (arith, c .least-charge .ensures, product _ _ (c .before .before .before .before .before .before .pre .0 .1) (c .before .before .before .before .before .before .pre .1 _ (c .before .before .loop-test .taken)))
 
 loop-again : tie.Need-loop-again Inv-loop μ-loop
-loop-again c = (
-  omega arith,
-  filled-more (c .before .before .before .loop .inv .1) (omega arith) (c .least-charge .ensures),
-)
-
-same-length : tie.Need-same-length Inv-loop μ-loop
-same-length c = c .before .loop .inv .1 .same
+loop-again c = filling-turn (c .before .before .before .before .loop .inv) (c .before .before .before .loop-test .taken) (c .narrow .ensures ∙ c .before .least-charge .ensures)
 
 returns : tie.Need-returns Inv-loop μ-loop
-returns c = filled-list _ (c .before .loop .inv .1) (c .before .before .before .before .pre .0 .0) (c .loop-test .left)
+returns c = filling-end (c .before .loop .inv) (c .loop-test .left)
 
 pub least-charges-spec : {M : Type 1} → statement M
 least-charges-spec =
@@ -41,9 +35,14 @@ least-charges-spec =
     Inv-loop
     μ-loop
     loop-holds
-    (λ c. search needs) (λ c. search needs)
-    least-charge-requires
-    (λ c. search needs) (λ c. search needs) (λ c. search needs) (λ c. search needs)
+    (λ c. search needs)
+    (λ c. search needs)
+    (λ c κs. search needs)
+    narrow-requires
+    (λ c. search needs)
+    (λ c. search needs)
+    (λ c. search needs)
+    (λ c. search needs)
     loop-again
-    same-length
+    (λ c. search needs)
     returns)

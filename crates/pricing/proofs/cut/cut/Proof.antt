@@ -1,10 +1,10 @@
-use Prim.Native.Nat.{_-_, _≤_}
-use mathlib.Core.Path.{_≡_, refl}
+use Prim.Native.Nat.{_-_}
+use mathlib.Core.Path.{refl}
 use native.Mathlib.Omega.{arith}
 use lib.ListN.{length, getD}
 use borrow.Author.Needs.{needs}
 use Rattle.model.specs.Counting.{greatest}
-use Rattle.model.proofs.Loops.{greatest-none, greatest-more, greatest-end}
+use Rattle.model.proofs.Loops.{Folded, folded-end, greatest-none, greatest-turn}
 use Rattle.pricing.specs.MedianAsk.{eligible, medianAsk}
 use Rattle.pricing.proofs.cut.MedianAsk.{median-is}
 use Rattle.pricing.proofs.cut.cut.Statement.{statement}
@@ -12,24 +12,20 @@ use Rattle.pricing.proofs.cut.cut.Tie as tie
 
 abbrev Inv-loop : tie.InvT-loop
 Inv-loop asks position r₀ i₀ r i =
-    (i ≤ length asks) × (r .0 ≡ greatest i (λ j. eligible asks position (getD asks j 0)))
+    Folded greatest (length asks) (λ j. eligible asks position (getD asks j 0)) (r .0) i
 
 abbrev μ-loop : tie.MeasureT-loop
 μ-loop asks position r₀ i₀ r i = length asks - i
 
 loop-holds : tie.Need-loop-holds Inv-loop μ-loop
-loop-holds c = (omega arith, greatest-none _)
+loop-holds c = greatest-none
 
 loop-again : tie.Need-loop-again Inv-loop μ-loop
-loop-again c = (
-  omega arith,
-  greatest-more _ _ _ _ _ (c .before .before .before .loop .inv .1) refl (c .raised .ensures),
-)
+loop-again c = greatest-turn (c .before .before .before .loop .inv) (c .before .before .loop-test .taken) refl (c .raised .ensures)
 
 returns : tie.Need-returns Inv-loop μ-loop
 unfolding medianAsk
-returns c =
-    rw (← median-is) (greatest-end _ _ _ _ (c .before .loop .inv .1) (c .before .loop .inv .0) (c .loop-test .left))
+returns c = rw (← median-is) (folded-end (c .before .loop .inv) (c .loop-test .left))
 
 pub cut-spec : {M : Type 1} → statement M
 cut-spec =
@@ -39,6 +35,10 @@ cut-spec =
     μ-loop
     (λ c. search needs)
     loop-holds
-    (λ c. search needs) (λ c. search needs) (λ c κs. search needs) (λ c. search needs) (λ c. search needs)
+    (λ c. search needs)
+    (λ c. search needs)
+    (λ c κs. search needs)
+    (λ c. search needs)
+    (λ c. search needs)
     loop-again
     returns)

@@ -1,7 +1,7 @@
 use mathlib.Core.Path.{sym, _∙_}
 use native.Mathlib.Omega.{arith}
 use borrow.Author.Needs.{needs}
-use borrow.Author.Tests.{ltb-true, ltb-false}
+use Rattle.model.proofs.Tests.{lt-yes, lt-no}
 use Rattle.pricing.proofs.cut.MedianAsk.{eligible-yes, eligible-no}
 use Rattle.pricing.proofs.cut.raised.Statement.{statement}
 use Rattle.pricing.proofs.cut.raised.Tie as tie
@@ -13,7 +13,7 @@ returns c =
     omega (
       arith,
       eligible-yes _ _ _ _ (at-count-below .count-below .ensures) (c .before .before .if1 .taken),
-      ltb-true (entry .args .r .0) (entry .args .x .0) (sym (c .before .below .ensures) ∙ c .if2 .taken),
+      lt-yes (entry .args .r .0) (entry .args .x .0) (sym (c .before .below .ensures) ∙ c .if2 .taken),
     )
 
 returns-2 : tie.Need-returns-2
@@ -23,7 +23,7 @@ returns-2 c =
     omega (
       arith,
       eligible-yes _ _ _ _ (at-count-below .count-below .ensures) (c .before .before .if1 .taken),
-      ltb-false (entry .args .r .0) (entry .args .x .0) (sym (c .before .below .ensures) ∙ c .if2 .left),
+      lt-no (entry .args .r .0) (entry .args .x .0) (sym (c .before .below .ensures) ∙ c .if2 .left),
     )
 
 returns-3 : tie.Need-returns-3

@@ -1,54 +1,41 @@
-use Prim.Native.Nat.{_*_, _-_, _≤_}
-use mathlib.Core.Path.{_≡_}
+use Prim.Native.Nat.{_-_}
+use mathlib.Core.Path.{ap₂, _∙_}
 use native.Mathlib.Omega.{arith}
 use lib.ListN.{length, getD}
 use borrow.Author.Needs.{needs}
 use Rattle.model.specs.Counting.{sum}
-use Rattle.model.proofs.Loops.{sum-none, sum-more, sum-end}
+use Rattle.model.proofs.Loops.{Folded, folded-end, sum-none, sum-turn, sum-low}
 use Rattle.pricing.proofs.margin.margin.Statement.{statement}
 use Rattle.pricing.proofs.margin.margin.Tie as tie
 
 abbrev Inv-loop : tie.InvT-loop
-Inv-loop charges least r₀ i₀ r i =
-    (i ≤ length charges) × (r .0 ≤ 4294967295 * i) × (r .0 ≡ sum i (λ k. getD charges k 0 - getD least k 0))
+Inv-loop charges least r₀ i₀ r i = Folded sum (length charges) (λ k. getD charges k 0 - getD least k 0) (r .0) i
 
 abbrev μ-loop : tie.MeasureT-loop
 μ-loop charges least r₀ i₀ r i = length charges - i
 
-loop-holds : tie.Need-loop-holds Inv-loop μ-loop
-loop-holds c = (omega arith, omega arith, sum-none _)
-
 plus-requires : tie.Need-plus-requires Inv-loop μ-loop
 plus-requires c κs =
-    let at-loop-test = c .before .before .before in
-    let at-loop = at-loop-test .before in
-    let entry = at-loop .before .before .before in
     omega (
       arith,
       c .excess .ensures,
-      c .before .before .shared-slice-known3 .given (at-loop .loop .i),
-      at-loop .loop .inv .1,
-      at-loop-test .loop-test .taken,
-      entry .pre .1,
+      c .before .before .before .wide .ensures,
+      c .before .before .before .before .shared-slice-known3 .given (c .before .before .before .before .before .before .loop .i),
+      sum-low 4294967295 (c .before .before .before .before .before .before .loop .inv) (λ k l. omega (arith, c .before .before .before .before .shared-slice-known3 .given k)),
+      c .before .before .before .before .before .loop-test .taken,
+      c .before .before .before .before .before .before .before .before .before .pre .1,
     )
 
 loop-again : tie.Need-loop-again Inv-loop μ-loop
 loop-again c =
-    let at-shared-slice-known3 = c .before .before .before in
-    let at-loop = at-shared-slice-known3 .before .before in (
-      omega arith,
-      omega (
-        arith,
-        c .plus .ensures,
-        c .before .excess .ensures,
-        at-shared-slice-known3 .shared-slice-known3 .given (at-loop .loop .i),
-        at-loop .loop .inv .1,
-      ),
-      sum-more _ _ _ _ _ (at-loop .loop .inv .2) (c .before .excess .ensures) (c .plus .ensures),
-    )
+    sum-turn (c .before .before .before .before .before .before .before .loop .inv) (c .before .before .before .before .before .before .loop-test .taken) (c .before .excess .ensures ∙ ap₂ _-_ (c .before .before .before .before .wide .ensures) (c .before .before .wide2 .ensures))
+    (c .plus .ensures)
+
+loop-holds : tie.Need-loop-holds Inv-loop μ-loop
+loop-holds c = sum-none
 
 returns : tie.Need-returns Inv-loop μ-loop
-returns c = sum-end _ _ _ _ (c .before .loop .inv .2) (c .before .loop .inv .0) (c .loop-test .left)
+returns c = folded-end (c .before .loop .inv) (c .loop-test .left)
 
 pub margin-spec : {M : Type 1} → statement M
 margin-spec =
@@ -57,8 +44,15 @@ margin-spec =
     Inv-loop
     μ-loop
     loop-holds
-    (λ c. search needs) (λ c. search needs) (λ c. search needs) (λ c. search needs) (λ c κs. search needs)
+    (λ c. search needs)
+    (λ c. search needs)
+    (λ c κs. search needs)
+    (λ c. search needs)
+    (λ c. search needs)
+    (λ c κs. search needs)
+    (λ c κs. search needs)
     plus-requires
-    (λ c. search needs) (λ c. search needs)
+    (λ c. search needs)
+    (λ c. search needs)
     loop-again
     returns)

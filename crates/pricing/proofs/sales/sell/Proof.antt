@@ -1,6 +1,7 @@
 use native.Mathlib.Omega.{arith}
 use borrow.Author.Needs.{needs}
 use Rattle.model.proofs.Loops.{zeros}
+use Rattle.pricing.specs.Sales.{slots}
 use Rattle.pricing.proofs.sales.sell.Statement.{statement}
 use Rattle.pricing.proofs.sales.sell.Tie as tie
 use Rattle.pricing.proofs.sales.Sales.{sells}
@@ -8,7 +9,7 @@ use Rattle.pricing.proofs.sales.Sales.{sells}
 tally-sales-requires : tie.Need-tally-sales-requires
 tally-sales-requires c κs =
     let entry = c .before .before .before .before .before in
-    (entry .pre .0, (entry .pre .1 .0, (entry .pre .1 .1 .0, zeros 45)))
+    (entry .pre .0, (entry .pre .1 .0, (entry .pre .1 .1 .0, zeros slots)))
 
 abbrev entry-before-tally-sales : tie.After-tally-sales → tie.Start
 entry-before-tally-sales p = p .before .before .before .before .before .before

@@ -1,4 +1,4 @@
-use Prim.Native.Nat.{_-_, _≤_}
+use Prim.Native.Nat.{_-_}
 use mathlib.Core.Path.{refl, ap}
 use native.Mathlib.Omega.{arith}
 use lib.ListN.{length}
@@ -10,13 +10,13 @@ use Rattle.pricing.proofs.sales.tally_sales.Tie as tie
 use Rattle.pricing.proofs.sales.Sales.{Tallying, tallied-none, tallied-more, tallied-end}
 
 abbrev Inv-loop : tie.InvT-loop
-Inv-loop stations amounts kwh₀ i₀ kwh i = (i ≤ length amounts) × Tallying stations amounts i kwh
+Inv-loop stations amounts kwh₀ i₀ kwh i = Tallying stations amounts i kwh
 
 abbrev μ-loop : tie.MeasureT-loop
 μ-loop stations amounts kwh₀ i₀ kwh i = length amounts - i
 
 loop-holds : tie.Need-loop-holds Inv-loop μ-loop
-loop-holds c = (omega arith, tallied-none (c .before .before .before .pre .1 .1 .1))
+loop-holds c = tallied-none (c .before .before .before .pre .1 .1 .1)
 
 abbrev entry-before-loop : tie.At-loop Inv-loop μ-loop → tie.Start Inv-loop μ-loop
 entry-before-loop p = p .before .before .before .before
@@ -43,7 +43,7 @@ mul-kwh c = omega (arith, c .before .slot .ensures .0)
 slice-read-kwh : tie.Need-slice-read-kwh Inv-loop μ-loop
 slice-read-kwh c =
     let at-loop = c .before .before .before .before .before in
-    omega (arith, c .before .before .slot .ensures .0, at-loop .loop .inv .1 .long)
+    omega (arith, c .before .before .slot .ensures .0, at-loop .loop .inv .long)
 
 add-kwh : tie.Need-add-kwh Inv-loop μ-loop
 add-kwh c =
@@ -53,8 +53,8 @@ add-kwh c =
     omega (
       arith,
       pre .1 .0 _ (loop-test .taken),
-      loop .inv .1 .small _ (c .before .before .slot .ensures .0),
-      loop .inv .0,
+      loop .inv .small _ (c .before .before .slot .ensures .0),
+      loop .inv .within,
       pre .0 .1,
     )
 
@@ -64,25 +64,23 @@ mul-kwh-2 c = omega (arith, c .before .before .slot .ensures .0)
 slice-write-kwh : tie.Need-slice-write-kwh Inv-loop μ-loop
 slice-write-kwh c =
     let at-loop = c .before .before .before .before .before in
-    omega (arith, c .before .before .slot .ensures .0, at-loop .loop .inv .1 .long)
+    omega (arith, c .before .before .slot .ensures .0, at-loop .loop .inv .long)
 
 loop-again : tie.Need-loop-again Inv-loop μ-loop
 loop-again c =
     let at-loop-test = c .before .before .before .before in
     let at-loop = at-loop-test .before in
-    let entry = entry-before-loop at-loop in (
-      omega arith,
-      tallied-more (at-loop .loop .inv .1) refl (c .before .before .slot .ensures)
-          (entry .pre .1 .0 _ (at-loop-test .loop-test .taken)) refl,
-    )
+    let entry = entry-before-loop at-loop in
+    tallied-more (at-loop .loop .inv) (at-loop-test .loop-test .taken) refl (c .before .before .slot .ensures)
+    (entry .pre .1 .0 _ (at-loop-test .loop-test .taken)) refl
 
 same-length : tie.Need-same-length Inv-loop μ-loop
 same-length c =
     let entry = entry-before-loop (c .before) in
-    omega (arith, c .before .loop .inv .1 .long, ap length (entry .pre .1 .1 .1), length-list slots (λ _. 0))
+    omega (arith, c .before .loop .inv .long, ap length (entry .pre .1 .1 .1), length-list slots (λ _. 0))
 
 returns : tie.Need-returns Inv-loop μ-loop
-returns c = tallied-end (c .before .loop .inv .1) (c .before .loop .inv .0) (c .loop-test .left)
+returns c = tallied-end (c .before .loop .inv) (c .loop-test .left)
 
 pub tally-sales-spec : {M : Type 1} → statement M
 tally-sales-spec =
