@@ -1,28 +1,21 @@
 // The first fault of a call that clears a market, in the order of document 01's table.
 use crate::scans;
 use model::answers::Verdict;
+use model::limits;
 use model::limits::MAX_AMOUNT;
 use model::limits::MAX_CAPACITY;
-use model::limits::MAX_GUESTS;
 use model::limits::MAX_PRICE;
-use model::limits::MAX_STATIONS;
 use model::refusal::Refusal;
 ghost use Prim.Native.Nat.{_*_, _<_, _≤_};
 ghost use mathlib.Core.Bool.{not};
 ghost use mathlib.Core.Path.{_≡_};
 ghost use Rattle.model.specs.Limits.{maxGuests, maxStations};
-ghost use Rattle.model.specs.Counting.{_<?_, _=?_, _or_};
+ghost use Rattle.model.specs.Counting.{_=?_, _or_};
 ghost use Rattle.model.specs.Numbers.{answerOfVerdict};
 ghost use Rattle.model.specs.Refusals.{firstFault};
 ghost use Rattle.model.specs.market.Faults.{values, clearingFaults};
 ghost use Rattle.model.specs.market.Market.{regular, tables};
 ghost use Rattle.model.specs.market.Outcome.{results};
-
-fn bad_counts(n: usize, m: usize) -> bool
-    ensures { λ r. ⌜ r ≡ (maxGuests <? n or m =? 0 or maxStations <? m) ⌝ }
-{
-    (MAX_GUESTS < n) | (m == 0) | (MAX_STATIONS < m)
-}
 
 fn bad_lengths(n: usize, m: usize, bays: usize, bids: usize, width: usize) -> bool
     requires { ⌜ (n ≤ maxGuests) × (m ≤ maxStations) ⌝ }
@@ -72,7 +65,7 @@ pub fn first_fault(
 {
     let n = amounts.len();
     let m = asks.len();
-    if bad_counts(n, m) {
+    if limits::counts_out_of_range(n, m) {
         return Verdict::Refused(Refusal::CountsOutOfRange);
     }
     if bad_lengths(n, m, bays.len(), bids.len(), width) {

@@ -9,16 +9,16 @@ use Rattle.clearing.proofs.faults.first_fault.Tie as tie
 
 returns : tie.Need-returns
 unfolding clearingFaults counts lengths lent answerOfVerdict
-returns c = sym ((fault-here _ (sym (c .before .bad-counts .ensures) ∙ c .if1 .taken)))
+returns c = sym ((fault-here _ (sym (c .before .counts-out-of-range .ensures) ∙ c .if1 .taken)))
 
 bad-lengths-requires : tie.Need-bad-lengths-requires
-bad-lengths-requires c κs = let k = counted _ _ (sym (c .before .bad-counts .ensures) ∙ c .if1 .left) in (k .0, k .2)
+bad-lengths-requires c κs = let k = counted _ _ (sym (c .before .counts-out-of-range .ensures) ∙ c .if1 .left) in (k .0, k .2)
 
 returns-2 : tie.Need-returns-2
 unfolding clearingFaults counts lengths lent answerOfVerdict
 returns-2 c =
     sym ((fault-later _ _
-    (sym (c .before .before .before .bad-counts .ensures) ∙ c .before .before .if1 .left)
+    (sym (c .before .before .before .counts-out-of-range .ensures) ∙ c .before .before .if1 .left)
     ∙ fault-here _ (sym (c .before .bad-lengths .ensures) ∙ c .if2 .taken)))
 
 returns-3 : tie.Need-returns-3
@@ -26,8 +26,8 @@ unfolding clearingFaults counts lengths lent answerOfVerdict
 returns-3 c =
     let at-bad-lengths = c .before .before .before in
     let at-if1 = at-bad-lengths .before in
-    let at-bad-counts = at-if1 .before in
-    sym ((fault-later _ _ (sym (at-bad-counts .bad-counts .ensures) ∙ at-if1 .if1 .left)
+    let at-counts = at-if1 .before in
+    sym ((fault-later _ _ (sym (at-counts .counts-out-of-range .ensures) ∙ at-if1 .if1 .left)
     ∙ fault-later _ _ (sym (at-bad-lengths .bad-lengths .ensures) ∙ c .before .before .if2 .left)
     ∙ fault-here _ (sym (c .before .bad-lent .ensures) ∙ c .if3 .taken)))
 
@@ -37,9 +37,9 @@ returns-4 c =
     let at-if2 = c .before .before .before in
     let at-bad-lengths = at-if2 .before in
     let at-if1 = at-bad-lengths .before in
-    let at-bad-counts = at-if1 .before in
+    let at-counts = at-if1 .before in
     c .value-fault .ensures
-    ∙ sym ((fault-later _ _ (sym (at-bad-counts .bad-counts .ensures) ∙ at-if1 .if1 .left)
+    ∙ sym ((fault-later _ _ (sym (at-counts .counts-out-of-range .ensures) ∙ at-if1 .if1 .left)
     ∙ fault-later _ _ (sym (at-bad-lengths .bad-lengths .ensures) ∙ at-if2 .if2 .left)
     ∙ fault-later _ _ (sym (c .before .before .bad-lent .ensures) ∙ c .before .if3 .left)))
 
