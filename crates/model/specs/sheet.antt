@@ -1,5 +1,4 @@
 pub mod Content
 pub mod Fields
 pub mod Layout
-pub mod Over
 pub mod Rows

@@ -3,4 +3,3 @@ pub mod Lines
 pub mod MarketText
 pub mod Printed
 pub mod Text
-pub mod Writing

@@ -6,7 +6,7 @@ use lib.ListN.{take}
 use Rattle.model.specs.Counting.{list, joined}
 use Rattle.model.specs.sheet.Rows.{rowAt, askOf, baysOf, amountOf, bidOf}
 use Rattle.sheet.specs.declared.fields.Cursor.{Cursor}
-use Rattle.model.specs.sheet.Over.{over}
+use Rattle.sheet.specs.Over.{over}
 
 -- l with f 0, .., f (m - 1) at the places from base on
 unfoldable pub placed : (base m : ℕ) → (ℕ → ℕ) → List ℕ → List ℕ

@@ -1,3 +1,4 @@
 pub mod Filling
+pub mod Over
 pub mod Passes
 pub mod Taken

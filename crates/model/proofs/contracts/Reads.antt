@@ -3,9 +3,10 @@ use Prim.Native.Nat.{ℕ, _*_, _≤_}
 use mathlib.Core.Bool.{false, not}
 use mathlib.Core.List.{List, _∷_}
 use mathlib.Core.Path.{_≡_, refl, sym, ap, ap₂, _∙_}
+use native.Mathlib.Nat.{le-refl}
 use native.Mathlib.Omega.{arith}
-use lib.ListN.{length, take, drop}
-use lib.Seq.{take-at}
+use lib.ListN.{length, take}
+use lib.Seq.{paste, take-at, take-length, length-take-le}
 use Rattle.model.specs.Limits.{maxGuests, maxStations}
 use Rattle.model.specs.Counting.{_=?_, _or_}
 use Rattle.model.specs.market.Shape.{Shaped}
@@ -16,7 +17,6 @@ use Rattle.model.proofs.Counting.{length-list}
 use Rattle.model.proofs.Tests.{is-eq, neither}
 use Rattle.model.proofs.Refusals.{fault-later, no-fault, giving-accepted, giving-refused, updated-accepted}
 use Rattle.model.specs.sheet.Rows.{bidOf}
-use Rattle.model.specs.sheet.Over.{over}
 use Rattle.model.proofs.sheet.Joined.{joined-length}
 use Rattle.model.specs.sheet.Content.{stations, tablesOf, sheetFaults, readSheet}
 use Rattle.model.specs.declared.answers.Reading.the-variants.{Read, Refused}
@@ -48,9 +48,9 @@ pub room : {s : List ℕ} {n m : ℕ} {exit : LentTables} → ReadTables s n m e
 room {s} {n} {m} t =
     product-fits n m (omega (arith, t .shape .guests-most, t .n-is)) (omega (arith, t .shape .stations-most, t .m-is))
 
-take-over : (xs l y : List ℕ) (n : ℕ) → y ≡ over xs l → length xs ≡ n → take n y ≡ xs
-unfolding over
-take-over xs l y n e h = ap (take n) e ∙ take-at xs (drop (length xs) l) n h
+take-pasted : (xs l y : List ℕ) (n : ℕ) → y ≡ paste l 0 xs (length xs) → length xs ≡ n → take n y ≡ xs
+take-pasted xs l y n e h = ap (take n) e ∙ take-at _ _ n (omega (arith, length-take-le (length xs) xs (le-refl _)))
+    ∙ take-length xs
 
 pub lent-good :
     (a b c d : ℕ) → a ≡ 200 → b ≡ 40 → c ≡ 40 → d ≡ 8000
@@ -85,10 +85,10 @@ module _ (s : List ℕ) (entry exit : LentTables) (r : Reading) (k : Reads s ent
         };
         n-is = a-long;
         m-is = b-long;
-        amounts-are = take-over _ (entry .amounts) _ n (ap (λ l. l .amounts) full) a-long;
-        asks-are = take-over _ (entry .asks) _ m (ap (λ l. l .asks) full) b-long;
-        bays-are = take-over _ (entry .bays) _ m (ap (λ l. l .bays) full) c-long;
-        bids-are = take-over _ (entry .bids) _ (n * m) (ap (λ l. l .bids) full) d-long;
+        amounts-are = take-pasted _ (entry .amounts) _ n (ap (λ l. l .amounts) full) a-long;
+        asks-are = take-pasted _ (entry .asks) _ m (ap (λ l. l .asks) full) b-long;
+        bays-are = take-pasted _ (entry .bays) _ m (ap (λ l. l .bays) full) c-long;
+        bids-are = take-pasted _ (entry .bids) _ (n * m) (ap (λ l. l .bids) full) d-long;
       }
 
   -- a refused sheet, where the tables had the right lengths

@@ -5,6 +5,7 @@ use mathlib.Core.List.{List, _∷_}
 use mathlib.Core.Path.{_≡_, refl, sym, _∙_}
 use native.Mathlib.Omega.{arith}
 use lib.ListN.{length}
+use lib.Seq.{paste}
 use Rattle.model.specs.Counting.{_=?_, _or_, list, joined}
 use Rattle.model.specs.Refusals.{_gives_, accepted, refused, firstFault}
 use Rattle.model.proofs.market.Acceptance.{product-fits}
@@ -15,13 +16,16 @@ use Rattle.model.specs.Numbers.{number, answerOfReading}
 use Rattle.model.specs.declared.refusal.Refusal.{Refusal}
 use Rattle.model.specs.declared.refusal.Refusal.the-variants.{LentLengths}
 use Rattle.model.specs.sheet.Rows.{askOf, baysOf, amountOf, bidOf, rowsFaults}
-use Rattle.model.specs.sheet.Over.{over}
 use Rattle.model.specs.sheet.Content.{guests, stations, tablesOf, sheetFaults}
 use Rattle.model.specs.declared.answers.Reading.the-variants.{Read, Refused}
 use Rattle.model.specs.declared.answers.Reading.{Reading}
 use Rattle.model.proofs.sheet.Faults.{Sound}
 use Rattle.model.proofs.sheet.Answers.{Checked, told-refused}
 use Rattle.model.specs.contracts.Reads.{LentTables, lentTables, tableLengths, readVerdict, filled, Reads}
+
+-- xs over the first places of l
+abbrev pub first-places : (xs l : List ℕ) → List ℕ
+first-places xs l = paste l 0 xs (length xs)
 
 -- room for the table
 pub room-for : (n m k : ℕ) → n ≤ 200 → m ≤ 40 → k ≡ 8000 → n * m ≤ k
@@ -67,8 +71,8 @@ module _ (s a b c d : List ℕ) where
 
     pub read-all :
         (n m : ℕ) (a′ b′ c′ d′ : List ℕ) → firstFault (sheetFaults s) ≡ accepted tt → n ≡ guests s → m ≡ stations s
-        → a′ ≡ over (list n (amountOf s m)) a → b′ ≡ over (list m (askOf s)) b → c′ ≡ over (list m (baysOf s)) c
-        → d′ ≡ over (joined n (λ i. list m (bidOf s m i))) d → Reads s entry (Read n m) (lentTables a′ b′ c′ d′)
+        → a′ ≡ first-places (list n (amountOf s m)) a → b′ ≡ first-places (list m (askOf s)) b
+        → c′ ≡ first-places (list m (baysOf s)) c → d′ ≡ first-places (joined n (λ i. list m (bidOf s m i))) d → Reads s entry (Read n m) (lentTables a′ b′ c′ d′)
     unfolding answerOfReading filled tablesOf
     read-all n m a′ b′ c′ d′ e f g i j k l =
         let h : readVerdict entry s ≡ accepted tt = as-sheet ∙ e in

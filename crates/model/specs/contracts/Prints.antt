@@ -1,9 +1,9 @@
 -- A printed text in a lent buffer.
-use Prim.Native.Nat.{ℕ, _≤_}
+use Prim.Native.Nat.{ℕ, _≤_, min}
 use mathlib.Core.List.{List}
 use mathlib.Core.Path.{_≡_}
 use lib.ListN.{length}
-use Rattle.model.specs.text.Writing.{overlaid}
+use lib.Seq.{paste}
 
 -- a bound on the length of a printed text: the cut, 200 guests, 40 stations and the margin, each
 -- number taken as 20 digits
@@ -13,6 +13,6 @@ maxText = 20_093
 -- the contract of `print_market`, and of `report::print_clearing`: the buffer holds the text as far as it reaches, and
 -- the answer is the text's length
 pub record Prints (t out : List ℕ) (r : ℕ) (out′ : List ℕ) : Type 0 where
-  pub buffer-is : out′ ≡ overlaid t out
+  pub buffer-is : out′ ≡ paste out 0 t (min (length t) (length out))
   pub length-is : r ≡ length t
   pub fits : r ≤ maxText

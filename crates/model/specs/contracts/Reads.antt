@@ -4,12 +4,12 @@ use mathlib.Core.Bool.{not}
 use mathlib.Core.List.{List, _∷_}
 use mathlib.Core.Path.{_≡_}
 use lib.ListN.{length}
+use lib.Seq.{paste}
 use Rattle.model.specs.Limits.{maxGuests, maxStations}
 use Rattle.model.specs.Counting.{_=?_, _or_}
 use Rattle.model.specs.Numbers.{answerOfReading}
 use Rattle.model.specs.Refusals.{Row, _gives_, Verdict, firstFault, giving, updated}
 use Rattle.model.specs.market.Market.{Tables}
-use Rattle.model.specs.sheet.Over.{over}
 use Rattle.model.specs.sheet.Content.{guests, stations, sheetFaults, tablesOf}
 use Rattle.model.specs.declared.answers.Reading.{Reading}
 
@@ -37,10 +37,10 @@ readVerdict l s = firstFault
 -- the lent tables with a market over their first places
 unfoldable pub filled : Tables → LentTables → LentTables
 filled t l = record {
-  amounts = over (t .amounts) (l .amounts);
-  asks = over (t .asks) (l .asks);
-  bays = over (t .bays) (l .bays);
-  bids = over (t .bids) (l .bids);
+  amounts = paste (l .amounts) 0 (t .amounts) (length (t .amounts));
+  asks = paste (l .asks) 0 (t .asks) (length (t .asks));
+  bays = paste (l .bays) 0 (t .bays) (length (t .bays));
+  bids = paste (l .bids) 0 (t .bids) (length (t .bids));
 }
 
 -- a call of `read`: the lent tables at entry, the answer, the tables at exit

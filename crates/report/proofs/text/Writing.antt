@@ -1,14 +1,16 @@
 -- Laws of writing into a buffer: nothing, one byte, one text after another, and the whole.
-use Prim.Native.Nat.{ℕ, _+_, _-_, _<_, _≤_}
+use Prim.Native.Nat.{ℕ, _+_, _-_, _<_, _≤_, min}
 use mathlib.Core.List.{List, [], _∷_, _++_}
 use mathlib.Core.Logic.{⊎-elim}
-use mathlib.Core.Path.{_≡_, refl, sym, ap, _∙_}
+use mathlib.Core.Path.{_≡_, refl, sym, ap, ap₂, _∙_}
+use native.Mathlib.Nat.{zero-add, min-eq-left, min-eq-right}
 use native.Mathlib.Numerals.{add-one}
 use native.Mathlib.Omega.{arith}
 use lib.ListN.{getD, length, set, take, drop, length-set, length-append, length-take, length-drop, List·getD-append}
+use lib.ListN.{drop-of-length-le}
 use lib.Seq.{take-all, take-suc, getD-set-same, getD-set-other, getD-append-add, getD-take, getD-drop, ext-getD}
+use lib.Seq.{paste}
 use Rattle.model.proofs.Tests.{lt-or-le}
-use Rattle.model.specs.text.Writing.{overlaid}
 use Rattle.report.specs.Wrote.{Wrote}
 
 pub wrote-none : (l : List ℕ) (p : ℕ) → Wrote l p [] l p
@@ -58,9 +60,8 @@ pub wrote-word :
 wrote-word w k a h = rw (take-all k w h) at a
 
 -- the whole text from the start
-pub wrote-all : (l t l′ : List ℕ) (q : ℕ) → Wrote l 0 t l′ q → l′ ≡ overlaid t l
-unfolding overlaid
-wrote-all l t l′ q w = ext-getD 0 l′ _ (w .same ∙ sym long) at
+wrote-over : (l t l′ : List ℕ) (q : ℕ) → Wrote l 0 t l′ q → l′ ≡ take (length l) t ++ drop (length t) l
+wrote-over l t l′ q w = ext-getD 0 l′ _ (w .same ∙ sym long) at
   where
     long : length (take (length l) t ++ drop (length t) l) ≡ length l
     long =
@@ -87,3 +88,24 @@ wrote-all l t l′ q w = ext-getD 0 l′ _ (w .same ∙ sym long) at
         ∙ sym (getD-append-add (take (length l) t) (drop (length t) l) (i - length t) 0)
         ∙ ap (λ x. getD (take (length l) t ++ drop (length t) l) x 0) f)
         (lt-or-le i (length t))
+
+-- by the kit's `paste`, as far as the buffer reaches
+reaches : (l t : List ℕ) → take (length l) t ++ drop (length t) l ≡ paste l 0 t (min (length t) (length l))
+reaches l t = ⊎-elim longer shorter (lt-or-le (length l) (length t))
+  where
+    longer : length l < length t → take (length l) t ++ drop (length t) l ≡ paste l 0 t (min (length t) (length l))
+    longer g =
+        let h : length l ≤ length t = omega arith in
+        let all : length l ≤ 0 + min (length t) (length l) = omega (arith, min-eq-right h) in
+        ap₂ _++_ (ap (λ n. take n t) (sym (min-eq-right h)))
+        (drop-of-length-le l h ∙ sym (drop-of-length-le l all))
+
+    shorter : length t ≤ length l → take (length l) t ++ drop (length t) l ≡ paste l 0 t (min (length t) (length l))
+    shorter h =
+        let all : length t ≤ min (length t) (length l) = omega (arith, min-eq-left h) in
+        ap₂ _++_ (take-all (length l) t h ∙ sym (take-all _ t all))
+        (ap (λ n. drop n l) (sym (zero-add _ ∙ min-eq-left h)))
+
+pub wrote-all :
+    (l t l′ : List ℕ) (q : ℕ) → Wrote l 0 t l′ q → l′ ≡ paste l 0 t (min (length t) (length l))
+wrote-all l t l′ q w = wrote-over l t l′ q w ∙ reaches l t

@@ -2,17 +2,17 @@
 use Prim.Native.Nat.{ℕ, suc, _+_, _≤_, _<_}
 use mathlib.Core.List.{List, [], _∷_, _++_, append-assoc, append-nil}
 use mathlib.Core.Logic.{⊎-elim}
-use mathlib.Core.Path.{_≡_, refl, sym, ap, _∙_}
+use mathlib.Core.Path.{_≡_, refl, sym, ap, ap₂, _∙_}
 use native.Mathlib.Nat.{zero-add, suc-add}
 use native.Mathlib.Omega.{arith}
 use lib.ListN.{length, getD, take, drop, set, length-append, length-set, take-append-drop}
 use lib.Seq.{drop-cons, set-at, take-at, drop-at, drop-append-add, drop-drop, length-take-le, set-append-left}
-use lib.Seq.{getD-set-same, getD-set-other}
+use lib.Seq.{getD-set-same, getD-set-other, paste, take-length}
 use Rattle.model.specs.Counting.{list}
 use Rattle.model.proofs.Counting.{length-list, getD-list, list-cong, list-step}
 use Rattle.model.proofs.Loops.{is-list}
 use Rattle.model.proofs.Tests.{eq-or-ne}
-use Rattle.model.specs.sheet.Over.{over}
+use Rattle.sheet.specs.Over.{over}
 use Rattle.sheet.specs.Filling.{placed}
 
 set-append-add : (xs ys : List ℕ) (j a : ℕ) → set (xs ++ ys) (length xs + j) a ≡ xs ++ set ys j a
@@ -24,6 +24,11 @@ set-append-add (x ∷ xs) ys j a =
 pub record Filled (xs l₀ l : List ℕ) : Type 0 where
   pub same : length l ≡ length l₀
   pub is : l ≡ over xs l₀
+
+-- by the kit's `paste`
+pub over-pastes : (xs l : List ℕ) → over xs l ≡ paste l 0 xs (length xs)
+unfolding over
+over-pastes xs l = ap₂ _++_ (sym (take-length xs)) (ap (λ n. drop n l) (sym (zero-add (length xs))))
 
 filled-none : (l : List ℕ) → Filled [] l l
 unfolding over

@@ -9,7 +9,7 @@ use lib.ListN.{length}
 use Rattle.model.specs.Counting.{list, joined}
 use Rattle.model.specs.sheet.Rows.{rowAt, bidBy, bidOf}
 use Rattle.model.proofs.sheet.Rows.{MapTaken}
-use Rattle.model.specs.sheet.Over.{over}
+use Rattle.sheet.specs.Over.{over}
 use Rattle.sheet.specs.Filling.{placed}
 use Rattle.sheet.proofs.filling.Filled.{Filled, filled-start, filled-row}
 use Rattle.model.proofs.sheet.Joined.{joined-length}

@@ -10,6 +10,7 @@ use Rattle.model.proofs.sheet.Faults.{sheet-sound}
 use Rattle.model.proofs.sheet.Answers.{told-read}
 use Rattle.model.specs.contracts.Reads.{tableLengths}
 use Rattle.model.proofs.sheet.Tables.{lent-lengths, rows-good, room-for, refused-lent, refused-sheet, read-all}
+use Rattle.sheet.proofs.filling.Filled.{over-pastes}
 use Rattle.sheet.proofs.read.Statement.{statement}
 use Rattle.sheet.proofs.read.Tie as tie
 
@@ -74,8 +75,9 @@ returns-2 c =
     let g = got after-guests in
     let f = at-fill-stations .fill-stations .ensures in
     let r = at-fill-rows .fill-rows .ensures in
-    read-all _ _ _ _ _ (lengths else1) _ _ _ _ _ _ (g .0) (g .1) (g .2) (r .amounts-are) (f .asks-are)
-    (f .bays-are) (r .bids-are)
+    read-all _ _ _ _ _ (lengths else1) _ _ _ _ _ _ (g .0) (g .1) (g .2)
+    (r .amounts-are ∙ over-pastes _ _) (f .asks-are ∙ over-pastes _ _) (f .bays-are ∙ over-pastes _ _)
+    (r .bids-are ∙ over-pastes _ _)
 
 returns-3 : tie.Need-returns-3
 returns-3 c =
