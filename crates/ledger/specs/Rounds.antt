@@ -10,14 +10,23 @@ use Rattle.ledger.specs.declared.round.Round.{Round}
 -- a round that is refused adds 0 everywhere
 unfoldable pub refusing : Refusal → Round
 refusing r = record {
-  reply = reply.Refused r;
   charges = replicate maxGuests 0;
   sold = replicate maxStations 0;
   paid = replicate maxStations 0;
   margin = 0;
+  guests = 0;
+  stations = 0;
+  reply = reply.Refused r;
 }
 
--- a posted round of these lists
-unfoldable pub posted : (charges sold paid : List ℕ) (margin : ℕ) → Round
-posted charges sold paid margin =
-    record { reply = reply.Posted; charges = charges; sold = sold; paid = paid; margin = margin }
+-- a posted round of n guests and m stations with these lists
+unfoldable pub posted : (n m : ℕ) (charges sold paid : List ℕ) (margin : ℕ) → Round
+posted n m charges sold paid margin = record {
+  charges = charges;
+  sold = sold;
+  paid = paid;
+  margin = margin;
+  guests = n;
+  stations = m;
+  reply = reply.Posted;
+}

@@ -2,25 +2,27 @@
 use Prim.Native.Nat.{ℕ, _+_, _≤_, _<_}
 use mathlib.Core.Bool.{Bool, true, false, _||_}
 use mathlib.Core.List.{List, [], _∷_}
-use mathlib.Core.Path.{_≡_, refl, sym, _∙_}
+use mathlib.Core.Path.{_≡_, refl, sym, ap, _∙_}
 use native.Mathlib.Omega.{arith}
 use lib.ListN.{getD, length}
-use Rattle.model.specs.Limits.{maxAccount}
+use Rattle.model.specs.Limits.{maxGuests, maxStations, maxAccount}
 use Rattle.model.specs.declared.refusal.Refusal.{Refusal}
-use Rattle.model.specs.declared.refusal.Refusal.the-variants.{AccountOverLimit, RoundOutOfTurn}
+use Rattle.model.specs.declared.refusal.Refusal.the-variants.{AccountOverLimit, BookSize, RoundOutOfTurn}
 use Rattle.model.specs.Counting.{_<?_, _or_}
-use Rattle.model.specs.Refusals.{_gives_, firstFault}
-use Rattle.model.specs.book.Faults.{outOfTurn}
+use Rattle.model.specs.Refusals.{Row, _gives_, Verdict, accepted, refused, firstFault}
+use Rattle.model.specs.market.Faults.{outside}
+use Rattle.model.specs.book.Faults.{bookSize, outOfTurn}
 use Rattle.model.proofs.Tests.{lt-no, or-no}
 use Rattle.model.proofs.Counting.{some-no}
 use Rattle.model.proofs.Loops.{or-is}
+use Rattle.model.proofs.market.Acceptance.{inside}
 use Rattle.model.specs.contracts.Replies.{verdictOf}
-use Rattle.ledger.specs.Rounds.{refusing}
 use Rattle.model.specs.declared.answers.Reply.the-variants as reply
 use Rattle.ledger.specs.declared.round.Round.{Round}
+use Rattle.ledger.specs.declared.settling.Ruling.{Ruling}
 use Rattle.ledger.specs.Accounts.{plus, Addable}
 use Rattle.ledger.specs.Room.{exceeding}
-use Rattle.ledger.specs.Settling.{followed, ruled, keptRound, chosen, Settled}
+use Rattle.ledger.specs.Settling.{followed, noRoom, ruled, refusal, ruling, chosen, Settled}
 
 -- where no account exceeds, each sum is within the limit, so within 64 bits
 pub within :
@@ -37,53 +39,81 @@ all-fail a b c e =
     let h = or-no (a || b) c (sym (or-is (a || b) c) ∙ e) in
     (or-no a b (sym (or-is a b) ∙ h .0) .1, h .1)
 
-module _ (r : Round) (full : Bool) (round : ℕ) (guests : List ℕ) (house last : ℕ) where
+-- a book of the right size for a round of n guests and m stations
+pub sized :
+    (n m guests stations : ℕ) (a : Bool) → (a gives BookSize) ≡ bookSize n m guests stations → a ≡ false
+    → (guests ≤ maxGuests) × (m ≤ stations) × (stations ≤ maxStations)
+unfolding bookSize
+sized n m guests stations a e z =
+    let k : (outside n maxGuests guests or outside m maxStations stations) ≡ false = cc in
+    let h = or-no _ _ k in
+    (inside _ _ _ (h .0) .1, inside _ _ _ (h .1) .0, inside _ _ _ (h .1) .1)
+
+module _ (r : Round) (full : Bool) (stations round : ℕ) (guests : List ℕ) (house last : ℕ) where
   -- the code's test
   pub test-is :
       (crowded rich : Bool) → crowded ≡ exceeding guests (r .charges) → rich ≡ (maxAccount <? house + r .margin)
-      → (full || crowded || rich) ≡ (full or exceeding guests (r .charges) or maxAccount <? house + r .margin)
+      → (full || crowded || rich) ≡ noRoom r full guests house
+  unfolding noRoom
   test-is crowded rich p q = rw (← p, ← q, ← or-is full crowded) (or-is (full || crowded) rich)
 
-  -- the verdict, from what the code knows of its two tests
-  ruled-posted :
-      (late over : Bool) → r .reply ≡ reply.Posted → (late gives RoundOutOfTurn) ≡ outOfTurn round last
-      → (full or exceeding guests (r .charges) or maxAccount <? house + r .margin) ≡ over
-      → ruled r full round guests house last
-      ≡ firstFault ((late gives RoundOutOfTurn) ∷ (over gives AccountOverLimit) ∷ [])
+  -- the verdict, from what the code knows of its tests
+  pub ruled-refused : (x : Refusal) → r .reply ≡ reply.Refused x → ruled r full stations round guests house last ≡ refused x
   unfolding ruled verdictOf followed
-  ruled-posted late over e t o = rw (e, t, o)
+  ruled-refused x e = rw e
+
+  pub ruled-posted :
+      (size late over : Bool) → r .reply ≡ reply.Posted
+      → (size gives BookSize) ≡ bookSize (r .guests) (r .stations) (length guests) stations
+      → (late gives RoundOutOfTurn) ≡ outOfTurn round last → noRoom r full guests house ≡ over
+      → ruled r full stations round guests house last
+      ≡ firstFault ((size gives BookSize) ∷ (late gives RoundOutOfTurn) ∷ (over gives AccountOverLimit) ∷ [])
+  unfolding ruled verdictOf followed
+  ruled-posted size late over e b t o =
+      let rows : Row → Row → Bool → List Row = λ x y z. x ∷ y ∷ (z gives AccountOverLimit) ∷ [] in
+      ap (λ x. followed (verdictOf x) (rows (bookSize (r .guests) (r .stations) (length guests) stations)
+      (outOfTurn round last) (noRoom r full guests house))) e
+      ∙ ap (λ x. firstFault (rows x (outOfTurn round last) (noRoom r full guests house))) (sym b)
+      ∙ ap (λ x. firstFault (rows (size gives BookSize) x (noRoom r full guests house))) (sym t)
+      ∙ ap (λ x. firstFault (rows (size gives BookSize) (late gives RoundOutOfTurn) x)) o
+
+  pub refused-by :
+      (v : Verdict) (x : Refusal) (s : Ruling) → v ≡ refused x → s ≡ refusal x
+      → Settled v r round guests house last s guests house last
+  unfolding ruling chosen
+  refused-by v x s e q = rw e (record { ruling-is = q; guests-are = refl; house-is = refl; last-is = refl })
 
   pub settled-refused :
-      (x : Refusal) (s : Round) → r .reply ≡ reply.Refused x → s ≡ refusing x
-      → Settled (ruled r full round guests house last) r round guests house last s guests house last
-  unfolding ruled verdictOf followed keptRound chosen
-  settled-refused x s e q = rw e (record { round-is = q; guests-are = refl; house-is = refl; last-is = refl })
+      (x : Refusal) (s : Ruling) → r .reply ≡ reply.Refused x → s ≡ refusal x
+      → Settled (ruled r full stations round guests house last) r round guests house last s guests house last
+  settled-refused x s e q = refused-by _ x s (ruled-refused x e) q
 
-  pub settled-late :
-      (s : Round) (late : Bool) → r .reply ≡ reply.Posted
-      → (late gives RoundOutOfTurn) ≡ outOfTurn round last → late ≡ true
-      → s ≡ refusing RoundOutOfTurn
-      → Settled (ruled r full round guests house last) r round guests house last s guests house last
-  unfolding firstFault keptRound chosen
-  settled-late s late e t l q =
-      rw (ruled-posted late _ e t refl, l) (record { round-is = q; guests-are = refl; house-is = refl; last-is = refl })
+  module _ (size : Bool) (e : r .reply ≡ reply.Posted)
+      (b : (size gives BookSize) ≡ bookSize (r .guests) (r .stations) (length guests) stations) where
+    pub settled-size :
+        (s : Ruling) → size ≡ true → s ≡ refusal BookSize
+        → Settled (ruled r full stations round guests house last) r round guests house last s guests house last
+    unfolding firstFault outOfTurn
+    settled-size s z q = refused-by _ BookSize s (ruled-posted size _ _ e b refl refl ∙ rw z refl) q
 
-  pub settled-over :
-      (s : Round) (late : Bool) → r .reply ≡ reply.Posted
-      → (late gives RoundOutOfTurn) ≡ outOfTurn round last → late ≡ false
-      → (full or exceeding guests (r .charges) or maxAccount <? house + r .margin) ≡ true
-      → s ≡ refusing AccountOverLimit
-      → Settled (ruled r full round guests house last) r round guests house last s guests house last
-  unfolding firstFault keptRound chosen
-  settled-over s late e t l o q =
-      rw (ruled-posted late _ e t o, l) (record { round-is = q; guests-are = refl; house-is = refl; last-is = refl })
+    module _ (late : Bool) (z : size ≡ false) (t : (late gives RoundOutOfTurn) ≡ outOfTurn round last) where
+      pub settled-late :
+          (s : Ruling) → late ≡ true → s ≡ refusal RoundOutOfTurn
+          → Settled (ruled r full stations round guests house last) r round guests house last s guests house last
+      unfolding firstFault
+      settled-late s l q = refused-by _ RoundOutOfTurn s (ruled-posted size late _ e b t refl ∙ rw (z, l) refl) q
 
-  pub settled-posted :
-      (guests′ : List ℕ) (late : Bool) → r .reply ≡ reply.Posted
-      → (late gives RoundOutOfTurn) ≡ outOfTurn round last → late ≡ false
-      → (full or exceeding guests (r .charges) or maxAccount <? house + r .margin) ≡ false
-      → guests′ ≡ plus guests (r .charges)
-      → Settled (ruled r full round guests house last) r round guests house last r guests′ (house + r .margin) round
-  unfolding firstFault keptRound chosen
-  settled-posted guests′ late e t l o q =
-      rw (ruled-posted late _ e t o, l) (record { round-is = refl; guests-are = q; house-is = refl; last-is = refl })
+      pub settled-over :
+          (s : Ruling) → late ≡ false → noRoom r full guests house ≡ true → s ≡ refusal AccountOverLimit
+          → Settled (ruled r full stations round guests house last) r round guests house last s guests house last
+      unfolding firstFault
+      settled-over s l o q = refused-by _ AccountOverLimit s (ruled-posted size late true e b t o ∙ rw (z, l) refl) q
+
+      pub settled-posted :
+          (s : Ruling) (guests′ : List ℕ) (house′ : ℕ) → late ≡ false → noRoom r full guests house ≡ false
+          → s ≡ ruling accepted r → guests′ ≡ plus guests (r .charges) → house′ ≡ house + r .margin
+          → Settled (ruled r full stations round guests house last) r round guests house last s guests′ house′ round
+      unfolding chosen firstFault
+      settled-posted s guests′ house′ l o q g h =
+          rw (ruled-posted size late false e b t o, z, l)
+          (record { ruling-is = q; guests-are = g; house-is = h; last-is = refl })
