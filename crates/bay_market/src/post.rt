@@ -1,20 +1,20 @@
 // The posting of a round for other languages: include/bay_market.h.
 use model::account::StationAccount;
-use model::answers::Reply;
+use model::answers::Verdict;
 ghost use mathlib.Core.Path.{_≡_};
 ghost use Rattle.model.specs.market.Market.{tables};
-ghost use Rattle.model.specs.Refusals.{code};
-ghost use Rattle.model.specs.contracts.Replies.{verdictOf};
+ghost use Rattle.model.specs.Refusals.{numberOf};
+ghost use Rattle.model.specs.Numbers.{answerOfVerdict};
 ghost use Rattle.model.specs.book.Posting.{posting};
 ghost use Rattle.model.specs.book.LentBook.{book};
 ghost use Rattle.model.specs.contracts.PostsOut.{PostsOut};
 
-fn reply_number(reply: Reply) -> u8
-    ensures { λ k. ⌜ k ≡ code (verdictOf reply) ⌝ }
+fn reply_number(reply: Verdict) -> u8
+    ensures { λ k. ⌜ k ≡ numberOf (answerOfVerdict reply) ⌝ }
 {
     match reply {
-        Reply::Posted => 0,
-        Reply::Refused(refusal) => refusal.number(),
+        Verdict::Accepted => 0,
+        Verdict::Refused(refusal) => refusal.number(),
     }
 }
 

@@ -1,52 +1,47 @@
 -- One posting: the planned round, the settled one and the accounts after it are the plain book's step.
-use Prim.Native.Nat.{ℕ, _+_, _≤_, _<_}
+use Prim.Native.Nat.{ℕ, _+_, _≤_, _<_, min}
 use mathlib.Core.Bool.{Bool, true, false}
-use mathlib.Core.List.{List, [], _∷_, _++_, append-assoc}
+use mathlib.Core.List.{List, [], _∷_, _++_}
 use mathlib.Core.Logic.{⊎-elim}
-use mathlib.Core.Path.{_≡_, refl, sym, ap, subst, _∙_}
+use mathlib.Core.Path.{_≡_, refl, sym, ap, ap₂, subst, _∙_}
 use native.Mathlib.Omega.{arith}
-use lib.ListN.{getD, length, replicate, length-replicate, List·getD-eq-default, getD-replicate}
+use lib.ListN.{getD, length}
 use Rattle.model.specs.Limits.{maxGuests, maxStations, maxAccount}
-use Rattle.model.specs.declared.refusal.Refusal.the-variants.{AccountOverLimit}
 use Rattle.model.specs.Counting.{_<?_, _or_, only, any, list}
 use Rattle.model.specs.market.Market.{Tables}
 use Rattle.model.specs.market.Mechanism.{charged, sold, paid, margin}
 use Rattle.model.specs.market.Outcome.{seen, decided}
-use Rattle.model.specs.Refusals.{Row, _gives_, Verdict, accepted, refused, firstFault}
+use Rattle.model.specs.Refusals.{Row, _gives_, Verdict, accepted, refused, firstFault, updated}
 use Rattle.model.specs.book.Book.{Book, raised, entered}
 use Rattle.model.specs.book.Faults.{overLimit, bookSize, outOfTurn, postingFaults}
-use Rattle.model.specs.market.Faults.{marketFaults}
-use Rattle.model.proofs.Tests.{same-test, or-cases, or-left, or-right, or-no, lt-yes, is-lt, lt-or-le}
+use Rattle.model.specs.market.Faults.{outside, marketFaults, verdict}
+use Rattle.model.proofs.Tests.{same-test, or-cases, or-left, or-right, or-no, lt-yes, is-lt, not-lt, lt-or-le}
+use Rattle.model.proofs.Tests.{only-yes, only-no}
 use Rattle.model.proofs.Counting.{some-cong, some-mono, getD-list, list-cong}
 use Rattle.model.proofs.market.Acceptance.{inside}
-use Rattle.model.proofs.Refusals.{no-fault, no-faults, fault-first, fault-second}
-use Rattle.model.specs.contracts.Replies.{verdictOf}
-use Rattle.ledger.specs.Rounds.{posted, refusing}
-use Rattle.model.specs.declared.answers.Reply.the-variants as reply
+use Rattle.model.proofs.Refusals.{fault-here, no-fault, no-faults, fault-first, fault-second}
+use Rattle.model.specs.Numbers.{answerOfVerdict}
+use Rattle.model.specs.declared.answers.Verdict as declared
+use Rattle.model.specs.declared.answers.Verdict.the-variants as verdicts
+use Rattle.ledger.specs.Rounds.{posted}
 use Rattle.ledger.specs.declared.round.Round.{Round}
+use Rattle.ledger.specs.declared.settling.Ruling.{Ruling}
 use Rattle.ledger.specs.Accounts.{plus}
 use Rattle.ledger.specs.Room.{exceeding}
-use Rattle.ledger.specs.Settling.{followed, ruled, keptRound, chosen, Settled}
+use Rattle.ledger.specs.Settling.{followed, noRoom, ruled, Settled}
 use Rattle.model.specs.book.Records.{soldOf, paidOf}
-use Rattle.ledger.specs.Stations.{exceedingTo, creditedTo}
+use Rattle.ledger.specs.Stations.{soldTo, paidTo, exceedingTo, creditedTo}
 use Rattle.model.specs.declared.account.StationAccount.{StationAccount}
 use Rattle.model.proofs.book.Records.{length-sold, length-paid}
-use Rattle.ledger.proofs.stations.Stations.{exceeding-is, sold-credited, paid-credited, credited-nothing}
+use Rattle.ledger.proofs.stations.Stations.{exceeding-is, sold-credited, paid-credited}
 use Rattle.model.specs.book.Posting.{Posting, posting, toGuest, toSold, toPaid, toHouse}
-use Rattle.model.specs.book.PlainBook.{answer, settled, after}
+use Rattle.model.specs.book.PlainBook.{answer, after}
 use Rattle.model.specs.book.LentBook.{LentBook, book, plain}
 use Rattle.model.specs.contracts.Posted.{Posted}
 use Rattle.model.proofs.book.Accounts.{length-raised, getD-raised}
-use Rattle.ledger.specs.Plans.{adding, roundBy, earlyFaults, planned}
-use Rattle.ledger.proofs.planning.Planning.{replied}
+use Rattle.ledger.specs.Plans.{adding, roundBy, Planned}
 
 -- ---- accounts with what a round adds
-
--- nothing is added past the end of adds, nor by zeros
-zeros-at : (n k : ℕ) → _≡_ {A = ℕ} (getD (replicate n 0) k 0) 0
-zeros-at n k =
-    ⊎-elim (λ (l : k < n). getD-replicate {A = ℕ} n k 0 0 l)
-    (λ (l : n ≤ k). List·getD-eq-default (replicate n 0) 0 (rw length-replicate l)) (lt-or-le k n)
 
 -- a list of accounts no longer than what is added
 module _ (n : ℕ) (f : ℕ → ℕ) (xs : List ℕ) (size : ℕ) (small : length xs ≤ size) where
@@ -114,68 +109,114 @@ unfolding followed
 first-follows xs ys = go (firstFault xs) refl
   where
     go : (v : Verdict) → firstFault xs ≡ v → firstFault (xs ++ ys) ≡ followed (firstFault xs) ys
-    go accepted e = fault-second xs ys e ∙ ap (λ v. followed v ys) (sym e)
+    go (accepted _) e = fault-second xs ys e ∙ ap (λ v. followed v ys) (sym e)
     go (refused x) e = fault-first xs ys e ∙ ap (λ v. followed v ys) (sym e)
 
--- the round does not depend on its number
-same-round : (v : Verdict) (t : Tables) (n : ℕ) → roundBy v (posting t 0) ≡ roundBy v (posting t n)
-unfolding roundBy adding posted toGuest toSold toPaid toHouse
-same-round accepted t n = refl
-same-round (refused x) t n = refl
+-- ---- the round
+
+-- a reply that accepts is a posted one
+accepts-posted : (w : declared.Verdict) → answerOfVerdict w ≡ accepted tt → w ≡ verdicts.Accepted
+unfolding answerOfVerdict
+accepts-posted verdicts.Accepted e = refl
+accepts-posted (verdicts.Refused x) e = absurd (let z : _≡_ {A = ℕ} 0 1 = cc in omega arith)
+
+-- it does not depend on its number
+same-adding : (t : Tables) (n : ℕ) → adding (posting t 0) ≡ adding (posting t n)
+unfolding adding posted toGuest toSold toPaid toHouse
+same-adding t n = refl
+
+-- nothing is added past its stations
+none-past : (m k : ℕ) (f : ℕ → ℕ) → m ≤ k → only (k <? maxStations) (getD (list maxStations (λ j. only (j <? m) (f j))) k 0) ≡ 0
+none-past m k f h = ⊎-elim
+    (λ (l : k < maxStations).
+    only-yes _ _ (is-lt k maxStations l) ∙ getD-list maxStations _ k l ∙ only-no _ _ (not-lt k m h))
+    (λ (l : maxStations ≤ k). only-no _ _ (not-lt k maxStations l))
+    (lt-or-le k maxStations)
+
+module _ (p : Posting) where
+  no-sales : (k : ℕ) → length (p .tables .asks) ≤ k → soldTo (adding p) k ≡ 0
+  unfolding soldTo adding posted toSold
+  no-sales k h = none-past (length (p .tables .asks)) k (sold (seen (p .tables)) (decided (p .tables))) h
+
+  no-payments : (k : ℕ) → length (p .tables .asks) ≤ k → paidTo (adding p) k ≡ 0
+  unfolding paidTo adding posted toPaid
+  no-payments k h = none-past (length (p .tables .asks)) k (paid (seen (p .tables)) (decided (p .tables))) h
 
 -- a posting p to the lent book L
 module _ (p : Posting) (L : LentBook) where
   abbrev B : Book
   B = plain L
 
+  abbrev m : ℕ
+  m = length (p .tables .asks)
+
   abbrev early : List Row
-  early = earlyFaults (p .tables) (length (L .guests)) (length (L .stations))
+  early = marketFaults (p .tables)
+
+  wrong-size : Bool
+  wrong-size =
+      outside (length (p .tables .amounts)) maxGuests (length (L .guests))
+      or outside m maxStations (length (L .stations))
 
   late : Bool → List Row
-  late over = outOfTurn (p .round) (L .last) ∷ (over gives AccountOverLimit) ∷ []
+  late over = (wrong-size gives 13) ∷ outOfTurn (p .round) (L .last) ∷ (over gives 12) ∷ []
 
   after-limit : Bool
   after-limit = overLimit B or overLimit (entered (p .tables) (p .round) B)
 
   in-turn : postingFaults (p .tables) (p .round) B ≡ early ++ late after-limit
-  unfolding postingFaults earlyFaults late after-limit plain
-  in-turn = rw length-sold (sym (append-assoc (marketFaults (p .tables)) _ _))
+  unfolding postingFaults bookSize late wrong-size after-limit plain
+  in-turn = rw length-sold refl
 
   answer-is : answer B p ≡ followed (firstFault early) (late after-limit)
   unfolding answer
   answer-is = ap firstFault in-turn ∙ first-follows early (late after-limit)
 
-  early-accepted : answer B p ≡ accepted → firstFault early ≡ accepted
+  parts : answer B p ≡ accepted tt → (firstFault early ≡ accepted tt) × (firstFault (late after-limit) ≡ accepted tt)
   unfolding answer
-  early-accepted e = no-faults early (late after-limit) (sym (ap firstFault in-turn) ∙ e) .0
+  parts e = no-faults early (late after-limit) (sym (ap firstFault in-turn) ∙ e)
 
-  -- the book is no larger than a round
-  sizes : firstFault early ≡ accepted → (length (L .guests) ≤ maxGuests) × (length (L .stations) ≤ maxStations)
-  unfolding earlyFaults bookSize
+  -- the book is no larger than a round, and has the market's stations
+  abbrev Sized : Type 0
+  Sized = (length (L .guests) ≤ maxGuests) × (m ≤ length (L .stations)) × (length (L .stations) ≤ maxStations)
+
+  sizes : wrong-size ≡ false → Sized
+  unfolding wrong-size
   sizes e =
-      let (size, _) = no-fault _ _ _ (no-faults (marketFaults (p .tables)) _ e .1) in
-      let (guest-size, station-size) = or-no _ _ size in
-      (inside _ _ _ guest-size .1, inside _ _ _ station-size .1)
+      let (guest-size, station-size) = or-no _ _ e in
+      (inside _ _ _ guest-size .1, inside _ _ _ station-size .0, inside _ _ _ station-size .1)
 
-  module _ (z : (length (L .guests) ≤ maxGuests) × (length (L .stations) ≤ maxStations)) where
+  -- the last test counts only where the size is right
+  late-cong : (a b : Bool) → (Sized → a ≡ b) → firstFault (late a) ≡ firstFault (late b)
+  unfolding late firstFault
+  late-cong a b h = go wrong-size refl
+    where
+      go :
+          (w : Bool) → wrong-size ≡ w
+          → firstFault ((wrong-size gives 13) ∷ outOfTurn (p .round) (L .last) ∷ (a gives 12) ∷ [])
+          ≡ firstFault ((wrong-size gives 13) ∷ outOfTurn (p .round) (L .last) ∷ (b gives 12) ∷ [])
+      go true e = fault-here (outOfTurn (p .round) (L .last) ∷ (a gives 12) ∷ []) e
+          ∙ sym (fault-here (outOfTurn (p .round) (L .last) ∷ (b gives 12) ∷ []) e)
+      go false e =
+          ap (λ x. firstFault ((wrong-size gives 13) ∷ outOfTurn (p .round) (L .last)
+          ∷ (x gives 12) ∷ [])) (h (sizes e))
+
+  module _ (z : Sized) where
     sold-size : length (soldOf (L .stations)) ≤ maxStations
-    sold-size = rw length-sold (z .1)
+    sold-size = rw length-sold (z .2)
 
     paid-size : length (paidOf (L .stations)) ≤ maxStations
-    paid-size = rw length-paid (z .1)
+    paid-size = rw length-paid (z .2)
 
     -- the code's tests, in the code's order
     room-is :
-        let r = adding p in
-        (exceedingTo r (length (L .stations)) (L .stations) or exceeding (L .guests) (r .charges) or maxAccount <?
-        L .house + r .margin) ≡ after-limit
-    unfolding adding posted toGuest toSold toPaid toHouse overLimit entered after-limit plain
+        noRoom (adding p) (exceedingTo (adding p) (length (L .stations)) (L .stations)) (L .guests) (L .house)
+        ≡ after-limit
+    unfolding noRoom adding posted toGuest toSold toPaid toHouse overLimit entered after-limit plain
     room-is = rw (
-      exceeding-is,
-      exceeding-raised (length (p .tables .asks)) (sold (seen (p .tables)) (decided (p .tables)))
-          (soldOf (L .stations)) maxStations sold-size,
-      exceeding-raised (length (p .tables .asks)) (paid (seen (p .tables)) (decided (p .tables)))
-          (paidOf (L .stations)) maxStations paid-size,
+      exceeding-is (adding p) (L .stations) (z .2),
+      exceeding-raised m (sold (seen (p .tables)) (decided (p .tables))) (soldOf (L .stations)) maxStations sold-size,
+      exceeding-raised m (paid (seen (p .tables)) (decided (p .tables))) (paidOf (L .stations)) maxStations paid-size,
       exceeding-raised (length (p .tables .amounts)) (charged (seen (p .tables)) (decided (p .tables)))
           (L .guests) maxGuests (z .0),
     )
@@ -191,84 +232,91 @@ module _ (p : Posting) (L : LentBook) where
       plus-raised _ _ (paidOf (L .stations)) maxStations paid-size,
     )
 
+  -- where the posting is accepted the size is right and no station's account is full
+  accepted-sized : answer B p ≡ accepted tt → Sized
+  unfolding late
+  accepted-sized e = sizes (no-fault _ _ _ (parts e .1) .0)
+
   room-left :
-      answer B p ≡ accepted → (z : (length (L .guests) ≤ maxGuests) × (length (L .stations) ≤ maxStations))
-      → exceedingTo (adding p) (length (L .stations)) (L .stations) ≡ false
-  unfolding answer late outOfTurn
-  room-left e z =
-      let (_, e0) = no-faults early (late after-limit) (sym (ap firstFault in-turn) ∙ e) in
+      answer B p ≡ accepted tt → exceedingTo (adding p) (length (L .stations)) (L .stations) ≡ false
+  unfolding late outOfTurn noRoom
+  room-left e =
+      let (_, e0) = no-fault _ _ _ (parts e .1) in
       let (_, e1) = no-fault _ _ _ e0 in
       let (limit, _) = no-fault _ _ _ e1 in
-      or-no _ _ (or-no _ _ (room-is z ∙ limit) .0) .0
+      or-no _ _ (or-no _ _ (room-is (accepted-sized e) ∙ limit) .0) .0
 
-  -- the planned round, under its number
-  planned-is : planned (p .tables) (length (L .guests)) (length (L .stations)) ≡ roundBy (firstFault early) p
-  unfolding planned
-  planned-is = same-round _ (p .tables) (p .round)
-
-  -- the code's verdict on it is the plain book's
-  module _ (r : Round) (full : Bool) (er : r ≡ planned (p .tables) (length (L .guests)) (length (L .stations)))
+  -- the code's verdict on the planned round is the plain book's
+  module _ (r : Round) (full : Bool) (er : Planned (p .tables) r)
       (ef : full ≡ exceedingTo r (length (L .stations)) (L .stations)) where
-    ruled-is : ruled r full (p .round) (L .guests) (L .house) (L .last) ≡ answer B p
-    unfolding ruled followed late roundBy
+    posted-round : firstFault early ≡ accepted tt → r ≡ adding p
+    unfolding verdict roundBy
+    posted-round e =
+        er .round-is
+        ∙ ap (λ w. roundBy w (posting (p .tables) 0)) (accepts-posted (r .reply) (er .says ∙ e))
+        ∙ same-adding (p .tables) (p .round)
+
+    abbrev verdict-on : Verdict
+    verdict-on = ruled r full (length (L .stations)) (p .round) (L .guests) (L .house) (L .last)
+
+    ruled-is : verdict-on ≡ answer B p
+    unfolding verdict ruled answerOfVerdict followed late wrong-size bookSize adding posted
     ruled-is = go (firstFault early) refl
       where
-        go :
-            (v : Verdict) → firstFault early ≡ v → ruled r full (p .round) (L .guests) (L .house) (L .last) ≡ answer B p
-        go (refused x) e =
-            let k : r ≡ roundBy (refused x) p = er ∙ planned-is ∙ ap (λ v. roundBy v p) e in
-            rw (answer-is, e, k, replied) refl
-        go accepted e =
-            let k : r ≡ roundBy accepted p = er ∙ planned-is ∙ ap (λ v. roundBy v p) e in
-            rw (answer-is, e, ef, k, replied, ← room-is (sizes e)) refl
+        go : (v : Verdict) → firstFault early ≡ v → verdict-on ≡ answer B p
+        go (refused x) e = rw (er .says, answer-is, e) refl
+        go (accepted _) e =
+            ap (λ x. ruled r x (length (L .stations)) (p .round) (L .guests) (L .house) (L .last)) ef
+            ∙ ap (λ r. ruled r (exceedingTo r (length (L .stations)) (L .stations)) (length (L .stations)) (p .round)
+            (L .guests) (L .house) (L .last)) (posted-round e)
+            ∙ late-cong
+            (noRoom (adding p) (exceedingTo (adding p) (length (L .stations)) (L .stations)) (L .guests) (L .house))
+            after-limit room-is
+            ∙ sym (answer-is ∙ ap (λ v. followed v (late after-limit)) e)
 
     -- what settling and the loop over the stations leave is the plain book's step
-    module _ (s : Round) (guests′ : List ℕ) (stations′ : List StationAccount) (house′ last′ : ℕ)
-        (t : Settled (ruled r full (p .round) (L .guests) (L .house) (L .last)) r (p .round) (L .guests) (L .house)
-        (L .last) s guests′ house′ last′)
-        (es : stations′ ≡ creditedTo s (length (L .stations)) (L .stations)) where
+    module _ (s : Ruling) (guests′ : List ℕ) (stations′ : List StationAccount) (house′ last′ : ℕ)
+        (t : Settled verdict-on r (p .round) (L .guests) (L .house) (L .last) s guests′ house′ last′)
+        (es : stations′ ≡ creditedTo r (min (length (L .stations)) (s .credits)) (L .stations)) where
       abbrev exit : LentBook
       exit = book guests′ stations′ house′ last′
 
-      -- the round that is added, and the book at exit, by the verdict
+      -- the book at exit, by the verdict
       left-by :
           (v : Verdict) → answer B p ≡ v
-          → Settled v r (p .round) (L .guests) (L .house) (L .last) s guests′ house′ last′
-          → (s ≡ roundBy v p) × (plain exit ≡ settled v B p)
-      unfolding keptRound chosen roundBy settled plain entered adding posted refusing toHouse
-      left-by accepted e h =
-          let f = early-accepted e in
-          let z = sizes f in
-          let k : r ≡ adding p = er ∙ planned-is ∙ ap (λ v. roundBy v p) f in
-          let q : s ≡ adding p = h .round-is ∙ k in
-          let o = room-left e z in
-          let stations-are : stations′ ≡ creditedTo (adding p) (length (L .stations)) (L .stations) = es
-          ∙ ap (λ r. creditedTo r (length (L .stations)) (L .stations)) q in
+          → Settled v r (p .round) (L .guests) (L .house) (L .last) s guests′ house′ last′ → plain exit ≡ updated v (entered (p .tables) (p .round) B) B
+      unfolding updated plain entered adding posted toHouse creditedTo
+      left-by (accepted _) e h =
+          let z = accepted-sized e in
+          let k : r ≡ adding p = posted-round (parts e .0) in
+          let o = room-left e in
+          let few : min (length (L .stations)) (s .credits) ≡ m =
+          omega (arith, h .credits-are, ap (λ r. r .stations) k, z .1) in
+          let stations-are : stations′ ≡ creditedTo (adding p) m (L .stations) =
+          es ∙ ap₂ (λ r n. creditedTo r n (L .stations)) k few in
           let guests-are = h .guests-are ∙ ap (λ r. plus (L .guests) (r .charges)) k ∙ plus-adding z .0 in
-          let sold-is = ap soldOf stations-are ∙ sold-credited (adding p) (L .stations) o ∙ plus-adding z .1 in
-          let paid-is = ap paidOf stations-are ∙ paid-credited (adding p) (L .stations) o ∙ plus-adding z .2 in
-          let house-is = h .house-is ∙ ap (λ r. L .house + r .margin) k in (
-            q,
-            λ x. record
-                { guests = guests-are x; sold = sold-is x; paid = paid-is x; house = house-is x; last = h .last-is x },
-          )
+          let sold-is = ap soldOf stations-are ∙ sold-credited (adding p) (L .stations) m (z .1) (z .2) o (no-sales p)
+          (no-payments p) ∙ plus-adding z .1 in
+          let paid-is = ap paidOf stations-are ∙ paid-credited (adding p) (L .stations) m (z .1) (z .2) o (no-sales p)
+          (no-payments p) ∙ plus-adding z .2 in
+          let house-is = h .house-is ∙ ap (λ r. L .house + r .margin .0) k in
+          λ x. record { guests = guests-are x; sold = sold-is x; paid = paid-is x; house = house-is x; last = h .last-is x }
       left-by (refused x) e h =
-          let stations-are : stations′
-          ≡ L .stations = es ∙ ap (λ r. creditedTo r (length (L .stations)) (L .stations)) (h .round-is)
-          ∙ credited-nothing (refusing x) (L .stations) (zeros-at maxStations) (zeros-at maxStations) in (
-            h .round-is,
-            λ y. record {
-              guests = h .guests-are y;
-              sold = soldOf (stations-are y);
-              paid = paidOf (stations-are y);
-              house = h .house-is y;
-              last = h .last-is y;
-            },
-          )
+          let none : min (length (L .stations)) (s .credits) ≡ 0 = omega (arith, h .credits-are) in
+          let stations-are : stations′ ≡ L .stations = es ∙ ap (λ n. creditedTo r n (L .stations)) none in
+          λ y. record {
+            guests = h .guests-are y;
+            sold = soldOf (stations-are y);
+            paid = paidOf (stations-are y);
+            house = h .house-is y;
+            last = h .last-is y;
+          }
 
-      pub posts : Posted L p (verdictOf (s .reply)) exit
+      pub posts : Posted L p (answerOfVerdict (s .reply)) exit
       unfolding after
       posts =
-          let (q, left) = left-by (answer B p) refl (subst
-          (λ v. Settled v r (p .round) (L .guests) (L .house) (L .last) s guests′ house′ last′) ruled-is t) in
-          record { answered = ap (λ r. verdictOf (r .reply)) q ∙ replied (answer B p) p; left = left }
+          let h = subst (λ v. Settled v r (p .round) (L .guests) (L .house) (L .last) s guests′ house′ last′) ruled-is t in
+          record {
+            answered = h .says;
+            left = left-by (answer B p) refl h;
+          }

@@ -3,42 +3,46 @@ use Prim.Native.Nat.{ℕ, _+_}
 use mathlib.Core.Bool.{Bool}
 use mathlib.Core.List.{List, [], _∷_}
 use mathlib.Core.Path.{_≡_}
+use lib.ListN.{length}
 use Rattle.model.specs.Limits.{maxAccount}
-use Rattle.model.specs.declared.refusal.Refusal.the-variants.{AccountOverLimit}
+use Rattle.model.specs.declared.refusal.Refusal.{Refusal}
+use Rattle.model.specs.declared.answers.Verdict.the-variants as verdict
 use Rattle.model.specs.Counting.{_<?_, _or_}
-use Rattle.model.specs.Refusals.{Row, _gives_, Verdict, accepted, refused, firstFault}
-use Rattle.model.specs.book.Faults.{outOfTurn}
-use Rattle.model.specs.contracts.Replies.{verdictOf}
-use Rattle.ledger.specs.Rounds.{refusing}
+use Rattle.model.specs.Refusals.{Row, _gives_, Verdict, accepted, refused, firstFault, updated}
+use Rattle.model.specs.book.Faults.{bookSize, outOfTurn}
+use Rattle.model.specs.Numbers.{answerOfVerdict}
 use Rattle.ledger.specs.declared.round.Round.{Round}
+use Rattle.ledger.specs.declared.settling.Ruling.{Ruling}
 use Rattle.ledger.specs.Accounts.{plus}
 use Rattle.ledger.specs.Room.{exceeding}
 
 -- a verdict, and that of the rows that follow where it accepts
 unfoldable pub followed : Verdict → List Row → Verdict
-followed accepted rows = firstFault rows
+followed (accepted _) rows = firstFault rows
 followed (refused x) rows = refused x
 
--- the verdict on round r and its number, where `full` says that some station's account has no room
-unfoldable pub ruled : Round → (full : Bool) (round : ℕ) (guests : List ℕ) (house last : ℕ) → Verdict
-ruled r full round guests house last = followed (verdictOf (r .reply))
-    (outOfTurn round last
-    ∷ ((full or exceeding guests (r .charges) or maxAccount <? house + r .margin) gives AccountOverLimit) ∷ [])
+-- some account would be above its limit, where `full` says that of the stations'
+unfoldable pub noRoom : Round → (full : Bool) (guests : List ℕ) (house : ℕ) → Bool
+noRoom r full guests house = full or exceeding guests (r .charges) or maxAccount <? house + r .margin .0
 
--- what is kept of r by a verdict, and of two values of a lent place
-unfoldable pub keptRound : Verdict → Round → Round
-keptRound accepted r = r
-keptRound (refused x) r = refusing x
+-- the verdict on round r and its number, for a book with so many stations
+unfoldable pub ruled : Round → (full : Bool) (stations round : ℕ) (guests : List ℕ) (house last : ℕ) → Verdict
+ruled r full stations round guests house last = followed (answerOfVerdict (r .reply))
+    (bookSize (r .guests) (r .stations) (length guests) stations
+    ∷ outOfTurn round last
+    ∷ (noRoom r full guests house gives 12)
+    ∷ [])
 
-unfoldable pub chosen {ℓ} : {A : Type ℓ} → Verdict → A → A → A
-chosen accepted new old = new
-chosen (refused x) new old = old
+-- a refused round is added to no station's account
+unfoldable pub refusal : Refusal → Ruling
+refusal x = record { reply = verdict.Refused x; credits = 0 }
 
--- what settling leaves: the round to add to the stations' accounts, the guests' accounts, the
+-- what settling leaves by a verdict: the ruling, which adds a posted round to its own stations, the guests' accounts, the
 -- house's and the last round
-pub record Settled (v : Verdict) (r : Round) (round : ℕ) (guests : List ℕ) (house last : ℕ) (r′ : Round)
+pub record Settled (v : Verdict) (r : Round) (round : ℕ) (guests : List ℕ) (house last : ℕ) (s : Ruling)
     (guests′ : List ℕ) (house′ last′ : ℕ) : Type 0 where
-  pub round-is : r′ ≡ keptRound v r
-  pub guests-are : guests′ ≡ chosen v (plus guests (r .charges)) guests
-  pub house-is : house′ ≡ chosen v (house + r .margin) house
-  pub last-is : last′ ≡ chosen v round last
+  pub says : answerOfVerdict (s .reply) ≡ v
+  pub credits-are : s .credits ≡ updated v (r .stations) 0
+  pub guests-are : guests′ ≡ updated v (plus guests (r .charges)) guests
+  pub house-is : house′ ≡ updated v (house + r .margin .0) house
+  pub last-is : last′ ≡ updated v round last

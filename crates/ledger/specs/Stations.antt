@@ -3,15 +3,22 @@ use Prim.Native.Nat.{ℕ, zero, suc, _+_}
 use mathlib.Core.Bool.{Bool, true, false}
 use mathlib.Core.List.{List}
 use lib.ListN.{getD, set}
-use Rattle.model.specs.Limits.{maxAccount}
-use Rattle.model.specs.Counting.{_<?_, _or_, some}
+use Rattle.model.specs.Limits.{maxStations, maxAccount}
+use Rattle.model.specs.Counting.{_<?_, _or_, only, some}
 use Rattle.ledger.specs.declared.round.Round.{Round}
 use Rattle.model.specs.book.Records.{account, accountAt}
 use Rattle.model.specs.declared.account.StationAccount.{StationAccount}
 
--- station j's account a would be above the limit with what the round adds
+-- what the round adds to station j's account
+unfoldable pub soldTo : Round → ℕ → ℕ
+soldTo r j = only (j <? maxStations) (getD (r .sold) j 0)
+
+unfoldable pub paidTo : Round → ℕ → ℕ
+paidTo r j = only (j <? maxStations) (getD (r .paid) j 0)
+
+-- station j's account a would be above the limit with it
 unfoldable pub exceedsWith : Round → ℕ → StationAccount → Bool
-exceedsWith r j a = maxAccount <? a .sold + getD (r .sold) j 0 or maxAccount <? a .paid + getD (r .paid) j 0
+exceedsWith r j a = maxAccount <? a .sold + soldTo r j or maxAccount <? a .paid + paidTo r j
 
 -- some account below n would be
 unfoldable pub exceedingTo : Round → (n : ℕ) → List StationAccount → Bool
@@ -20,7 +27,7 @@ exceedingTo r n l = some n (λ j. exceedsWith r j (accountAt l j))
 -- the account with what the round adds, or as it is where that would be above the limit
 unfoldable pub creditedBy : (over : Bool) → Round → ℕ → StationAccount → StationAccount
 creditedBy true r j a = a
-creditedBy false r j a = account (a .sold + getD (r .sold) j 0) (a .paid + getD (r .paid) j 0)
+creditedBy false r j a = account (a .sold + soldTo r j) (a .paid + paidTo r j)
 
 unfoldable pub credited : Round → ℕ → StationAccount → StationAccount
 credited r j a = creditedBy (exceedsWith r j a) r j a

@@ -1,25 +1,20 @@
-// Lists of accounts, and what is added to them.
-ghost use Prim.Native.Nat.{_+_};
+// The guests' accounts, and what is added to them.
+use model::money::Mills;
+ghost use Prim.Native.Nat.{_+_, _≤_};
 ghost use mathlib.Core.Path.{_≡_};
-ghost use lib.ListN.{getD};
+ghost use lib.ListN.{length};
+ghost use Rattle.model.specs.Limits.{maxGuests};
 ghost use Rattle.ledger.specs.Accounts.{plus, Addable};
 
-// What a list adds at place k, 0 past its end.
-pub fn at(adds: &[u64], k: usize) -> u64
-    ensures { λ r. ⌜ r ≡ getD (now (adds .entry)) k 0 ⌝ }
-{
-    if k < adds.len() { adds[k] } else { 0 }
-}
-
-// For `settling`, once `room::any_exceeds` has found room, which is what it requires.
-pub fn add(accounts: &mut [u64], adds: &[u64])
-    requires { ⌜ Addable (now accounts) (now adds) ⌝ }
-    ensures { λ _. ⌜ now (accounts .exit) ≡ plus (now (accounts .entry)) (now (adds .entry)) ⌝ }
+// Each account has room for its charge.
+pub fn add(accounts: &mut [u64], charges: &[u32; 200])
+    requires { ⌜ (length (now accounts) ≤ maxGuests) × Addable (now accounts) (now charges) ⌝ }
+    ensures { λ _. ⌜ now (accounts .exit) ≡ plus (now (accounts .entry)) (now (charges .entry)) ⌝ }
 {
     let mut k = 0;
     while k < accounts.len() {
-        let x = accounts[k];
-        accounts[k] = x + at(adds, k);
+        let account = Mills(accounts[k]);
+        accounts[k] = account.plus(Mills::wide(charges[k])).0;
         k += 1;
     }
 }

@@ -1,18 +1,31 @@
 // A round settled on the guests' accounts, the house's and the last round's number, or refused.
 use crate::accounts;
 use crate::room;
-use crate::round;
 use crate::round::Round;
-use model::answers::Reply;
+use model::answers::Verdict;
 use model::limits;
+use model::money::Mills;
 use model::refusal::Refusal;
 ghost use mathlib.Core.Path.{_≡_};
 ghost use Rattle.model.specs.Refusals.{_gives_};
-ghost use Rattle.model.specs.book.Faults.{outOfTurn};
-ghost use Rattle.ledger.specs.Settling.{ruled, Settled};
+ghost use Rattle.model.specs.book.Faults.{bookSize, outOfTurn};
+ghost use Rattle.ledger.specs.Settling.{refusal as refusalOf, ruled, Settled};
+
+// The reply to a posting, and how many stations' accounts it adds to.
+pub struct Ruling {
+    pub reply: Verdict,
+    pub credits: usize,
+}
+
+fn wrong_size(n: usize, m: usize, guests: usize, stations: usize) -> bool
+    ensures { λ r. ⌜ (r gives 13) ≡ bookSize n m guests stations ⌝ }
+{
+    ((guests < n) | (limits::MAX_GUESTS < guests))
+        | ((stations < m) | (limits::MAX_STATIONS < stations))
+}
 
 fn out_of_turn(round: u32, last: u32) -> bool
-    ensures { λ r. ⌜ (r gives Refusal.RoundOutOfTurn) ≡ outOfTurn round last ⌝ }
+    ensures { λ r. ⌜ (r gives 11) ≡ outOfTurn round last ⌝ }
 {
     if limits::MAX_ROUND <= last {
         return true;
@@ -20,36 +33,52 @@ fn out_of_turn(round: u32, last: u32) -> bool
     round != last + 1
 }
 
-// The round that is added: r itself, or one that adds nothing where r is refused, its number is out of turn, or an account has no room. `full` says that of the stations.
+fn refusing(refusal: Refusal) -> Ruling
+    ensures { λ r. ⌜ r ≡ refusalOf refusal ⌝ }
+{
+    Ruling {
+        reply: Verdict::Refused(refusal),
+        credits: 0,
+    }
+}
+
+// Adds the round, or refuses it: as it comes, for the size of the book, for its number, or where an account has no
+// room. `full` says that of the stations.
 pub fn settle(
     r: Round,
     full: bool,
+    stations: usize,
     round: u32,
     guests: &mut [u64],
     house: &mut u64,
     last: &mut u32,
-) -> Round
-    ensures { λ s. ⌜ Settled (ruled r full round (now (guests .entry)) (now (house .entry)) (now (last .entry))) r round (now (guests .entry)) (now (house .entry)) (now (last .entry))
+) -> Ruling
+    ensures { λ s. ⌜ Settled (ruled r full stations round (now (guests .entry)) (now (house .entry))
+        (now (last .entry))) r round (now (guests .entry)) (now (house .entry)) (now (last .entry))
         s (now (guests .exit)) (now (house .exit)) (now (last .exit)) ⌝ }
 {
     let reply = r.reply;
-    let charges = r.charges;
-    let margin = r.margin;
     match reply {
-        Reply::Refused(refusal) => round::refusing(refusal),
-        Reply::Posted => {
+        Verdict::Refused(refusal) => refusing(refusal),
+        Verdict::Accepted => {
+            if wrong_size(r.guests, r.stations, guests.len(), stations) {
+                return refusing(Refusal::BookSize);
+            }
             if out_of_turn(round, *last) {
-                return round::refusing(Refusal::RoundOutOfTurn);
+                return refusing(Refusal::RoundOutOfTurn);
             }
-            let crowded = room::any_exceeds(guests, &charges);
-            let rich = room::exceeds(*house, margin);
+            let crowded = room::any_exceeds(guests, &r.charges);
+            let rich = room::mills_exceed(Mills(*house), r.margin);
             if full | crowded | rich {
-                return round::refusing(Refusal::AccountOverLimit);
+                return refusing(Refusal::AccountOverLimit);
             }
-            accounts::add(guests, &charges);
-            *house = *house + margin;
+            accounts::add(guests, &r.charges);
+            *house = Mills(*house).plus(r.margin).0;
             *last = round;
-            r
+            Ruling {
+                reply,
+                credits: r.stations,
+            }
         }
     }
 }

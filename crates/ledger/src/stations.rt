@@ -1,8 +1,10 @@
 // The stations' accounts, a row of records: whether each has room for what a round adds, and the sums.
-use crate::accounts;
 use crate::room;
 use crate::round::Round;
 use model::account::StationAccount;
+use model::limits::MAX_STATIONS;
+use model::money::Mills;
+ghost use Prim.Native.Nat.{min};
 ghost use mathlib.Core.Path.{_≡_};
 ghost use lib.ListN.{length};
 ghost use Rattle.model.specs.Counting.{_or_};
@@ -12,10 +14,13 @@ ghost use Rattle.ledger.specs.Stations.{exceedsWith, exceedingTo, credit
 fn station_exceeds(account: StationAccount, r: Round, j: usize, before: bool) -> bool
     ensures { λ t. ⌜ t ≡ («before» or exceedsWith r j account) ⌝ }
 {
-    let sales = r.sold;
-    let payments = r.paid;
-    let sold = room::exceeds(account.sold, accounts::at(&sales, j));
-    let paid = room::exceeds(account.paid, accounts::at(&payments, j));
+    if MAX_STATIONS <= j {
+        let sold = room::kwh_exceed(account.sold, 0);
+        let paid = room::mills_exceed(Mills(account.paid), Mills(0));
+        return before | (sold | paid);
+    }
+    let sold = room::kwh_exceed(account.sold, r.sold[j]);
+    let paid = room::mills_exceed(Mills(account.paid), Mills(r.paid[j]));
     before | (sold | paid)
 }
 
@@ -31,25 +36,29 @@ pub fn stations_exceed(stations: &[StationAccount], r: Round) -> bool
     found
 }
 
-// Station j's account with what the round adds; as it is where that would be above its limit, which `settling::settle` refuses.
+// Station j's account with what the round adds; as it is where that would be above its limit.
 fn credited(account: StationAccount, r: Round, j: usize) -> StationAccount
     ensures { λ a. ⌜ a ≡ creditedOf r j account ⌝ }
 {
     if station_exceeds(account, r, j, false) {
         return account;
     }
-    let sales = r.sold;
-    let payments = r.paid;
-    let sold = account.sold + accounts::at(&sales, j);
-    let paid = account.paid + accounts::at(&payments, j);
-    StationAccount { sold, paid }
+    if MAX_STATIONS <= j {
+        return account;
+    }
+    StationAccount {
+        sold: account.sold + r.sold[j] as u64,
+        paid: Mills(account.paid).plus(Mills(r.paid[j])).0,
+    }
 }
 
-pub fn add_sales(stations: &mut [StationAccount], r: Round)
-    ensures { λ _. ⌜ now (stations .exit) ≡ creditedTo r (length (now (stations .entry))) (now (stations .entry)) ⌝ }
+// Adds the round to so many of the accounts.
+pub fn add_sales(stations: &mut [StationAccount], r: Round, credits: usize)
+    ensures { λ _. ⌜ now (stations .exit)
+        ≡ creditedTo r (min (length (now (stations .entry))) credits) (now (stations .entry)) ⌝ }
 {
     let mut j = 0;
-    while j < stations.len() {
+    while (j < stations.len()) & (j < credits) {
         stations[j] = credited(stations[j], r, j);
         j += 1;
     }

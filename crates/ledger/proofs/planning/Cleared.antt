@@ -1,6 +1,6 @@
 -- A call of `clear` on lists of the right lengths, and the round that it comes to.
 use Prim.Native.Nat.{ℕ, _+_, _-_, _<_, _≤_}
-use mathlib.Core.Bool.{true}
+use mathlib.Core.Bool.{Bool, true}
 use mathlib.Core.List.{List, _++_}
 use mathlib.Core.Logic.{⊎-elim}
 use mathlib.Core.Path.{_≡_, sym, ap, _∙_}
@@ -12,17 +12,19 @@ use Rattle.model.specs.Limits.{maxGuests, maxStations}
 use Rattle.model.specs.declared.refusal.Refusal.{Refusal}
 use Rattle.model.specs.declared.refusal.Refusal.the-variants.{CountsOutOfRange}
 use Rattle.model.specs.Counting.{_<?_, _=?_, _or_, only, list}
+use Rattle.model.specs.Numbers.{number, answerOfVerdict}
 use Rattle.model.specs.Refusals.{accepted, refused, firstFault}
+use Rattle.model.proofs.Refusals.{fault-here}
 use Rattle.model.specs.market.Market.{Tables, market, marketBy, screen, tables}
 use Rattle.model.specs.market.Mechanism.{charged, sold, paid}
 use Rattle.model.specs.market.Outcome.{Results, settle, seen, decided, outcome, results}
 use Rattle.model.specs.market.Faults.{counts, marketFaults, verdict}
 use Rattle.model.specs.claims.Readings.{RightLengths}
-use Rattle.model.proofs.Tests.{or-left, or-right, is-lt, lt-or-le, only-yes, only-no, not-lt}
+use Rattle.model.proofs.Tests.{is-lt, lt-or-le, only-yes, only-no, not-lt}
 use Rattle.model.proofs.Counting.{length-list, getD-list}
 use Rattle.model.proofs.Loops.{is-list}
 use Rattle.ledger.specs.Rounds.{posted, refusing}
-use Rattle.model.specs.declared.answers.Reply.the-variants as reply
+use Rattle.model.specs.declared.answers.Verdict.the-variants as verdicts
 use Rattle.ledger.specs.declared.round.Round.{Round}
 use Rattle.model.specs.book.Posting.{posting, toGuest, toSold, toPaid, toHouse}
 use Rattle.model.specs.contracts.Clears.{Clears}
@@ -31,7 +33,7 @@ use Rattle.model.specs.declared.answers.Clearing.the-variants as clearing
 use Rattle.model.specs.declared.money.UnitPrice.{UnitPrice}
 use Rattle.model.specs.declared.money.Mills.{Mills}
 use Rattle.model.proofs.contracts.Clears.{clear-refused, clear-cleared}
-use Rattle.ledger.specs.Plans.{adding, roundBy}
+use Rattle.ledger.specs.Plans.{adding, roundBy, Planned}
 
 -- a list of n in front of an array of zeros
 filled :
@@ -65,60 +67,63 @@ module _ (asks bays amounts bids : List ℕ) (width : ℕ) where
   abbrev t : Tables
   t = tables asks bays amounts bids width
 
-  too-many :
-      (maxGuests <? length amounts or length asks =? 0 or maxStations <? length asks) ≡ true
-      → verdict t ≡ refused CountsOutOfRange
-  unfolding verdict marketFaults counts firstFault
-  too-many e = rw e
+  -- a refused round
+  refused-plan : (x : Refusal) (r : Round) → r ≡ refusing x → verdict t ≡ refused (number x) → Planned t r
+  unfolding answerOfVerdict roundBy refusing
+  refused-plan x r p e = record {
+    says = ap (λ r. answerOfVerdict (r .reply)) p ∙ sym e;
+    round-is = p ∙ ap (λ r. roundBy (r .reply) (posting t 0)) (sym p);
+  }
 
-  pub many-guests :
-      (r : Round) → maxGuests < length amounts → r ≡ refusing CountsOutOfRange → r ≡ roundBy (verdict t) (posting t 0)
-  unfolding roundBy
-  many-guests r h e = rw (too-many (or-left _ _ (or-left _ _ (is-lt _ _ h)))) e
-
-  pub many-stations :
-      (r : Round) → maxStations < length asks → r ≡ refusing CountsOutOfRange → r ≡ roundBy (verdict t) (posting t 0)
-  unfolding roundBy
-  many-stations r h e = rw (too-many (or-right _ _ (is-lt _ _ h))) e
+  pub miscounted :
+      (r : Round) (b : Bool) → b ≡ (maxGuests <? length amounts or length asks =? 0 or maxStations <? length asks)
+      → b ≡ true → r ≡ refusing CountsOutOfRange → Planned t r
+  unfolding verdict marketFaults counts
+  miscounted r b e q p = refused-plan CountsOutOfRange r p (fault-here _ (sym e ∙ q))
 
   -- the outcome's lists, in arrays
   full-round :
       (charges sold paid : List ℕ) (m : ℕ) → length amounts ≤ maxGuests → length asks ≤ maxStations
       → m ≡ (outcome t) .margin
       → charges ≡ (outcome t) .results .charges → sold ≡ (outcome t) .results .sold → paid ≡ (outcome t) .results .paid
-      → posted (charges ++ drop (length amounts) (replicate maxGuests 0))
+      → posted (length amounts) (length asks) (charges ++ drop (length amounts) (replicate maxGuests 0))
       (sold ++ drop (length asks) (replicate maxStations 0)) (paid ++ drop (length asks) (replicate maxStations 0))
-      m ≡ roundBy accepted (posting t 0)
-  unfolding outcome settle posted adding roundBy toGuest toSold toPaid toHouse seen market marketBy screen
+      m ≡ adding (posting t 0)
+  unfolding outcome settle posted adding toGuest toSold toPaid toHouse seen market marketBy screen
   full-round charges sold′ paid′ m n s em ec es ep = λ i. record {
-    reply = reply.Posted;
     charges = (ap (λ l. l ++ drop (length amounts) (replicate maxGuests 0)) ec
         ∙ filled maxGuests (length amounts) (charged (seen t) (decided t)) n) i;
     sold = (ap (λ l. l ++ drop (length asks) (replicate maxStations 0)) es
         ∙ filled maxStations (length asks) (sold (seen t) (decided t)) s) i;
     paid = (ap (λ l. l ++ drop (length asks) (replicate maxStations 0)) ep
         ∙ filled maxStations (length asks) (paid (seen t) (decided t)) s) i;
-    margin = em i;
+    margin = record { 0 = em i };
+    guests = length amounts;
+    stations = length asks;
+    reply = verdicts.Accepted;
   }
 
   -- the call, on lists of the right lengths
   module _ (entry exit : Results) (answer : Clearing) (c : Clears t entry answer exit) (l : RightLengths t entry) where
-    pub clear-refuses :
-        (x : Refusal) (r : Round) → answer ≡ clearing.Refused x → r ≡ refusing x → r ≡ roundBy (verdict t) (posting t 0)
-    unfolding roundBy
-    clear-refuses x r q p = rw (clear-refused t entry exit answer c l x q) p
+    pub clear-refuses : (x : Refusal) (r : Round) → answer ≡ clearing.Refused x → r ≡ refusing x → Planned t r
+    clear-refuses x r q p = refused-plan x r p (clear-refused t entry exit answer c l x q)
 
     pub clear-posts :
         (k : UnitPrice) (m : Mills) (r : Round) → length amounts ≤ maxGuests → length asks ≤ maxStations
         → answer ≡ clearing.Cleared k m
         → r
-        ≡ posted (exit .charges ++ drop (length amounts) (replicate maxGuests 0))
+        ≡ posted (length amounts) (length asks) (exit .charges ++ drop (length amounts) (replicate maxGuests 0))
         (exit .sold ++ drop (length asks) (replicate maxStations 0))
         (exit .paid ++ drop (length asks) (replicate maxStations 0)) (m .0)
-        → r ≡ roundBy (verdict t) (posting t 0)
+        → Planned t r
+    unfolding answerOfVerdict roundBy posted
     clear-posts k m r n s q p =
         let d = clear-cleared t entry exit answer c l k m q in
         let x = d .results-are in
-        p
-        ∙ full-round (exit .charges) (exit .sold) (exit .paid) (m .0) n s (d .margin-is) (ap (λ r. r .charges) x)
-        (ap (λ r. r .sold) x) (ap (λ r. r .paid) x) ∙ ap (λ v. roundBy v (posting t 0)) (sym (d .is-accepted))
+        let full = p ∙ full-round (exit .charges) (exit .sold) (exit .paid) (m .0) n s (d .margin-is)
+        (ap (λ r. r .charges) x) (ap (λ r. r .sold) x) (ap (λ r. r .paid) x) in
+        let posted : r .reply ≡ verdicts.Accepted = ap (λ r. r .reply) p in
+        record {
+          says = ap answerOfVerdict posted ∙ sym (d .is-accepted);
+          round-is = full ∙ ap (λ w. roundBy w (posting t 0)) (sym posted);
+        }

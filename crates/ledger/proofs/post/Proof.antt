@@ -1,7 +1,7 @@
 -- A walk of the MIR. The row of stations is lent as a `&` for a lifetime that is made for the call of
 -- `stations_exceed`, and comes back as it was; `guests`, `house` and `last` go to `settle`, and the row to
 -- `add_sales`, each for good.
-use Prim.Native.Nat.{ℕ, _<_, _^_}
+use Prim.Native.Nat.{ℕ, _<_, _^_, min}
 use mathlib.Core.Path.{_≡_, refl, ap}
 use mathlib.Core.Bool.{Bool}
 use mathlib.Core.List.{List, [], _∷_}
@@ -53,11 +53,14 @@ use ghost.Atoms.{Atoms, sem}
 use sound.WpLaws.{FmC, fmOf, WpFn-mono}
 use Rattle.model.specs.market.Market.{tables}
 use Rattle.ledger.specs.declared.round.Round.{Round}
-use Rattle.model.specs.declared.answers.Reply.{Reply}
+use Rattle.model.specs.declared.answers.Verdict.{Verdict}
 use Rattle.ledger.proofs.round.Round as R
 use Rattle.ledger.proofs.round.Round.Laws as R′
-use Rattle.model.proofs.answers.Reply as S
-use Rattle.model.proofs.answers.Reply.Laws as S′
+use Rattle.model.proofs.answers.Verdict as S
+use Rattle.model.proofs.answers.Verdict.Laws as S′
+use Rattle.ledger.specs.declared.settling.Ruling.{Ruling}
+use Rattle.ledger.proofs.settling.Ruling as Q
+use Rattle.ledger.proofs.settling.Ruling.Laws as Q′
 use Rattle.ledger.specs.Settling.{ruled, Settled}
 use Rattle.ledger.proofs.settling.settle as settle
 use Rattle.ledger.proofs.settling.settle.Symbol as settle-def
@@ -76,7 +79,7 @@ use Rattle.ledger.proofs.stations.stations_exceed.Symbol.{name as #ledg
 use Rattle.ledger.proofs.stations.add_sales.Symbol.{name as #ledger·stations·add-sales}
 use Rattle.model.specs.book.Posting.{posting}
 use Rattle.model.specs.book.LentBook.{LentBook, book}
-use Rattle.ledger.specs.Plans.{planned}
+use Rattle.ledger.specs.Plans.{Planned}
 use Rattle.ledger.proofs.planning.plan as plan
 use Rattle.ledger.proofs.planning.plan.Symbol as plan-def
 use Rattle.ledger.proofs.planning.plan.Met as plan-thm
@@ -132,7 +135,7 @@ val x = sliceVal (x .ptr) (length (x .now))
 abbrev ptrVal : {X : Type 0} → RefT X → Val
 ptrVal x = vptr (x .ptr .0) (x .ptr .1)
 
-abbrev valS : Reply → Val
+abbrev valS : Verdict → Val
 valS r = EL.val S.the-type S′.the-laws r
 
 module _ {M : Type 1} (𝓤 : URA M) (H : Heap 𝓤) (A : Atoms 𝓤) (mem : Memory → SProp 𝓤) (run : Routine → Fun 𝓤) where
@@ -200,8 +203,8 @@ module _ {M : Type 1} (𝓤 : URA M) (H : Heap 𝓤) (A : Atoms 𝓤) (W : Given
   abbrev Post : Val → SProp 𝓤
   Post = walkOf 𝓤 H A f.ended stayed (f.clauses 𝓤 H A mem run) .post bound
 
-  abbrev D₀ : Round
-  D₀ = planned (tables (now asks) (now bays) (now amounts) (now bids) width) (length (now guests)) n
+  abbrev Plan₀ : Round → Type 0
+  Plan₀ d = Planned (tables (now asks) (now bays) (now amounts) (now bids) width) d
 
   abbrev Own-asks : Fml
   Own-asks = ShrSlice (named 0) κ₀ u32 .own asks (val asks ∷ [])
@@ -241,22 +244,13 @@ module _ {M : Type 1} (𝓤 : URA M) (H : Heap 𝓤) (A : Atoms 𝓤) (W : Given
   tokens₄ = (‵ (flft κ₀ q₀) ⊛ (‵ (flft κ₁ q₁) ⊛ (‵ (flft κ₂ q₂) ⊛ (‵ (flft κ₃ q₃) ⊛ ‵ ftrue))))
 
   abbrev PArg : Type 0
-  PArg = Nums × (Nums × (Nums × (Nums × (ℕ × (ℕ × (ℕ × Unit {0}))))))
+  PArg = Nums × (Nums × (Nums × (Nums × (ℕ × Unit {0}))))
 
   abbrev plan-args : PArg
-  plan-args = (asks, (bays, (amounts, (bids, (width, (length (now guests), (n, tt)))))))
+  plan-args = (asks, (bays, (amounts, (bids, (width, tt)))))
 
   abbrev plan-vals : Vals plan.signature κs₄
-  plan-vals = (
-    val asks ∷ [],
-    (
-      val bays ∷ [],
-      (
-        val amounts ∷ [],
-        (val bids ∷ [], (vint w64 width ∷ [], (vint w64 (length (now guests)) ∷ [], (vint w64 n ∷ [], tt)))),
-      ),
-    ),
-  )
+  plan-vals = (val asks ∷ [], (val bays ∷ [], (val amounts ∷ [], (val bids ∷ [], (vint w64 width ∷ [], tt)))))
 
   abbrev to-plan : Plan 𝓤 H A mem run .Ghost
   to-plan = ((κs₄, qs₄, tt, plan-args, plan-vals), tt)
@@ -265,13 +259,12 @@ module _ {M : Type 1} (𝓤 : URA M) (H : Heap 𝓤) (A : Atoms 𝓤) (W : Given
   plan-asked =
       qed W (tokens₄
       ∷ ‵ (owns (ShrSlice (named 0) κ₀ u32 ∷ ShrSlice (named 1) κ₁ u16 ∷ ShrSlice (named 2) κ₂ u16
-      ∷ ShrSlice (named 3) κ₃ u32 ∷ usize ∷ usize ∷ usize ∷ []) plan-args plan-vals) ∷ []) ∵ join ! $ frame ! $ done !
+      ∷ ShrSlice (named 3) κ₃ u32 ∷ usize ∷ []) plan-args plan-vals) ∷ []) ∵ join ! $ frame ! $ done !
 
   -- the market's slices are had twice: one goes to `plan`, and the other is kept
   goes-plan :
-      length (now guests) < 2 ^ 64 → n < 2 ^ 64
-      → ent 𝓤 (⋆ 𝓤 H A (‵ Market ∷ tokens₄ ∷ [])) (sep 𝓤 (Plan 𝓤 H A mem run .pre to-plan) (sem 𝓤 H A Market))
-  goes-plan guests-fit stations-fit =
+      ent 𝓤 (⋆ 𝓤 H A (‵ Market ∷ tokens₄ ∷ [])) (sep 𝓤 (Plan 𝓤 H A mem run .pre to-plan) (sem 𝓤 H A Market))
+  goes-plan =
       qed W (‵ Market ∷ tokens₄ ∷ []) ∵
       fsplit ! $ move ! (1 ∷ []) $ fsplit ! $ move ! (1 ∷ []) $ fsplit ! $ move ! (3 ∷ []) $
       use1 W (‵ Own-asks ⊛ ‵ Own-asks) (shr-slice-copy 𝓤 H A W (named 0) κ₀ u32 .twice asks (val asks ∷ [])) $
@@ -282,9 +275,7 @@ module _ {M : Type 1} (𝓤 : URA M) (H : Heap 𝓤) (A : Atoms 𝓤) (W : Given
       (shr-slice-copy 𝓤 H A W (named 0) κ₂ u16 .twice amounts (val amounts ∷ [])) $ split ! $ move ! (6 ∷ []) $
       use1 W (‵ Own-bids ⊛ ‵ Own-bids)
       (shr-slice-copy 𝓤 H A W (named 0) κ₃ u32 .twice bids (val bids ∷ [])) $ split ! $ nothing ! $
-      owned ! usize (Is usize) (uint-makes 𝓤 H A W w64) n _ (refl, stations-fit) $ fjoin ! $
-      owned ! usize (Is usize) (uint-makes 𝓤 H A W w64) (length (now guests)) _ (refl, guests-fit) $
-      fjoin ! $ owned ! usize (Is usize) (uint-makes 𝓤 H A W w64) width _ (refl, width-fits) $ fjoin ! $
+      owned ! usize (Is usize) (uint-makes 𝓤 H A W w64) width _ (refl, width-fits) $ fjoin ! $
       move ! (1 ∷ 0 ∷ []) $ fjoin ! $ move ! (2 ∷ 0 ∷ []) $ fjoin ! $ move ! (3 ∷ 0 ∷ []) $
       fjoin ! $ move ! (4 ∷ 0 ∷ []) $ fjoin ! $ move ! (5 ∷ 0 ∷ []) $
       use2 W (raw (Plan 𝓤 H A mem run .pre to-plan)) plan-asked $ frame ! $ move ! (1 ∷ 0 ∷ []) $
@@ -292,8 +283,8 @@ module _ {M : Type 1} (𝓤 : URA M) (H : Heap 𝓤) (A : Atoms 𝓤) (W : Given
       fjoin ! $ move ! (1 ∷ 0 ∷ []) $ fjoin ! $ done !
 
   plan-said :
-      (d : Round) → ent 𝓤 (ensured 𝓤 H A plan.ended (plan.clauses 𝓤 H A mem run) κs₄ plan-args tt d) (fact 𝓤 (d ≡ D₀))
-  plan-said d = exE 𝓤 _ (λ ws. snd∗ 𝓤 (sem 𝓤 H A (lasts plan.ended κs₄ plan-args ws)) (fact 𝓤 (d ≡ D₀)))
+      (d : Round) → ent 𝓤 (ensured 𝓤 H A plan.ended (plan.clauses 𝓤 H A mem run) κs₄ plan-args tt d) (fact 𝓤 (Plan₀ d))
+  plan-said d = exE 𝓤 _ (λ ws. snd∗ 𝓤 (sem 𝓤 H A (lasts plan.ended κs₄ plan-args ws)) (fact 𝓤 (Plan₀ d)))
 
   -- `stations_exceed`, on the row lent as a `&` for ν under the name δ
   abbrev OwnS : ℕ → GName → Fml
@@ -332,10 +323,10 @@ module _ {M : Type 1} (𝓤 : URA M) (H : Heap 𝓤) (A : Atoms 𝓤) (W : Given
   tokens₃ = (‵ (flft κ₄ q₄) ⊛ (‵ (flft κ₆ q₆) ⊛ (‵ (flft κ₇ q₇) ⊛ ‵ ftrue)))
 
   abbrev SArg : Type 0
-  SArg = Round × (Bool × (ℕ × (Nums × (Num × (Num × Unit {0})))))
+  SArg = Round × (Bool × (ℕ × (ℕ × (Nums × (Num × (Num × Unit {0}))))))
 
   abbrev settle-args : Round → SArg
-  settle-args d = (d, (exceedingTo d n ys, (round, (guests, (house, (last, tt))))))
+  settle-args d = (d, (exceedingTo d n ys, (n, (round, (guests, (house, (last, tt)))))))
 
   abbrev to-settle : Round → Val → Settle 𝓤 H A mem run .Ghost
   to-settle d v = (
@@ -348,7 +339,10 @@ module _ {M : Type 1} (𝓤 : URA M) (H : Heap 𝓤) (A : Atoms 𝓤) (W : Given
         v ∷ [],
         (
           vbool (exceedingTo d n ys) ∷ [],
-          (vint w32 round ∷ [], (val guests ∷ [], (ptrVal house ∷ [], (ptrVal last ∷ [], tt)))),
+          (
+            vint w64 n ∷ [],
+            (vint w32 round ∷ [], (val guests ∷ [], (ptrVal house ∷ [], (ptrVal last ∷ [], tt)))),
+          ),
         ),
       ),
     ),
@@ -356,37 +350,47 @@ module _ {M : Type 1} (𝓤 : URA M) (H : Heap 𝓤) (A : Atoms 𝓤) (W : Given
   )
 
   goes-settle :
-      (d : Round) (v : Val) → Is R.the-row d (v ∷ [])
+      (d : Round) (v : Val) → Is R.the-row d (v ∷ []) → n < 2 ^ 64
       → ent 𝓤 (⋆ 𝓤 H A (tokens₃ ∷ ‵ OwnG ∷ ‵ (fsep OwnH OwnL) ∷ [])) (Settle 𝓤 H A mem run .pre (to-settle d v))
-  goes-settle d v gd =
+  goes-settle d v gd n-fits =
       qed W (tokens₃ ∷ ‵ OwnG ∷ ‵ (fsep OwnH OwnL) ∷ []) ∵
       move ! (2 ∷ []) $ fsplit ! $ nothing ! $ move ! (2 ∷ 0 ∷ []) $ fjoin ! $ move ! (1 ∷ 0 ∷ []) $ fjoin ! $
       move ! (2 ∷ 0 ∷ []) $ fjoin ! $
       owned ! u32 (Is u32) (uint-makes 𝓤 H A W w32) round _ (refl, round-fits) $ fjoin ! $
+      owned ! usize (Is usize) (uint-makes 𝓤 H A W w64) n _ (refl, n-fits) $ fjoin ! $
       owned ! Boolean (Is Boolean) (bool-makes 𝓤 H A W) (exceedingTo d n ys)
       (vbool (exceedingTo d n ys) ∷ []) refl $ fjoin ! $
       owned ! R.the-row (Is R.the-row) ((LL.makes R.the-type R′.the-plain) 𝓤 H A) d _ gd $ fjoin ! $
       move ! (1 ∷ 0 ∷ []) $ join ! $ frame ! $ done !
 
-  -- `add_sales`, on the row at its own lifetime, with the round c at the machine value v
-  abbrev to-add : Round → Val → Add 𝓤 H A mem run .Ghost
-  to-add c v = (((κ₅, tt), (q₅, tt), tt, (x γ, (c, tt)), (s ∷ [], (v ∷ [], tt))), tt)
+  -- `add_sales`, on the row at its own lifetime, with the round d at the machine value v
+  abbrev to-add : Round → Val → Ruling → Add 𝓤 H A mem run .Ghost
+  to-add d v c = (
+    (
+      (κ₅, tt),
+      (q₅, tt),
+      tt,
+      (x γ, (d, (c .credits, tt))),
+      (s ∷ [], (v ∷ [], (vint w64 (c .credits) ∷ [], tt))),
+    ),
+    tt,
+  )
 
   goes-add :
-      (c : Round) (v : Val)
-      → ent 𝓤
-      (sep 𝓤 (sep 𝓤 (A .lft κ₅ q₅) (sem 𝓤 H A ftrue)) (sep 𝓤 (sem 𝓤 H A OwnA) (sem 𝓤 H A (R.the-row .own c (v ∷ [])))))
-      (Add 𝓤 H A mem run .pre (to-add c v))
-  goes-add c v =
-      qed W ((‵ (flft κ₅ q₅) ⊛ ‵ ftrue) ∷ ‵ OwnA ∷ ‵ (R.the-row .own c (v ∷ [])) ∷ []) ∵
-      nothing ! $ move ! (3 ∷ 0 ∷ []) $ fjoin ! $ move ! (2 ∷ 0 ∷ []) $ fjoin ! $ move ! (1 ∷ 0 ∷ []) $
-      join ! $ frame ! $ done !
+      (d : Round) (v : Val) → Is R.the-row d (v ∷ []) → (c : Ruling) → c .credits < 2 ^ 64
+      → ent 𝓤 (sep 𝓤 (sep 𝓤 (A .lft κ₅ q₅) (sem 𝓤 H A ftrue)) (sem 𝓤 H A OwnA))
+      (Add 𝓤 H A mem run .pre (to-add d v c))
+  goes-add d v gd c fits =
+      qed W ((‵ (flft κ₅ q₅) ⊛ ‵ ftrue) ∷ ‵ OwnA ∷ []) ∵
+      nothing ! $ owned ! usize (Is usize) (uint-makes 𝓤 H A W w64) (c .credits) _ (refl, fits) $ fjoin ! $
+      owned ! R.the-row (Is R.the-row) ((LL.makes R.the-type R′.the-plain) 𝓤 H A) d _ gd $ fjoin ! $
+      move ! (2 ∷ 0 ∷ []) $ fjoin ! $ move ! (1 ∷ 0 ∷ []) $ join ! $ frame ! $ done !
 
   -- what the calls leave
-  abbrev Left : Round → Round → List ℕ → ℕ → ℕ → Type 0
+  abbrev Left : Round → Ruling → List ℕ → ℕ → ℕ → Type 0
   Left d c guests′ house′ last′ =
-      Settled (ruled d (exceedingTo d n ys) round (now guests) (now house) (now last)) d round (now guests) (now house)
-      (now last) c guests′ house′ last′
+      Settled (ruled d (exceedingTo d n ys) n round (now guests) (now house) (now last)) d round (now guests)
+      (now house) (now last) c guests′ house′ last′
 
   abbrev entry : LentBook
   entry = book (now guests) ys (now house) (now last)
@@ -398,8 +402,9 @@ module _ {M : Type 1} (𝓤 : URA M) (H : Heap 𝓤) (A : Atoms 𝓤) (W : Given
       ∷ ‵ (fres (last .name) (u32 .coded .code last′)) ∷ []
 
   exits :
-      (d c : Round) (u : Val) (guests′ : List ℕ) (stations′ : List StationAccount) (house′ last′ : ℕ) → d ≡ D₀
-      → Left d c guests′ house′ last′ → stations′ ≡ creditedTo c n ys → Is R.the-row c (u ∷ [])
+      (d : Round) (c : Ruling) (u : Val) (guests′ : List ℕ) (stations′ : List StationAccount) (house′ last′ : ℕ)
+      → Plan₀ d
+      → Left d c guests′ house′ last′ → stations′ ≡ creditedTo d (min n (c .credits)) ys → Is Q.the-row c (u ∷ [])
       → length stations′ ≡ n → length guests′ ≡ length (now guests)
       → ent 𝓤 (⋆ 𝓤 H A (Had guests′ stations′ house′ last′)) (Post (valS (c .reply)))
   exits d c u guests′ stations′ house′ last′ e₀ e₂ e₃ is ls lg =
@@ -421,7 +426,7 @@ module _ {M : Type 1} (𝓤 : URA M) (H : Heap 𝓤) (A : Atoms 𝓤) (W : Given
       fjoin ! $ move ! (1 ∷ 0 ∷ []) $ fjoin ! $ move ! (1 ∷ 0 ∷ []) $ fjoin ! $
       move ! (1 ∷ 0 ∷ []) $ fjoin ! $ frame ! $ drop ! $ drop ! $
       owned ! S.the-row (Is S.the-row) (EL.makes S.the-type S′.the-plain 𝓤 H A) (c .reply) (valS (c .reply) ∷ [])
-      (LL.owed R.the-type R′.the-laws c _ is .0) $ done !
+      (LL.owed Q.the-type Q′.the-laws c _ is .0) $ done !
 
   module _ (C : Calls 𝓤 H) (Λ : Loops 𝓤 H) (fm : FmC 𝓤 H (W .laws) C)
       (known-plan : Triple 𝓤 (C #ledger·planning·plan) (Plan 𝓤 H A mem run))
@@ -442,154 +447,19 @@ module _ {M : Type 1} (𝓤 : URA M) (H : Heap 𝓤) (A : Atoms 𝓤) (W : Given
         ∷ MutRef (named 6) κ₆ u64 ∷ MutRef (named 7) κ₇ u32 ∷ []) a at) ∷ []) ∵
         enter ! C Λ code.function (val asks ∷ val bays ∷ val amounts ∷ val bids ∷ vint w64 width ∷ vint w32 round
         ∷ val guests ∷ s ∷ ptrVal house ∷ ptrVal last ∷ []) _ $
-        alloc1 ! (λ l0. alloc1 ! (λ l1. alloc1 ! (λ l2. alloc1 ! (λ l3. alloc1 ! (
-        λ l4. alloc1 ! (λ l5. alloc1 ! (λ l6. alloc1 ! (λ l7. alloc1 ! (λ l8.
-        alloc1 ! (λ l9. alloc1 ! (λ l10. alloc1 ! (λ l11. alloc1 ! (λ l12.
-        alloc1 ! (λ l13. alloc1 ! (λ l14. alloc1 ! (λ l15. alloc1 ! (λ l16.
-        alloc1 ! (λ l17. alloc1 ! (λ l18. alloc1 ! (
-        λ l19. alloc1 ! (λ l20. alloc1 ! (λ l21. alloc1 ! (λ l22. alloc1 ! (λ l23. alloc1 ! (λ l24. alloc0 ! $
+        alloc1 ! (λ l0. alloc1 ! (λ l1. alloc1 ! (λ l2. alloc1 ! (λ l3. alloc1 ! (λ l4. alloc1 ! (λ l5. alloc1 ! (λ l6. alloc1 ! (λ l7. alloc1 ! (λ l8. alloc1 ! (λ l9. alloc1 ! (λ l10. alloc1 ! (λ l11. alloc1 ! (λ l12. alloc1 ! (λ l13. alloc1 ! (λ l14. alloc1 ! (λ l15. alloc1 ! (λ l16. alloc1 ! (λ l17. alloc1 ! (λ l18. alloc1 ! (λ l19. alloc1 ! (λ l20. alloc1 ! (λ l21. alloc1 ! (λ l22. alloc1 ! (λ l23. alloc0 ! $
         params1 ! $
-        pass1 ! (init ! 46 refl (shr-slice-lawful 𝓤 H A W (named 0) κ₀ u32 .typed asks (val asks ∷ []) g-asks .0)) $
-        pass1 ! (init ! 44 refl (shr-slice-lawful 𝓤 H A W (named 1) κ₁ u16 .typed bays (val bays ∷ []) g-bays .0)) $
-        pass1 ! (init ! 42 refl
-        (shr-slice-lawful 𝓤 H A W (named 2) κ₂ u16 .typed amounts (val amounts ∷ []) g-amounts .0)) $
-        pass1 ! (init ! 40 refl (shr-slice-lawful 𝓤 H A W (named 3) κ₃ u32 .typed bids (val bids ∷ []) g-bids .0)) $
-        pass1 ! (init ! 38 refl (tt, record { fits = width-fits })) $
-        pass1 ! (init ! 36 refl (tt, record { fits = round-fits })) $
-        pass1 ! (init ! 34 refl (tt, (tt, (record { fits = gg .0 }, tt)))) $
-        pass1 ! (init ! 32 refl (tt, (tt, (record { fits = gn .0 }, tt)))) $ pass1 ! (init ! 30 refl (tt, tt)) $
-        pass1 ! (init ! 28 refl (tt, tt)) $ pass0 ! $
-        -- the counts; what the parameters own and their tokens, apart; `plan`
-        assigns ! (of-opd ! (load ! (from ! (fld ! refl (stop !))) (look-in ! 34 (sub ! 1 refl (whole !)))))
-        (from ! (stop !)) (init ! 20 refl (tt, record { fits = gg .0 })) $
-        assigns ! (of-opd ! (load ! (from ! (fld ! refl (stop !))) (look-in ! 32 (sub ! 1 refl (whole !)))))
-        (from ! (stop !)) (init ! 18 refl (tt, record { fits = gn .0 })) $ move ! (51 ∷ []) $
-        fsplit ! $ move ! (1 ∷ []) $ fsplit ! $ move ! (1 ∷ []) $ fsplit ! $ move ! (1 ∷ []) $ fsplit ! $
-        move ! (1 ∷ []) $ fsplit ! $ move ! (1 ∷ []) $ fsplit ! $ move ! (1 ∷ []) $ fsplit ! $
-        move ! (1 ∷ []) $ fsplit ! $ move ! (1 ∷ []) $ fsplit ! $ move ! (1 ∷ []) $ fsplit ! $ move ! (1 ∷ []) $
-        drop ! $ move ! (5 ∷ []) $ drop ! $ move ! (4 ∷ []) $ drop ! $ move ! (5 ∷ 4 ∷ []) $
-        fjoin ! $ move ! (5 ∷ 0 ∷ []) $ fjoin ! $ move ! (5 ∷ 0 ∷ []) $ fjoin ! $ move ! (55 ∷ []) $ split ! $
-        move ! (1 ∷ []) $ split ! $ move ! (1 ∷ []) $ split ! $ move ! (1 ∷ []) $ split ! $
-        move ! (1 ∷ []) $ split ! $ move ! (1 ∷ []) $ split ! $ move ! (2 ∷ 1 ∷ []) $ join ! $ nothing ! $
-        move ! (3 ∷ 0 ∷ []) $ join ! $ move ! (3 ∷ 0 ∷ []) $ join ! $ move ! (3 ∷ 0 ∷ []) $
-        join ! $ move ! (3 ∷ 0 ∷ []) $ join ! $ move ! (3 ∷ 0 ∷ []) $
-        use2 W (raw (Plan 𝓤 H A mem run .pre to-plan) ⊛ ‵ Market) (goes-plan (gg .0) (gn .0)) $ split ! $
-        calls-at ! fm (Plan 𝓤 H A mem run) known-plan to-plan (and-then ! (load ! (from ! (stop !)) (look ! 54 refl))
-        (and-then ! (load ! (from ! (stop !)) (look ! 52 refl)) (and-then !
-        (load ! (from ! (stop !)) (look ! 50 refl)) (and-then ! (load ! (from ! (stop !)) (look ! 48 refl))
-        (and-then ! (load ! (from ! (stop !)) (look ! 46 refl)) (and-then !
-        (load ! (from ! (stop !)) (look ! 28 refl))
-        (and-then ! (load ! (from ! (stop !)) (look ! 26 refl)) (no-more !)))))))) (
-        λ u₀. use1 W (later (some (λ (d : Round). (tokens₄ ⊛ ‵ (R.the-row .own d (u₀ ∷ []))) ⊛ raw
-        (ensured 𝓤 H A plan.ended (plan.clauses 𝓤 H A mem run) κs₄ plan-args tt d)))) (id⊢ 𝓤 _) $
-        await ! tt $
-        pick ! (λ d. split ! $ move ! (1 ∷ []) $ use1 W (raw (fact 𝓤 (d ≡ D₀))) (plan-said d) $
-        heard ! (d ≡ D₀) (λ e₀. split ! $ move ! (1 ∷ []) $
-        facts ! R.the-row (Is R.the-row) (shows 𝓤 H A R.the-row) d (u₀ ∷ []) (λ gd.
-        land ! (from ! (stop !)) (init ! 34 refl (LL.lawful R.the-type R′.the-laws 𝓤 H A W .typed d _ gd .0)) $
+        pass1 ! (init ! 44 refl (shr-slice-lawful 𝓤 H A W (named 0) κ₀ u32 .typed asks (val asks ∷ []) g-asks .0)) $ pass1 ! (init ! 42 refl (shr-slice-lawful 𝓤 H A W (named 1) κ₁ u16 .typed bays (val bays ∷ []) g-bays .0)) $ pass1 ! (init ! 40 refl (shr-slice-lawful 𝓤 H A W (named 2) κ₂ u16 .typed amounts (val amounts ∷ []) g-amounts .0)) $ pass1 ! (init ! 38 refl (shr-slice-lawful 𝓤 H A W (named 3) κ₃ u32 .typed bids (val bids ∷ []) g-bids .0)) $ pass1 ! (init ! 36 refl (tt, record { fits = width-fits })) $ pass1 ! (init ! 34 refl (tt, record { fits = round-fits })) $ pass1 ! (init ! 32 refl (tt, (tt, (record { fits = gg .0 }, tt)))) $ pass1 ! (init ! 30 refl (tt, (tt, (record { fits = gn .0 }, tt)))) $ pass1 ! (init ! 28 refl (tt, tt)) $ pass1 ! (init ! 26 refl (tt, tt)) $ pass0 ! $
+        -- what the parameters own and their tokens, apart; `plan`
+        move ! (49 ∷ []) $ fsplit ! $ move ! (1 ∷ []) $ fsplit ! $ move ! (1 ∷ []) $ fsplit ! $ move ! (1 ∷ []) $ fsplit ! $ move ! (1 ∷ []) $ fsplit ! $ move ! (1 ∷ []) $ fsplit ! $ move ! (1 ∷ []) $ fsplit ! $ move ! (1 ∷ []) $ fsplit ! $ move ! (1 ∷ []) $ fsplit ! $ move ! (1 ∷ []) $ fsplit ! $ move ! (1 ∷ []) $ drop ! $ move ! (5 ∷ []) $ drop ! $ move ! (4 ∷ []) $ drop ! $ move ! (5 ∷ 4 ∷ []) $ fjoin ! $ move ! (5 ∷ 0 ∷ []) $ fjoin ! $ move ! (5 ∷ 0 ∷ []) $ fjoin ! $ move ! (53 ∷ []) $ split ! $ move ! (1 ∷ []) $ split ! $ move ! (1 ∷ []) $ split ! $ move ! (1 ∷ []) $ split ! $ move ! (1 ∷ []) $ split ! $ move ! (1 ∷ []) $ split ! $ move ! (2 ∷ 1 ∷ []) $ join ! $ nothing ! $ move ! (3 ∷ 0 ∷ []) $ join ! $ move ! (3 ∷ 0 ∷ []) $ join ! $ move ! (3 ∷ 0 ∷ []) $ join ! $ move ! (3 ∷ 0 ∷ []) $ join ! $ move ! (3 ∷ 0 ∷ []) $ use2 W (raw (Plan 𝓤 H A mem run .pre to-plan) ⊛ ‵ Market) goes-plan $ split ! $ calls-at ! fm (Plan 𝓤 H A mem run) known-plan to-plan (and-then ! (load ! (from ! (stop !)) (look ! 52 refl)) (and-then ! (load ! (from ! (stop !)) (look ! 50 refl)) (and-then ! (load ! (from ! (stop !)) (look ! 48 refl)) (and-then ! (load ! (from ! (stop !)) (look ! 46 refl)) (and-then ! (load ! (from ! (stop !)) (look ! 44 refl)) (no-more !)))))) (λ u₀. use1 W (later (some (λ (d : Round). ((tokens₄) ⊛ ‵ (R.the-row .own d (u₀ ∷ []))) ⊛ raw (ensured 𝓤 H A plan.ended (plan.clauses 𝓤 H A mem run) κs₄ plan-args tt d)))) (id⊢ 𝓤 _) $ await ! tt $ pick ! (λ d. split ! $ move ! (1 ∷ []) $ use1 W (raw (fact 𝓤 (Plan₀ d))) (plan-said d) $ heard ! (Plan₀ d) (λ e₀. split ! $ move ! (1 ∷ []) $ facts ! R.the-row (Is R.the-row) (shows 𝓤 H A R.the-row) d (u₀ ∷ []) (λ gd. land ! (from ! (stop !)) (init ! 32 refl (LL.lawful R.the-type R′.the-laws 𝓤 H A W .typed d _ gd .0)) $
         -- `stations_exceed`, on a `&` of the row
-        assigns ! (addr ! (from ! (fld ! refl (hop ! (look-in ! 40 (sub ! 0 refl (whole !))) (stop !)))))
-        (from ! (stop !)) (init ! 24 refl (tt, tt)) $
-        assigns ! (agg ! (and-then ! (load ! (from ! (stop !)) (look ! 24 refl))
-        (and-then ! (load ! (from ! (fld ! refl (stop !))) (look-in ! 40 (sub ! 1 refl (whole !)))) (no-more !))))
-        (from ! (stop !)) (init ! 22 refl (tt, (tt, (record { fits = gn .0 }, tt)))) $
-        move ! (6 ∷ []) $ fsplit ! $ drop ! $ fsplit ! $ move ! (0 ∷ 1 ∷ 5 ∷ []) $ opens-slice ! tt T.the-row ys b o $
-        feqI ! ℕ (length ys) (length ys) refl $ fjoin ! $
-        lft-new ! tt (λ ν. move ! (1 ∷ []) $
-        use1 W (later (some (λ (δ : GName). ‵ (OwnS ν δ) ⊛ ‵ (flent (ν ∷ []) Parts))))
-        (lends-shr-slice 𝓤 H A W T.the-row (named 0) (ν ∷ []) fullShare ys b o gn) $ await ! tt $
-        pick ! (λ δ. split ! $ move ! (0 ∷ 2 ∷ []) $
-        use2 W (raw (Exceed 𝓤 H A mem run .pre (to-exceed d u₀ ν δ))) (goes-exceed d u₀ gd ν δ) $
-        calls-at ! fm (Exceed 𝓤 H A mem run) known-exceed (to-exceed d u₀ ν δ) (and-then !
-        (load ! (from ! (stop !)) (look ! 25 refl))
-        (and-then ! (load ! (from ! (stop !)) (look ! 37 refl)) (no-more !))) (λ u₁.
-        use1 W (later (some (λ (t : Bool). ((‵ (flft (ν ∷ []) fullShare) ⊛ ‵ ftrue) ⊛ ‵ (Boolean .own t (u₁ ∷ [])))
-        ⊛ raw (ensured 𝓤 H A exceed.ended (exceed.clauses 𝓤 H A mem run) (ν ∷ [], tt) (x δ, (d, tt)) tt t))))
-        (id⊢ 𝓤 _) $
-        await ! tt $
-        pick ! (λ t. split ! $ move ! (1 ∷ []) $
-        use1 W (raw (fact 𝓤 (t ≡ exceedingTo d n ys))) (exceed-said d ν δ t) $
-        heard ! (t ≡ exceedingTo d n ys) (λ e₁. split ! $
-        move ! (1 ∷ []) $
-        facts ! Boolean (Is Boolean) (shows 𝓤 H A Boolean) t (u₁ ∷ []) (
-        λ is₁. land ! (from ! (stop !)) (init ! 35 refl (bool-lawful 𝓤 H A W .typed t _ is₁ .0)) $
-        rewrite ! 35 (λ (z : Val). ‵ (fat fullShare tyBool l12 0 z)) (ap only is₁) refl $
-        rewrite ! 35 (λ (z : Bool). ‵ (fat fullShare tyBool l12 0 (vbool z))) e₁ refl $ split ! $ lft-end ! tt $
-        move ! (0 ∷ 2 ∷ []) $ lent-back ! tt $ fsplit ! $ drop ! $ move ! (0 ∷ 2 ∷ 3 ∷ 4 ∷ []) $
-        closes-slice ! tt T.the-row ys ys refl b o $
+        assigns ! (addr ! (from ! (fld ! refl (hop ! (look-in ! 38 (sub ! 0 refl (whole !))) (stop !))))) (from ! (stop !)) (init ! 26 refl (tt, tt)) $ assigns ! (agg ! (and-then ! (load ! (from ! (stop !)) (look ! 26 refl)) (and-then ! (load ! (from ! (fld ! refl (stop !))) (look-in ! 38 (sub ! 1 refl (whole !)))) (no-more !)))) (from ! (stop !)) (init ! 24 refl (tt, (tt, (record { fits = gn .0 }, tt)))) $ move ! (6 ∷ []) $ fsplit ! $ drop ! $ fsplit ! $ move ! (0 ∷ 1 ∷ 5 ∷ []) $ opens-slice ! tt T.the-row ys b o $ feqI ! ℕ (length ys) (length ys) refl $ fjoin ! $ lft-new ! tt (λ ν. move ! (1 ∷ []) $ use1 W (later (some (λ (δ : GName). ‵ (OwnS ν δ) ⊛ ‵ (flent (ν ∷ []) Parts)))) (lends-shr-slice 𝓤 H A W T.the-row (named 0) (ν ∷ []) fullShare ys b o gn) $ await ! tt $ pick ! (λ δ. split ! $ move ! (0 ∷ 2 ∷ []) $ use2 W (raw (Exceed 𝓤 H A mem run .pre (to-exceed d u₀ ν δ))) (goes-exceed d u₀ gd ν δ) $ calls-at ! fm (Exceed 𝓤 H A mem run) known-exceed (to-exceed d u₀ ν δ) (and-then ! (load ! (from ! (stop !)) (look ! 27 refl)) (and-then ! (load ! (from ! (stop !)) (look ! 35 refl)) (no-more !))) (λ u₁. use1 W (later (some (λ (t : Bool). ((‵ (flft (ν ∷ []) fullShare) ⊛ ‵ ftrue) ⊛ ‵ (Boolean .own t (u₁ ∷ []))) ⊛ raw (ensured 𝓤 H A exceed.ended (exceed.clauses 𝓤 H A mem run) (ν ∷ [], tt) (x δ, (d, tt)) tt t)))) (id⊢ 𝓤 _) $ await ! tt $ pick ! (λ t. split ! $ move ! (1 ∷ []) $ use1 W (raw (fact 𝓤 (t ≡ exceedingTo d n ys))) (exceed-said d ν δ t) $ heard ! (t ≡ exceedingTo d n ys) (λ e₁. split ! $ move ! (1 ∷ []) $ facts ! Boolean (Is Boolean) (shows 𝓤 H A Boolean) t (u₁ ∷ []) (λ is₁. land ! (from ! (stop !)) (init ! 33 refl (bool-lawful 𝓤 H A W .typed t _ is₁ .0)) $ rewrite ! 33 (λ (z : Val). ‵ (fat fullShare tyBool l12 0 z)) (ap only is₁) refl $ rewrite ! 33 (λ (z : Bool). ‵ (fat fullShare tyBool l12 0 (vbool z))) e₁ refl $ split ! $ lft-end ! tt $ move ! (0 ∷ 2 ∷ []) $ lent-back ! tt $ fsplit ! $ drop ! $ move ! (0 ∷ 2 ∷ 3 ∷ 4 ∷ []) $ closes-slice ! tt T.the-row ys ys refl b o $
         -- `settle`
-        assigns ! (addr ! (from ! (fld ! refl (hop ! (look-in ! 44 (sub ! 0 refl (whole !))) (stop !)))))
-        (from ! (stop !)) (init ! 22 refl (tt, tt)) $
-        assigns ! (agg ! (and-then ! (load ! (from ! (stop !)) (look ! 22 refl))
-        (and-then ! (load ! (from ! (fld ! refl (stop !))) (look-in ! 44 (sub ! 1 refl (whole !)))) (no-more !))))
-        (from ! (stop !)) (init ! 20 refl (tt, (tt, (record { fits = gg .0 }, tt)))) $
-        assigns ! (addr ! (from ! (hop ! (look ! 40 refl) (stop !)))) (from ! (stop !)) (init ! 18 refl (tt, tt)) $
-        assigns ! (addr ! (from ! (hop ! (look ! 38 refl) (stop !)))) (from ! (stop !)) (init ! 16 refl (tt, tt)) $
-        move ! (8 ∷ 7 ∷ []) $ fjoin ! $ move ! (7 ∷ 8 ∷ 0 ∷ []) $
-        use3 W (raw (Settle 𝓤 H A mem run .pre (to-settle d u₀))) (goes-settle d u₀ gd) $
-        calls-at ! fm (Settle 𝓤 H A mem run) known-settle (to-settle d u₀) (and-then !
-        (load ! (from ! (stop !)) (look ! 33 refl)) (and-then ! (load ! (from ! (stop !)) (look ! 31 refl))
-        (and-then ! (load ! (from ! (stop !)) (look ! 43 refl)) (and-then !
-        (load ! (from ! (stop !)) (look ! 17 refl)) (and-then ! (load ! (from ! (stop !)) (look ! 15 refl))
-        (and-then ! (load ! (from ! (stop !)) (look ! 13 refl)) (no-more !))))))) (
-        λ u₂. use1 W (later (some (λ (c : Round). (tokens₃ ⊛ ‵ (R.the-row .own c (u₂ ∷ []))) ⊛ raw
-        (ensured 𝓤 H A settle.ended (settle.clauses 𝓤 H A mem run) κs₃ (settle-args d) tt c)))) (id⊢ 𝓤 _) $
-        await ! tt $ pick ! (λ c. split ! $ move ! (1 ∷ []) $
-        use1 W (some (λ (ls : Lasts settle.ended κs₃ (settle-args d)). ‵ (lasts settle.ended κs₃ (settle-args d) ls) ⊛
-        raw (fact 𝓤 (Left d c (ls .1 .1 .1 .0) (ls .1 .1 .1 .1 .0) (ls .1 .1 .1 .1 .1 .0))))) (id⊢ 𝓤 _) $
-        pick ! (λ ls. split ! $ move ! (1 ∷ []) $
-        heard ! (Left d c (ls .1 .1 .1 .0) (ls .1 .1 .1 .1 .0) (ls .1 .1 .1 .1 .1 .0)) (
-        λ e₂. fsplit ! $ drop ! $ fsplit ! $ drop ! $ fsplit ! $ drop ! $
-        fsplit ! $ fsplit ! $ move ! (1 ∷ []) $
-        feqL ! (λ lg. move ! (1 ∷ []) $ fsplit ! $ move ! (1 ∷ []) $ fsplit ! $ move ! (1 ∷ []) $ drop ! $
-        move ! (3 ∷ []) $ split ! $ move ! (1 ∷ []) $
-        peeks ! R.the-row (Is R.the-row) (shows 𝓤 H A R.the-row) c (u₂ ∷ []) (λ is₂.
-        land ! (from ! (stop !)) (init ! 33 refl (LL.lawful R.the-type R′.the-laws 𝓤 H A W .typed c _ is₂ .0)) $
+        assigns ! (of-opd ! (load ! (from ! (fld ! refl (stop !))) (look-in ! 40 (sub ! 1 refl (whole !))))) (from ! (stop !)) (init ! 24 refl (tt, record { fits = gn .0 })) $ assigns ! (addr ! (from ! (fld ! refl (hop ! (look-in ! 42 (sub ! 0 refl (whole !))) (stop !))))) (from ! (stop !)) (init ! 22 refl (tt, tt)) $ assigns ! (agg ! (and-then ! (load ! (from ! (stop !)) (look ! 22 refl)) (and-then ! (load ! (from ! (fld ! refl (stop !))) (look-in ! 42 (sub ! 1 refl (whole !)))) (no-more !)))) (from ! (stop !)) (init ! 20 refl (tt, (tt, (record { fits = gg .0 }, tt)))) $ assigns ! (addr ! (from ! (hop ! (look ! 38 refl) (stop !)))) (from ! (stop !)) (init ! 18 refl (tt, tt)) $ assigns ! (addr ! (from ! (hop ! (look ! 36 refl) (stop !)))) (from ! (stop !)) (init ! 16 refl (tt, tt)) $ move ! (8 ∷ 7 ∷ []) $ fjoin ! $ move ! (7 ∷ 8 ∷ 0 ∷ []) $ use3 W (raw (Settle 𝓤 H A mem run .pre (to-settle d u₀))) (goes-settle d u₀ gd (gn .0)) $ calls-at ! fm (Settle 𝓤 H A mem run) known-settle (to-settle d u₀) (and-then ! (load ! (from ! (stop !)) (look ! 31 refl)) (and-then ! (load ! (from ! (stop !)) (look ! 29 refl)) (and-then ! (load ! (from ! (stop !)) (look ! 21 refl)) (and-then ! (load ! (from ! (stop !)) (look ! 41 refl)) (and-then ! (load ! (from ! (stop !)) (look ! 17 refl)) (and-then ! (load ! (from ! (stop !)) (look ! 15 refl)) (and-then ! (load ! (from ! (stop !)) (look ! 13 refl)) (no-more !)))))))) (λ u₂. use1 W (later (some (λ (c : Ruling). ((tokens₃) ⊛ ‵ (Q.the-row .own c (u₂ ∷ []))) ⊛ raw (ensured 𝓤 H A settle.ended (settle.clauses 𝓤 H A mem run) κs₃ (settle-args d) tt c)))) (id⊢ 𝓤 _) $ await ! tt $ pick ! (λ c. split ! $ move ! (1 ∷ []) $ use1 W (some (λ (ls : Lasts settle.ended κs₃ (settle-args d)). ‵ (lasts settle.ended κs₃ (settle-args d) ls) ⊛ raw (fact 𝓤 (Left d c (ls .1 .1 .1 .1 .0) (ls .1 .1 .1 .1 .1 .0) (ls .1 .1 .1 .1 .1 .1 .0))))) (id⊢ 𝓤 _) $ pick ! (λ ls. split ! $ move ! (1 ∷ []) $ heard ! (Left d c (ls .1 .1 .1 .1 .0) (ls .1 .1 .1 .1 .1 .0) (ls .1 .1 .1 .1 .1 .1 .0)) (λ e₂. fsplit ! $ drop ! $ fsplit ! $ drop ! $ fsplit ! $ drop ! $ fsplit ! $ drop ! $ fsplit ! $ fsplit ! $ move ! (1 ∷ []) $ feqL ! (λ lg. move ! (1 ∷ []) $ fsplit ! $ move ! (1 ∷ []) $ fsplit ! $ move ! (1 ∷ []) $ drop ! $ move ! (3 ∷ []) $ split ! $ move ! (1 ∷ []) $ facts ! Q.the-row (Is Q.the-row) (shows 𝓤 H A Q.the-row) c (u₂ ∷ []) (λ is₂. land ! (from ! (stop !)) (init ! 30 refl (LL.lawful Q.the-type Q′.the-laws 𝓤 H A W .typed c _ is₂ .0)) $ rewrite ! 30 (λ (z : Val). ‵ (fat fullShare Q′.mir l13 0 z)) (ap only (LL.tells Q.the-type Q′.the-laws c _ is₂)) refl $
         -- `add_sales`
-        assigns ! (addr ! (from ! (fld ! refl (hop ! (look-in ! 43 (sub ! 0 refl (whole !))) (stop !)))))
-        (from ! (stop !)) (init ! 13 refl (tt, tt)) $
-        assigns ! (agg ! (and-then ! (load ! (from ! (stop !)) (look ! 13 refl))
-        (and-then ! (load ! (from ! (fld ! refl (stop !))) (look-in ! 43 (sub ! 1 refl (whole !)))) (no-more !))))
-        (from ! (stop !)) (init ! 11 refl (tt, (tt, (record { fits = gn .0 }, tt)))) $
-        move ! (5 ∷ 6 ∷ []) $ fjoin ! $ pureI ! (at-slice T.the-row (x γ) (s ∷ [])) (tt, (tt, tt)) (refl, gn) $
-        fjoin ! $ move ! (6 ∷ 7 ∷ []) $ join ! $
-        use3 W (raw (Add 𝓤 H A mem run .pre (to-add c u₂))) (goes-add c u₂) $
-        calls-at ! fm (Add 𝓤 H A mem run) known-add (to-add c u₂) (and-then ! (load ! (from ! (stop !)) (look ! 7 refl))
-        (and-then ! (load ! (from ! (stop !)) (look ! 29 refl)) (no-more !))) (λ u₃.
-        use1 W (later (some (λ (r : Unit {0}). ((‵ (flft κ₅ q₅) ⊛ ‵ ftrue) ⊛ ‵ (Nothing .own r (u₃ ∷ []))) ⊛ raw
-        (ensured 𝓤 H A add.ended (add.clauses 𝓤 H A mem run) (κ₅, tt) (x γ, (c, tt)) tt r)))) (id⊢ 𝓤 _) $
-        await ! tt $ pick ! (λ r. split ! $ move ! (1 ∷ []) $
-        use1 W (some (λ (zs : Lasts add.ended (κ₅, tt) (x γ, (c, tt))). ‵ (lasts add.ended (κ₅, tt) (x γ, (c, tt)) zs) ⊛
-        raw (fact 𝓤 (zs .0 ≡ creditedTo c n ys)))) (id⊢ 𝓤 _) $
-        pick ! (λ zs. split ! $ move ! (1 ∷ []) $
-        heard ! (zs .0 ≡ creditedTo c n ys) (
-        λ e₃. fsplit ! $ fsplit ! $ move ! (1 ∷ []) $ feqL ! (λ la. move ! (2 ∷ []) $ split ! $ move ! (1 ∷ []) $
-        facts ! Nothing (Is Nothing) (shows 𝓤 H A Nothing) r (u₃ ∷ []) (
-        λ is₃. land ! (from ! (stop !)) (init ! 13 refl (nothing-lawful 𝓤 H A W .typed r _ is₃ .0)) $
-        rewrite ! 31 (λ (z : Val). ‵ (fat fullShare R′.mir l13 0 z))
-        (ap only (LL.tells R.the-type R′.the-laws c _ is₂)) refl $
-        assigns ! (of-opd ! (load ! (from ! (fld ! refl (stop !))) (look-in ! 31 (sub ! 0 refl (whole !)))))
-        (from ! (stop !)) (init ! 57 refl (EL.lawful S.the-type S′.the-laws 𝓤 H A W tt .typed (c .reply) _
-        (LL.owed R.the-type R′.the-laws c _ is₂ .0) .0)) $
+        assigns ! (addr ! (from ! (fld ! refl (hop ! (look-in ! 40 (sub ! 0 refl (whole !))) (stop !))))) (from ! (stop !)) (init ! 12 refl (tt, tt)) $ assigns ! (agg ! (and-then ! (load ! (from ! (stop !)) (look ! 12 refl)) (and-then ! (load ! (from ! (fld ! refl (stop !))) (look-in ! 40 (sub ! 1 refl (whole !)))) (no-more !)))) (from ! (stop !)) (init ! 10 refl (tt, (tt, (record { fits = gn .0 }, tt)))) $ move ! (4 ∷ 5 ∷ []) $ fjoin ! $ pureI ! (at-slice T.the-row (x γ) (s ∷ [])) (tt, (tt, tt)) (refl, gn) $ fjoin ! $ move ! (5 ∷ 6 ∷ []) $ join ! $ use2 W (raw (Add 𝓤 H A mem run .pre (to-add d u₀ c))) (goes-add d u₀ gd c (LL.owed Q.the-type Q′.the-laws c _ is₂ .1 .0 .1)) $ calls-at ! fm (Add 𝓤 H A mem run) known-add (to-add d u₀ c) (and-then ! (load ! (from ! (stop !)) (look ! 7 refl)) (and-then ! (load ! (from ! (stop !)) (look ! 31 refl)) (and-then ! (load ! (from ! (fld ! refl (stop !))) (look-in ! 27 (sub ! 1 refl (whole !)))) (no-more !)))) (λ u₃. use1 W (later (some (λ (r : Unit {0}). ((‵ (flft κ₅ q₅) ⊛ ‵ ftrue) ⊛ ‵ (Nothing .own r (u₃ ∷ []))) ⊛ raw (ensured 𝓤 H A add.ended (add.clauses 𝓤 H A mem run) (κ₅, tt) (x γ, (d, (c .credits, tt))) tt r)))) (id⊢ 𝓤 _) $ await ! tt $ pick ! (λ r. split ! $ move ! (1 ∷ []) $ use1 W (some (λ (zs : Lasts add.ended (κ₅, tt) (x γ, (d, (c .credits, tt)))). ‵ (lasts add.ended (κ₅, tt) (x γ, (d, (c .credits, tt))) zs) ⊛ raw (fact 𝓤 (zs .0 ≡ creditedTo d (min n (c .credits)) ys)))) (id⊢ 𝓤 _) $ pick ! (λ zs. split ! $ move ! (1 ∷ []) $ heard ! (zs .0 ≡ creditedTo d (min n (c .credits)) ys) (λ e₃. fsplit ! $ fsplit ! $ move ! (1 ∷ []) $ feqL ! (λ la. move ! (1 ∷ []) $ drop ! $ move ! (1 ∷ []) $ split ! $ move ! (1 ∷ []) $ facts ! Nothing (Is Nothing) (shows 𝓤 H A Nothing) r (u₃ ∷ []) (λ is₃. land ! (from ! (stop !)) (init ! 12 refl (nothing-lawful 𝓤 H A W .typed r _ is₃ .0)) $ assigns ! (of-opd ! (load ! (from ! (fld ! refl (stop !))) (look-in ! 28 (sub ! 0 refl (whole !))))) (from ! (stop !)) (init ! 54 refl (EL.lawful S.the-type S′.the-laws 𝓤 H A W tt .typed (c .reply) _ (LL.owed Q.the-type Q′.the-laws c _ is₂ .0) .0)) $
         -- the reply
-        returns ! (look ! 57 refl) $ forget ! 57 refl $ forget ! 55 refl $ forget ! 53 refl $ forget ! 51 refl $
-        forget ! 49 refl $ forget ! 47 refl $ forget ! 45 refl $ forget ! 43 refl $
-        forget ! 41 refl $ forget ! 39 refl $ forget ! 37 refl $ forget ! 35 refl $ forget ! 33 refl $
-        forget ! 31 refl $ forget ! 29 refl $ forget ! 27 refl $ forget ! 25 refl $ forget ! 23 refl $
-        forget ! 21 refl $ forget ! 19 refl $ forget ! 17 refl $ forget ! 15 refl $ forget ! 13 refl $
-        forget ! 11 refl $ forget ! 9 refl $ move ! (57 ∷ 58 ∷ []) $ free1 ! $ move ! (55 ∷ 56 ∷ []) $
-        free1 ! $ move ! (53 ∷ 54 ∷ []) $ free1 ! $ move ! (51 ∷ 52 ∷ []) $ free1 ! $ move ! (49 ∷ 50 ∷ []) $ free1 ! $
-        move ! (47 ∷ 48 ∷ []) $ free1 ! $ move ! (45 ∷ 46 ∷ []) $ free1 ! $
-        move ! (43 ∷ 44 ∷ []) $ free1 ! $ move ! (41 ∷ 42 ∷ []) $ free1 ! $ move ! (39 ∷ 40 ∷ []) $ free1 ! $
-        move ! (37 ∷ 38 ∷ []) $ free1 ! $ move ! (35 ∷ 36 ∷ []) $ free1 ! $
-        move ! (33 ∷ 34 ∷ []) $ free1 ! $ move ! (31 ∷ 32 ∷ []) $ free1 ! $ move ! (29 ∷ 30 ∷ []) $ free1 ! $
-        move ! (27 ∷ 28 ∷ []) $ free1 ! $ move ! (25 ∷ 26 ∷ []) $ free1 ! $
-        move ! (23 ∷ 24 ∷ []) $ free1 ! $ move ! (21 ∷ 22 ∷ []) $ free1 ! $ move ! (19 ∷ 20 ∷ []) $ free1 ! $
-        move ! (17 ∷ 18 ∷ []) $ free1 ! $ move ! (15 ∷ 16 ∷ []) $ free1 ! $
-        move ! (13 ∷ 14 ∷ []) $ free1 ! $ move ! (11 ∷ 12 ∷ []) $ free1 ! $ move ! (9 ∷ 10 ∷ []) $ free1 ! $ free0 ! $
-        keep ! (7 ∷ 8 ∷ 0 ∷ 1 ∷ 3 ∷ 6 ∷ 5 ∷ 4 ∷ []) $
-        by ! (exits d c u₂ (ls .1 .1 .1 .0) (zs .0) (ls .1 .1 .1 .1 .0) (ls .1 .1 .1 .1 .1 .0) e₀ e₂ e₃ is₂ la
-        lg))))))))))))))))))))))))))))))))))))))))))))))))
+        returns ! (look ! 54 refl) $ forget ! 54 refl $ forget ! 52 refl $ forget ! 50 refl $ forget ! 48 refl $ forget ! 46 refl $ forget ! 44 refl $ forget ! 42 refl $ forget ! 40 refl $ forget ! 38 refl $ forget ! 36 refl $ forget ! 34 refl $ forget ! 32 refl $ forget ! 30 refl $ forget ! 28 refl $ forget ! 26 refl $ forget ! 24 refl $ forget ! 22 refl $ forget ! 20 refl $ forget ! 18 refl $ forget ! 16 refl $ forget ! 14 refl $ forget ! 12 refl $ forget ! 10 refl $ forget ! 8 refl $ move ! (54 ∷ 55 ∷ []) $ free1 ! $ move ! (52 ∷ 53 ∷ []) $ free1 ! $ move ! (50 ∷ 51 ∷ []) $ free1 ! $ move ! (48 ∷ 49 ∷ []) $ free1 ! $ move ! (46 ∷ 47 ∷ []) $ free1 ! $ move ! (44 ∷ 45 ∷ []) $ free1 ! $ move ! (42 ∷ 43 ∷ []) $ free1 ! $ move ! (40 ∷ 41 ∷ []) $ free1 ! $ move ! (38 ∷ 39 ∷ []) $ free1 ! $ move ! (36 ∷ 37 ∷ []) $ free1 ! $ move ! (34 ∷ 35 ∷ []) $ free1 ! $ move ! (32 ∷ 33 ∷ []) $ free1 ! $ move ! (30 ∷ 31 ∷ []) $ free1 ! $ move ! (28 ∷ 29 ∷ []) $ free1 ! $ move ! (26 ∷ 27 ∷ []) $ free1 ! $ move ! (24 ∷ 25 ∷ []) $ free1 ! $ move ! (22 ∷ 23 ∷ []) $ free1 ! $ move ! (20 ∷ 21 ∷ []) $ free1 ! $ move ! (18 ∷ 19 ∷ []) $ free1 ! $ move ! (16 ∷ 17 ∷ []) $ free1 ! $ move ! (14 ∷ 15 ∷ []) $ free1 ! $ move ! (12 ∷ 13 ∷ []) $ free1 ! $ move ! (10 ∷ 11 ∷ []) $ free1 ! $ move ! (8 ∷ 9 ∷ []) $ free1 ! $ free0 ! $ keep ! (6 ∷ 7 ∷ 0 ∷ 1 ∷ 2 ∷ 5 ∷ 4 ∷ 3 ∷ []) $ by ! (exits d c u₂ (ls .1 .1 .1 .1 .0) (zs .0) (ls .1 .1 .1 .1 .1 .0) (ls .1 .1 .1 .1 .1 .1 .0) e₀ e₂ e₃ is₂ la lg)))))))))))))))))))))))))))))))))))))))))))))))
 
 module _ {M : Type 1} (𝓤 : URA M) (H : Heap 𝓤) (A : Atoms 𝓤) (W : Given 𝓤 H A) (mem : Memory → SProp 𝓤)
     (run : Routine → Fun 𝓤) where

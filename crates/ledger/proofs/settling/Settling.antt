@@ -2,25 +2,28 @@
 use Prim.Native.Nat.{ℕ, _+_, _≤_, _<_}
 use mathlib.Core.Bool.{Bool, true, false, _||_}
 use mathlib.Core.List.{List, [], _∷_}
-use mathlib.Core.Path.{_≡_, refl, sym, _∙_}
+use mathlib.Core.Path.{_≡_, refl, sym, ap, _∙_}
 use native.Mathlib.Omega.{arith}
 use lib.ListN.{getD, length}
-use Rattle.model.specs.Limits.{maxAccount}
+use Rattle.model.specs.Limits.{maxGuests, maxStations, maxAccount}
 use Rattle.model.specs.declared.refusal.Refusal.{Refusal}
-use Rattle.model.specs.declared.refusal.Refusal.the-variants.{AccountOverLimit, RoundOutOfTurn}
+use Rattle.model.specs.declared.refusal.Refusal.the-variants.{AccountOverLimit, BookSize, RoundOutOfTurn}
 use Rattle.model.specs.Counting.{_<?_, _or_}
-use Rattle.model.specs.Refusals.{_gives_, firstFault}
-use Rattle.model.specs.book.Faults.{outOfTurn}
+use Rattle.model.specs.Numbers.{number, answerOfVerdict}
+use Rattle.model.proofs.Refusals.{updated-accepted, updated-refused}
+use Rattle.model.specs.Refusals.{Row, _gives_, Verdict, accepted, refused, firstFault}
+use Rattle.model.specs.market.Faults.{outside}
+use Rattle.model.specs.book.Faults.{bookSize, outOfTurn}
 use Rattle.model.proofs.Tests.{lt-no, or-no}
 use Rattle.model.proofs.Counting.{some-no}
 use Rattle.model.proofs.Loops.{or-is}
-use Rattle.model.specs.contracts.Replies.{verdictOf}
-use Rattle.ledger.specs.Rounds.{refusing}
-use Rattle.model.specs.declared.answers.Reply.the-variants as reply
+use Rattle.model.proofs.market.Acceptance.{inside}
+use Rattle.model.specs.declared.answers.Verdict.the-variants as verdicts
 use Rattle.ledger.specs.declared.round.Round.{Round}
+use Rattle.ledger.specs.declared.settling.Ruling.{Ruling}
 use Rattle.ledger.specs.Accounts.{plus, Addable}
 use Rattle.ledger.specs.Room.{exceeding}
-use Rattle.ledger.specs.Settling.{followed, ruled, keptRound, chosen, Settled}
+use Rattle.ledger.specs.Settling.{followed, noRoom, ruled, refusal, Settled}
 
 -- where no account exceeds, each sum is within the limit, so within 64 bits
 pub within :
@@ -37,53 +40,94 @@ all-fail a b c e =
     let h = or-no (a || b) c (sym (or-is (a || b) c) ∙ e) in
     (or-no a b (sym (or-is a b) ∙ h .0) .1, h .1)
 
-module _ (r : Round) (full : Bool) (round : ℕ) (guests : List ℕ) (house last : ℕ) where
+-- a book of the right size for a round of n guests and m stations
+pub sized :
+    (n m guests stations : ℕ) (a : Bool) → (a gives 13) ≡ bookSize n m guests stations → a ≡ false
+    → (guests ≤ maxGuests) × (m ≤ stations) × (stations ≤ maxStations)
+unfolding bookSize
+sized n m guests stations a e z =
+    let k : (outside n maxGuests guests or outside m maxStations stations) ≡ false = cc in
+    let h = or-no _ _ k in
+    (inside _ _ _ (h .0) .1, inside _ _ _ (h .1) .0, inside _ _ _ (h .1) .1)
+
+module _ (r : Round) (full : Bool) (stations round : ℕ) (guests : List ℕ) (house last : ℕ) where
   -- the code's test
   pub test-is :
-      (crowded rich : Bool) → crowded ≡ exceeding guests (r .charges) → rich ≡ (maxAccount <? house + r .margin)
-      → (full || crowded || rich) ≡ (full or exceeding guests (r .charges) or maxAccount <? house + r .margin)
+      (crowded rich : Bool) → crowded ≡ exceeding guests (r .charges) → rich ≡ (maxAccount <? house + r .margin .0)
+      → (full || crowded || rich) ≡ noRoom r full guests house
+  unfolding noRoom
   test-is crowded rich p q = rw (← p, ← q, ← or-is full crowded) (or-is (full || crowded) rich)
 
-  -- the verdict, from what the code knows of its two tests
-  ruled-posted :
-      (late over : Bool) → r .reply ≡ reply.Posted → (late gives RoundOutOfTurn) ≡ outOfTurn round last
-      → (full or exceeding guests (r .charges) or maxAccount <? house + r .margin) ≡ over
-      → ruled r full round guests house last
-      ≡ firstFault ((late gives RoundOutOfTurn) ∷ (over gives AccountOverLimit) ∷ [])
-  unfolding ruled verdictOf followed
-  ruled-posted late over e t o = rw (e, t, o)
+  -- the verdict, from what the code knows of its tests
+  pub ruled-refused : (x : Refusal) → r .reply ≡ verdicts.Refused x → ruled r full stations round guests house last ≡ refused (number x)
+  unfolding ruled answerOfVerdict followed
+  ruled-refused x e = rw e
+
+  pub ruled-posted :
+      (size late over : Bool) → r .reply ≡ verdicts.Accepted
+      → (size gives 13) ≡ bookSize (r .guests) (r .stations) (length guests) stations
+      → (late gives 11) ≡ outOfTurn round last → noRoom r full guests house ≡ over
+      → ruled r full stations round guests house last
+      ≡ firstFault ((size gives 13) ∷ (late gives 11) ∷ (over gives 12) ∷ [])
+  unfolding ruled answerOfVerdict followed
+  ruled-posted size late over e b t o =
+      let rows : Row → Row → Bool → List Row = λ x y z. x ∷ y ∷ (z gives 12) ∷ [] in
+      ap (λ x. followed (answerOfVerdict x) (rows (bookSize (r .guests) (r .stations) (length guests) stations)
+      (outOfTurn round last) (noRoom r full guests house))) e
+      ∙ ap (λ x. firstFault (rows x (outOfTurn round last) (noRoom r full guests house))) (sym b)
+      ∙ ap (λ x. firstFault (rows (size gives 13) x (noRoom r full guests house))) (sym t)
+      ∙ ap (λ x. firstFault (rows (size gives 13) (late gives 11) x)) o
+
+  pub refused-by :
+      (v : Verdict) (x : Refusal) (s : Ruling) → v ≡ refused (number x) → s ≡ refusal x
+      → Settled v r round guests house last s guests house last
+  unfolding refusal answerOfVerdict
+  refused-by v x s e q = record {
+    says = ap (λ s. answerOfVerdict (s .reply)) q ∙ sym e;
+    credits-are = ap (λ s. s .credits) q ∙ sym (updated-refused _ _ _ e);
+    guests-are = sym (updated-refused _ _ _ e);
+    house-is = sym (updated-refused _ _ _ e);
+    last-is = sym (updated-refused _ _ _ e);
+  }
 
   pub settled-refused :
-      (x : Refusal) (s : Round) → r .reply ≡ reply.Refused x → s ≡ refusing x
-      → Settled (ruled r full round guests house last) r round guests house last s guests house last
-  unfolding ruled verdictOf followed keptRound chosen
-  settled-refused x s e q = rw e (record { round-is = q; guests-are = refl; house-is = refl; last-is = refl })
+      (x : Refusal) (s : Ruling) → r .reply ≡ verdicts.Refused x → s ≡ refusal x
+      → Settled (ruled r full stations round guests house last) r round guests house last s guests house last
+  settled-refused x s e q = refused-by _ x s (ruled-refused x e) q
 
-  pub settled-late :
-      (s : Round) (late : Bool) → r .reply ≡ reply.Posted
-      → (late gives RoundOutOfTurn) ≡ outOfTurn round last → late ≡ true
-      → s ≡ refusing RoundOutOfTurn
-      → Settled (ruled r full round guests house last) r round guests house last s guests house last
-  unfolding firstFault keptRound chosen
-  settled-late s late e t l q =
-      rw (ruled-posted late _ e t refl, l) (record { round-is = q; guests-are = refl; house-is = refl; last-is = refl })
+  module _ (size : Bool) (e : r .reply ≡ verdicts.Accepted)
+      (b : (size gives 13) ≡ bookSize (r .guests) (r .stations) (length guests) stations) where
+    pub settled-size :
+        (s : Ruling) → size ≡ true → s ≡ refusal BookSize
+        → Settled (ruled r full stations round guests house last) r round guests house last s guests house last
+    unfolding firstFault outOfTurn
+    settled-size s z q = refused-by _ BookSize s (ruled-posted size _ _ e b refl refl ∙ rw z refl) q
 
-  pub settled-over :
-      (s : Round) (late : Bool) → r .reply ≡ reply.Posted
-      → (late gives RoundOutOfTurn) ≡ outOfTurn round last → late ≡ false
-      → (full or exceeding guests (r .charges) or maxAccount <? house + r .margin) ≡ true
-      → s ≡ refusing AccountOverLimit
-      → Settled (ruled r full round guests house last) r round guests house last s guests house last
-  unfolding firstFault keptRound chosen
-  settled-over s late e t l o q =
-      rw (ruled-posted late _ e t o, l) (record { round-is = q; guests-are = refl; house-is = refl; last-is = refl })
+    module _ (late : Bool) (z : size ≡ false) (t : (late gives 11) ≡ outOfTurn round last) where
+      pub settled-late :
+          (s : Ruling) → late ≡ true → s ≡ refusal RoundOutOfTurn
+          → Settled (ruled r full stations round guests house last) r round guests house last s guests house last
+      unfolding firstFault
+      settled-late s l q = refused-by _ RoundOutOfTurn s (ruled-posted size late _ e b t refl ∙ rw (z, l) refl) q
 
-  pub settled-posted :
-      (guests′ : List ℕ) (late : Bool) → r .reply ≡ reply.Posted
-      → (late gives RoundOutOfTurn) ≡ outOfTurn round last → late ≡ false
-      → (full or exceeding guests (r .charges) or maxAccount <? house + r .margin) ≡ false
-      → guests′ ≡ plus guests (r .charges)
-      → Settled (ruled r full round guests house last) r round guests house last r guests′ (house + r .margin) round
-  unfolding firstFault keptRound chosen
-  settled-posted guests′ late e t l o q =
-      rw (ruled-posted late _ e t o, l) (record { round-is = refl; guests-are = q; house-is = refl; last-is = refl })
+      pub settled-over :
+          (s : Ruling) → late ≡ false → noRoom r full guests house ≡ true → s ≡ refusal AccountOverLimit
+          → Settled (ruled r full stations round guests house last) r round guests house last s guests house last
+      unfolding firstFault
+      settled-over s l o q = refused-by _ AccountOverLimit s (ruled-posted size late true e b t o ∙ rw (z, l) refl) q
+
+      pub settled-posted :
+          (s : Ruling) (guests′ : List ℕ) (house′ : ℕ) → late ≡ false → noRoom r full guests house ≡ false
+          → s .reply ≡ verdicts.Accepted → s .credits ≡ r .stations → guests′ ≡ plus guests (r .charges) → house′ ≡ house + r .margin .0
+          → Settled (ruled r full stations round guests house last) r round guests house last s guests′ house′ round
+      unfolding firstFault answerOfVerdict
+      settled-posted s guests′ house′ l o q k g h =
+          let v : ruled r full stations round guests house last ≡ accepted tt =
+          ruled-posted size late false e b t o ∙ rw (z, l) refl in
+          record {
+            says = ap answerOfVerdict q ∙ sym v;
+            credits-are = k ∙ sym (updated-accepted _ _ v);
+            guests-are = g ∙ sym (updated-accepted _ _ v);
+            house-is = h ∙ sym (updated-accepted _ _ v);
+            last-is = sym (updated-accepted _ _ v);
+          }

@@ -1,24 +1,26 @@
 -- Laws of the stations' records: what a round leaves of them.
-use Prim.Native.Nat.{ℕ, zero, suc, _+_, _≤_, _<_}
-use mathlib.Core.Bool.{Bool, true, false, _||_}
+use Prim.Native.Nat.{ℕ, zero, suc, _+_, _≤_, _<_, min}
+use mathlib.Core.Bool.{Bool, true, false, _||_, _&&_}
 use mathlib.Core.List.{List}
 use mathlib.Core.Logic.{⊎-elim}
 use mathlib.Core.Path.{_≡_, refl, sym, ap, ap₂, _∙_}
 use native.Mathlib.Nat.{le-refl}
 use native.Mathlib.Numerals.{add-one}
 use native.Mathlib.Omega.{arith}
+use lib.Dec.{ltb}
 use lib.ListN.{getD, length, set, length-set}
-use lib.Seq.{getD-set-same, getD-set-other, ext-getD}
-use Rattle.model.specs.Limits.{maxAccount}
+use borrow.Author.Tests.{lt-ltb}
+use lib.Seq.{getD-set-same, getD-set-other}
+use Rattle.model.specs.Limits.{maxStations, maxAccount}
 use Rattle.model.specs.Counting.{_<?_, _or_, some}
-use Rattle.model.proofs.Tests.{or-no, lt-no, lt-or-le}
+use Rattle.model.proofs.Tests.{clash, or-no, lt-no, lt-or-le, is-lt, not-lt, only-yes, only-no}
 use Rattle.model.proofs.Counting.{some-no, some-cong}
 use Rattle.model.proofs.Loops.{or-is, is-list}
 use Rattle.ledger.specs.declared.round.Round.{Round}
 use Rattle.ledger.specs.Accounts.{plus}
 use Rattle.ledger.specs.Room.{exceeding}
 use Rattle.model.specs.book.Records.{account, accountAt, soldOf, paidOf}
-use Rattle.ledger.specs.Stations.{exceedsWith, exceedingTo, creditedBy, credited, creditedTo}
+use Rattle.ledger.specs.Stations.{soldTo, paidTo, exceedsWith, exceedingTo, creditedBy, credited, creditedTo}
 use Rattle.model.specs.declared.account.StationAccount.{StationAccount}
 use Rattle.model.proofs.book.Records.{length-sold, length-paid, getD-sold, getD-paid}
 
@@ -36,20 +38,41 @@ unfolding some _or_
 some-or zero f g = refl
 some-or (suc n) f g = ap (λ b. b or (f n or g n)) (some-or n f g) ∙ or-swap (some n f) (some n g) (f n) (g n)
 
+-- ---- what a round adds
+
+module _ (r : Round) (j : ℕ) where
+  pub sold-past : maxStations ≤ j → 0 ≡ soldTo r j
+  unfolding soldTo
+  sold-past h = sym (only-no _ _ (not-lt j maxStations h))
+
+  pub paid-past : maxStations ≤ j → 0 ≡ paidTo r j
+  unfolding paidTo
+  paid-past h = sym (only-no _ _ (not-lt j maxStations h))
+
+  pub sold-in : j < maxStations → getD (r .sold) j 0 ≡ soldTo r j
+  unfolding soldTo
+  sold-in h = sym (only-yes _ _ (is-lt j maxStations h))
+
+  pub paid-in : j < maxStations → getD (r .paid) j 0 ≡ paidTo r j
+  unfolding paidTo
+  paid-in h = sym (only-yes _ _ (is-lt j maxStations h))
+
 pub exceeding-is :
-    (r : Round) (l : List StationAccount)
+    (r : Round) (l : List StationAccount) → length l ≤ maxStations
     → exceedingTo r (length l) l ≡ (exceeding (soldOf l) (r .sold) or exceeding (paidOf l) (r .paid))
 unfolding exceedingTo exceedsWith exceeding
-exceeding-is r l = rw (length-sold, length-paid)
+exceeding-is r l small = rw (length-sold, length-paid)
     (some-or (length l) _ _
     ∙ ap₂ _or_
-    (some-cong (length l) _ _ (λ k _. ap (λ x. maxAccount <? x + getD (r .sold) k 0) (sym (getD-sold l k))))
-    (some-cong (length l) _ _ (λ k _. ap (λ x. maxAccount <? x + getD (r .paid) k 0) (sym (getD-paid l k)))))
+    (some-cong (length l) _ _
+    (λ k h. ap₂ (λ x y. maxAccount <? x + y) (sym (getD-sold l k)) (sym (sold-in r k (omega arith)))))
+    (some-cong (length l) _ _
+    (λ k h. ap₂ (λ x y. maxAccount <? x + y) (sym (getD-paid l k)) (sym (paid-in r k (omega arith))))))
 
 -- the code's test of one account
 module _ (r : Round) (j : ℕ) (a : StationAccount) where
   pub exceeds-is :
-      (before sold paid : Bool) {x y : ℕ} → x ≡ getD (r .sold) j 0 → y ≡ getD (r .paid) j 0
+      (before sold paid : Bool) {x y : ℕ} → x ≡ soldTo r j → y ≡ paidTo r j
       → sold ≡ (maxAccount <? a .sold + x) → paid ≡ (maxAccount <? a .paid + y)
       → (before || (sold || paid)) ≡ (before or exceedsWith r j a)
   unfolding exceedsWith
@@ -64,7 +87,7 @@ module _ (r : Round) (j : ℕ) (a : StationAccount) where
 
   pub room :
       {over : Bool} → over ≡ (false or exceedsWith r j a) → over ≡ false
-      → (a .sold + getD (r .sold) j 0 ≤ maxAccount) × (a .paid + getD (r .paid) j 0 ≤ maxAccount)
+      → (a .sold + soldTo r j ≤ maxAccount) × (a .paid + paidTo r j ≤ maxAccount)
   unfolding exceedsWith
   room e q = let h = or-no _ _ (over-is e ∙ q) in (lt-no _ _ (h .0), lt-no _ _ (h .1))
 
@@ -73,10 +96,16 @@ module _ (r : Round) (j : ℕ) (a : StationAccount) where
   credited-not e q = rw (over-is e ∙ q)
 
   pub credited-yes :
-      {over : Bool} {x y : ℕ} → over ≡ (false or exceedsWith r j a) → over ≡ false → x ≡ getD (r .sold) j 0
-      → y ≡ getD (r .paid) j 0 → account (a .sold + x) (a .paid + y) ≡ credited r j a
+      {over : Bool} {x y : ℕ} → over ≡ (false or exceedsWith r j a) → over ≡ false → x ≡ a .sold + soldTo r j
+      → y ≡ a .paid + paidTo r j → account x y ≡ credited r j a
   unfolding credited creditedBy
   credited-yes e q ex ey = rw (over-is e ∙ q, ex, ey)
+
+  -- past the stations nothing is added
+  pub credited-past :
+      {over : Bool} → over ≡ (false or exceedsWith r j a) → over ≡ false → maxStations ≤ j → a ≡ credited r j a
+  credited-past e q h =
+      credited-yes e q (omega (arith, sold-past r j h)) (omega (arith, paid-past r j h))
 
 -- ---- a turn of each loop
 
@@ -123,38 +152,52 @@ module _ (r : Round) (l : List StationAccount) where
       ∙ ap (λ a. credited r n a) (credited-beyond n n (le-refl n))))
       (lt-or-le k n)
 
-  -- where every account has room, each has what the round adds
-  module _ (e : exceedingTo r (length l) l ≡ false) where
+  -- where every account has room, and none beyond the first m is added to, each has what the round adds
+  module _ (m : ℕ) (few : m ≤ length l) (small : length l ≤ maxStations) (e : exceedingTo r (length l) l ≡ false)
+      (no-sales : (k : ℕ) → m ≤ k → soldTo r k ≡ 0) (no-payments : (k : ℕ) → m ≤ k → paidTo r k ≡ 0) where
     sums :
         (k : ℕ) → k < length l
-        → accountAt (creditedTo r (length l) l) k
+        → accountAt (creditedTo r m l) k
         ≡ account (accountAt l k .sold + getD (r .sold) k 0) (accountAt l k .paid + getD (r .paid) k 0)
     unfolding credited creditedBy exceedingTo
     sums k h =
-        credited-at (length l) k (le-refl _) h
+        let s = sold-in r k (omega arith) in
+        let p = paid-in r k (omega arith) in
+        ⊎-elim
+        (λ (q : k < m). credited-at m k few q
         ∙ ap (λ over. creditedBy over r k (accountAt l k)) (some-no (length l) _ e k h)
+        ∙ ap₂ (λ x y. account (accountAt l k .sold + x) (accountAt l k .paid + y)) (sym s) (sym p))
+        (λ (q : m ≤ k). credited-beyond m k q
+        ∙ ap₂ account (omega (arith, s, no-sales k q)) (omega (arith, p, no-payments k q)))
+        (lt-or-le k m)
 
-    pub sold-credited : soldOf (creditedTo r (length l) l) ≡ plus (soldOf l) (r .sold)
+    pub sold-credited : soldOf (creditedTo r m l) ≡ plus (soldOf l) (r .sold)
     unfolding plus
-    sold-credited = is-list (length (soldOf l)) _ _ (length-sold _ ∙ credited-length (length l) ∙ sym (length-sold l))
+    sold-credited = is-list (length (soldOf l)) _ _ (length-sold _ ∙ credited-length m ∙ sym (length-sold l))
         (λ k h. getD-sold _ k ∙ ap (λ a. a .sold) (sums k (rw length-sold at h))
         ∙ ap (λ x. x + getD (r .sold) k 0) (sym (getD-sold l k)))
 
-    pub paid-credited : paidOf (creditedTo r (length l) l) ≡ plus (paidOf l) (r .paid)
+    pub paid-credited : paidOf (creditedTo r m l) ≡ plus (paidOf l) (r .paid)
     unfolding plus
-    paid-credited = is-list (length (paidOf l)) _ _ (length-paid _ ∙ credited-length (length l) ∙ sym (length-paid l))
+    paid-credited = is-list (length (paidOf l)) _ _ (length-paid _ ∙ credited-length m ∙ sym (length-paid l))
         (λ k h. getD-paid _ k ∙ ap (λ a. a .paid) (sums k (rw length-paid at h))
         ∙ ap (λ x. x + getD (r .paid) k 0) (sym (getD-paid l k)))
 
-  -- a round that adds nothing leaves the row as it is
-  module _ (no-sales : (k : ℕ) → getD (r .sold) k 0 ≡ 0) (no-payments : (k : ℕ) → getD (r .paid) k 0 ≡ 0) where
-    same-by : (over : Bool) (k : ℕ) (a : StationAccount) → creditedBy over r k a ≡ a
-    unfolding creditedBy
-    same-by true k a = refl
-    same-by false k a = ap₂ account (omega (arith, no-sales k)) (omega (arith, no-payments k))
+-- two tests that pass
+pub both : (a b : Bool) → (a && b) ≡ true → (a ≡ true) × (b ≡ true)
+both true b e = (refl, e)
+both false b e = absurd (clash e refl)
 
-    pub credited-nothing : creditedTo r (length l) l ≡ l
-    unfolding credited
-    credited-nothing =
-        ext-getD (account 0 0) _ _ (credited-length (length l))
-        (λ k h. credited-at (length l) k (le-refl _) (rw credited-length at h) ∙ same-by _ k (accountAt l k))
+-- where the loop over n accounts and m of the round ends
+pub least :
+    (n m j : ℕ) → j ≤ n → j ≤ m → (ltb j n && ltb j m) ≡ false → j ≡ min n m
+least n m j a b e = ⊎-elim
+    (λ (q : n < m). ⊎-elim
+    (λ (h : j < n). absurd (clash (ap₂ _&&_ (lt-ltb j n h) (lt-ltb j m (omega arith))) e))
+    (λ (h : n ≤ j). omega arith)
+    (lt-or-le j n))
+    (λ (q : m ≤ n). ⊎-elim
+    (λ (h : j < m). absurd (clash (ap₂ _&&_ (lt-ltb j n (omega arith)) (lt-ltb j m h)) e))
+    (λ (h : m ≤ j). omega arith)
+    (lt-or-le j m))
+    (lt-or-le n m)

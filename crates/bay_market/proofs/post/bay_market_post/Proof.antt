@@ -41,12 +41,13 @@ use base.Logic.{SProp, ent, sep, emp, via, fst∗, snd∗, exE, id⊢}
 use base.Fml.{Lft, Share, Fml, ftrue, fsep, flft, fres}
 use ghost.Atoms.{Atoms, sem}
 use sound.WpLaws.{FmC, fmOf, WpFn-mono}
-use Rattle.model.specs.Refusals.{Verdict, code}
+use Rattle.model.specs.Refusals.{numberOf}
+use Rattle.model.specs.Refusals as answers
 use Rattle.model.specs.market.Market.{tables}
-use Rattle.model.specs.contracts.Replies.{verdictOf}
-use Rattle.model.specs.declared.answers.Reply.{Reply}
-use Rattle.model.proofs.answers.Reply as S
-use Rattle.model.proofs.answers.Reply.Laws as S′
+use Rattle.model.specs.Numbers.{answerOfVerdict}
+use Rattle.model.specs.declared.answers.Verdict.{Verdict}
+use Rattle.model.proofs.answers.Verdict as S
+use Rattle.model.proofs.answers.Verdict.Laws as S′
 use Rattle.model.specs.declared.account.StationAccount.{StationAccount}
 use Rattle.model.proofs.account.StationAccount as T
 use Rattle.model.specs.book.Posting.{Posting, posting}
@@ -67,9 +68,9 @@ use Rattle.bay_market.proofs.post.reply_number.Symbol.{name as #bay-mar
 use Rattle.bay_market.proofs.post.bay_market_post.Key.{name as #bay-market·post·bay-market-post}
 
 posted-out :
-    {entry exit : LentBook} {p : Posting} {v : Verdict} {k : ℕ} → Posted entry p v exit → k ≡ code v
+    {entry exit : LentBook} {p : Posting} {v : answers.Verdict} {k : ℕ} → Posted entry p v exit → k ≡ numberOf v
     → PostsOut entry p exit k
-posted-out said e = record { number-is = e ∙ ap code (said .answered); exit-is = said .left }
+posted-out said e = record { number-is = e ∙ ap numberOf (said .answered); left = said .left }
 
 abbrev Nums : Type 0
 Nums = RefT (List ℕ)
@@ -219,28 +220,28 @@ module _ {M : Type 1} (𝓤 : URA M) (H : Heap 𝓤) (A : Atoms 𝓤) (W : Given
       use2 W (raw (Post 𝓤 H A mem run .pre to-post)) post-asked $ frame ! $ move ! (1 ∷ 0 ∷ []) $ fjoin ! $
       move ! (1 ∷ 0 ∷ []) $ fjoin ! $ move ! (1 ∷ 0 ∷ []) $ fjoin ! $ done !
 
-  abbrev Said : Reply → List ℕ → List StationAccount → ℕ → ℕ → Type 0
+  abbrev Said : Verdict → List ℕ → List StationAccount → ℕ → ℕ → Type 0
   Said r guests′ stations′ house′ last′ =
       Posted (book (now guests) (now stations) (now house) (now last))
-      (posting (tables (now asks) (now bays) (now amounts) (now bids) width) round) (verdictOf r)
+      (posting (tables (now asks) (now bays) (now amounts) (now bids) width) round) (answerOfVerdict r)
       (book guests′ stations′ house′ last′)
 
   -- `reply_number`, on the reply r at the machine value v
-  abbrev to-number : Reply → Val → Number 𝓤 H A mem run .Ghost
+  abbrev to-number : Verdict → Val → Number 𝓤 H A mem run .Ghost
   to-number r v = ((tt, tt, tt, (r, tt), (v ∷ [], tt)), tt)
 
   goes-number :
-      (r : Reply) (v : Val) → ent 𝓤 (sem 𝓤 H A (S.the-row .own r (v ∷ []))) (Number 𝓤 H A mem run .pre (to-number r v))
+      (r : Verdict) (v : Val) → ent 𝓤 (sem 𝓤 H A (S.the-row .own r (v ∷ []))) (Number 𝓤 H A mem run .pre (to-number r v))
   goes-number r v =
       qed W (‵ (S.the-row .own r (v ∷ [])) ∷ []) ∵ nothing ! $ move ! (1 ∷ 0 ∷ []) $ fjoin ! $ nothing ! $
       join ! $ frame ! $ done !
 
   number-said :
-      (r : Reply) (k : ℕ)
+      (r : Verdict) (k : ℕ)
       → ent 𝓤 (ensured 𝓤 H A number.ended (number.clauses 𝓤 H A mem run) tt (r, tt) tt k)
-      (fact 𝓤 (k ≡ code (verdictOf r)))
+      (fact 𝓤 (k ≡ numberOf (answerOfVerdict r)))
   number-said r k =
-      exE 𝓤 _ (λ ws. snd∗ 𝓤 (sem 𝓤 H A (lasts number.ended tt (r, tt) ws)) (fact 𝓤 (k ≡ code (verdictOf r))))
+      exE 𝓤 _ (λ ws. snd∗ 𝓤 (sem 𝓤 H A (lasts number.ended tt (r, tt) ws)) (fact 𝓤 (k ≡ numberOf (answerOfVerdict r))))
 
   abbrev Had : List ℕ → List StationAccount → ℕ → ℕ → ℕ → Val → List (Item 𝓤)
   Had guests′ stations′ house′ last′ k v =
@@ -249,8 +250,8 @@ module _ {M : Type 1} (𝓤 : URA M) (H : Heap 𝓤) (A : Atoms 𝓤) (W : Given
       ∷ ‵ (u8 .own k (v ∷ [])) ∷ []
 
   exits :
-      (r : Reply) (guests′ : List ℕ) (stations′ : List StationAccount) (house′ last′ k : ℕ) (v : Val)
-      → Said r guests′ stations′ house′ last′ → k ≡ code (verdictOf r)
+      (r : Verdict) (guests′ : List ℕ) (stations′ : List StationAccount) (house′ last′ k : ℕ) (v : Val)
+      → Said r guests′ stations′ house′ last′ → k ≡ numberOf (answerOfVerdict r)
       → length guests′ ≡ length (now guests) → length stations′ ≡ length (now stations)
       → ent 𝓤 (⋆ 𝓤 H A (Had guests′ stations′ house′ last′ k v)) (Ends v)
   exits r guests′ stations′ house′ last′ k v said e l-guests l-stations =
@@ -319,7 +320,7 @@ module _ {M : Type 1} (𝓤 : URA M) (H : Heap 𝓤) (A : Atoms 𝓤) (W : Given
         (and-then ! (load ! (from ! (stop !)) (look ! 6 refl)) (and-then !
         (load ! (from ! (stop !)) (look ! 4 refl))
         (and-then ! (load ! (from ! (stop !)) (look ! 2 refl)) (no-more !))))))))))) (
-        λ u₀. use1 W (later (some (λ (r : Reply). (tokens ⊛ ‵ (S.the-row .own r (u₀ ∷ []))) ⊛ raw
+        λ u₀. use1 W (later (some (λ (r : Verdict). (tokens ⊛ ‵ (S.the-row .own r (u₀ ∷ []))) ⊛ raw
         (ensured 𝓤 H A post.ended (post.clauses 𝓤 H A mem run) κs a tt r)))) (id⊢ 𝓤 _) $
         await ! tt $ pick ! (λ r. split ! $ move ! (1 ∷ []) $
         use1 W (some (λ (ls : Lasts post.ended κs a). ‵ (lasts post.ended κs a ls) ⊛ raw
@@ -343,8 +344,8 @@ module _ {M : Type 1} (𝓤 : URA M) (H : Heap 𝓤) (A : Atoms 𝓤) (W : Given
         use1 W (later (some (λ (k : ℕ). (‵ ftrue ⊛ ‵ (u8 .own k (u₁ ∷ []))) ⊛ raw
         (ensured 𝓤 H A number.ended (number.clauses 𝓤 H A mem run) tt (r, tt) tt k)))) (id⊢ 𝓤 _) $
         await ! tt $
-        pick ! (λ k. split ! $ move ! (1 ∷ []) $ use1 W (raw (fact 𝓤 (k ≡ code (verdictOf r)))) (number-said r k) $
-        heard ! (k ≡ code (verdictOf r)) (λ e. split ! $
+        pick ! (λ k. split ! $ move ! (1 ∷ []) $ use1 W (raw (fact 𝓤 (k ≡ numberOf (answerOfVerdict r)))) (number-said r k) $
+        heard ! (k ≡ numberOf (answerOfVerdict r)) (λ e. split ! $
         drop ! $
         peeks ! u8 (Is u8) (shows 𝓤 H A u8) k (u₁ ∷ []) (
         λ is₁. land ! (from ! (stop !)) (init ! 41 refl (uint-lawful 𝓤 H A W w8 .typed k _ is₁ .0)) $

@@ -10,23 +10,23 @@ use Rattle.ledger.proofs.room.any_exceeds.Statement.{statement}
 use Rattle.ledger.proofs.room.any_exceeds.Tie as tie
 
 abbrev Inv-loop : tie.InvT-loop
-Inv-loop accounts adds found₀ k₀ found k =
-    (k ≤ length accounts) × (found ≡ some k (λ x. maxAccount <? getD accounts x 0 + getD adds x 0))
+Inv-loop accounts charges found₀ k₀ found k =
+    (k ≤ length accounts) × (found ≡ some k (λ x. maxAccount <? getD accounts x 0 + getD charges x 0))
 
 abbrev μ-loop : tie.MeasureT-loop
-μ-loop accounts adds found₀ k₀ found k = length accounts - k
+μ-loop accounts charges found₀ k₀ found k = length accounts - k
 
 loop-holds : tie.Need-loop-holds Inv-loop μ-loop
 loop-holds c = (search needs, scan-none _)
 
 loop-again : tie.Need-loop-again Inv-loop μ-loop
 loop-again c =
-    let at-loop = c .before .before .before .before in
-    let entry = at-loop .before .before .before in (
+    let at-loop = c .before .before .before .before .before in
+    let entry = at-loop .before .before in (
       search needs,
-      scan-turn _ _ _ _ (at-loop .loop .inv .1) (c .exceeds .ensures
+      scan-turn _ _ _ _ (at-loop .loop .inv .1) (c .mills-exceed .ensures
           ∙ ap (λ a. maxAccount <? getD (entry .args .accounts .now) (at-loop .loop .k) 0 + a)
-          (c .before .at .ensures)),
+          (c .before .wide .ensures)),
     )
 
 returns : tie.Need-returns Inv-loop μ-loop
@@ -40,7 +40,7 @@ any-exceeds-spec =
     Inv-loop
     μ-loop
     loop-holds
-    (λ c. search needs) (λ c. search needs) (λ c κs. search needs) (λ c κs. search needs) (λ c. search needs)
-    (λ c. search needs)
+    (λ c. search needs) (λ c. search needs) (λ c. search needs) (λ c. search needs) (λ c κs. search needs)
+    (λ c κs. search needs) (λ c. search needs) (λ c. search needs)
     loop-again
     returns)

@@ -1,6 +1,5 @@
 use mathlib.Core.Path.{sym, ap}
 use borrow.Author.Needs.{needs}
-use Rattle.model.specs.declared.refusal.Refusal.the-variants.{RoundOutOfTurn}
 use Rattle.model.specs.Counting.{_=?_}
 use Rattle.model.specs.Refusals.{_gives_}
 use Rattle.model.specs.book.Faults.{outOfTurn}
@@ -10,11 +9,11 @@ use Rattle.ledger.proofs.settling.out_of_turn.Tie as tie
 
 returns : tie.Need-returns
 unfolding outOfTurn
-returns c = ap (λ b. b gives RoundOutOfTurn) (sym (or-left _ _ (is-le _ _ (c .if1 .taken))))
+returns c = ap (λ b. b gives 11) (sym (or-left _ _ (is-le _ _ (c .if1 .taken))))
 
 returns-2 : tie.Need-returns-2
 unfolding outOfTurn _=?_
-returns-2 c = ap (λ b. b gives RoundOutOfTurn) (sym (or-skip _ (not-le _ _ (c .if1 .left))))
+returns-2 c = ap (λ b. b gives 11) (sym (or-skip _ (not-le _ _ (c .if1 .left))))
 
 pub out-of-turn-spec : {M : Type 1} → statement M
 out-of-turn-spec = tie.close (tie.spec returns (λ c. search needs) returns-2)

@@ -1,87 +1,112 @@
-use mathlib.Core.Path.{sym, _∙_}
+use Prim.Native.Nat.{_≤_}
+use mathlib.Core.Path.{refl, sym, _∙_}
 use native.Mathlib.Omega.{arith}
+use lib.ListN.{length}
 use borrow.Author.Needs.{needs}
+use Rattle.model.specs.Limits.{maxGuests}
 use Rattle.model.proofs.Tests.{lt-no}
-use Rattle.ledger.proofs.settling.Settling.{addable, all-fail, test-is, settled-refused, settled-late}
-use Rattle.ledger.proofs.settling.Settling.{settled-over, settled-posted}
+use Rattle.ledger.proofs.settling.Settling.{addable, all-fail, sized, test-is, settled-refused, settled-size}
+use Rattle.ledger.proofs.settling.Settling.{settled-late, settled-over, settled-posted}
 use Rattle.ledger.proofs.settling.settle.Statement.{statement}
 use Rattle.ledger.proofs.settling.settle.Tie as tie
 
-abbrev entry-before-enum-told : tie.After-enum-told → tie.Start
-entry-before-enum-told p = p .before .before .before .before
+abbrev start : tie.Else2 → tie.Start
+start p = p .before .before .before .before .before .before .before .before
+
+-- the book is not too large
+fits : (p : tie.Else2) → length (start p .args .guests .now) ≤ maxGuests
+fits p =
+    let at-wrong-size = p .before .before .before .before in
+    sized (start p .args .t1 .guests) (start p .args .t1 .stations) _ (start p .args .stations) _
+    (at-wrong-size .wrong-size .ensures) (p .before .before .before .if1 .left) .0
 
 returns : tie.Need-returns
 returns c =
-    let at-enum-told = c .before .before .before .before in
-    let entry = entry-before-enum-told at-enum-told in
-    settled-late (entry .args .r) (entry .args .full) _ _ _ _ _ _ (at-enum-told .enum-told .given .1)
-    (c .before .before .out-of-turn .ensures) (c .before .if1 .taken) (c .refusing2 .ensures)
+    let entry = c .before .before .before .before .before .before in
+    settled-size (entry .args .t1) (entry .args .full) (entry .args .stations) _ _ _ _ _
+    (c .before .before .before .enum-told .given .1) (c .before .before .wrong-size .ensures) _ (c .before .if1 .taken)
+    (c .refusing2 .ensures)
 
 returns-2 : tie.Need-returns-2
 returns-2 c =
-    let at-any-exceeds = c .before .before .before .before in
-    let at-if1 = at-any-exceeds .before .before .before in
-    let at-out-of-turn = at-if1 .before in
-    let at-enum-told = at-out-of-turn .before .before in
-    let entry = entry-before-enum-told at-enum-told in
-    settled-over (entry .args .r) (entry .args .full) _ _ _ _ _ _ (at-enum-told .enum-told .given .1)
-    (at-out-of-turn .out-of-turn .ensures) (at-if1 .if1 .left) (sym (test-is (entry .args .r) (entry .args .full)
-    (entry .args .round) _ _ (entry .args .last .now) _ _ (at-any-exceeds .any-exceeds .ensures)
-    (c .before .before .exceeds .ensures)) ∙ c .before .if2 .taken) (c .refusing3 .ensures)
+    let at-wrong-size = c .before .before .before .before .before in
+    let entry = at-wrong-size .before .before .before .before in
+    settled-late (entry .args .t1) (entry .args .full) (entry .args .stations) _ _ _ _ _
+    (at-wrong-size .before .enum-told .given .1) (at-wrong-size .wrong-size .ensures) _
+    (c .before .before .before .before .if1 .left) (c .before .before .out-of-turn .ensures) _ (c .before .if2 .taken)
+    (c .refusing3 .ensures)
 
-abbrev entry-before-any-exceeds : tie.After-any-exceeds → tie.Start
-entry-before-any-exceeds p = p .before .before .before .before .before .before .before .before .before .before
+any-exceeds-requires : tie.Need-any-exceeds-requires
+any-exceeds-requires c κs = fits (c .before .before .before)
+
+returns-3 : tie.Need-returns-3
+returns-3 c =
+    let at-any-exceeds = c .before .before .before .before .before in
+    let else2 = at-any-exceeds .before .before .before .before in
+    let at-wrong-size = else2 .before .before .before .before in
+    let args = start else2 .args in
+    settled-over (args .t1) (args .full) (args .stations) _ _ _ _ _
+    (at-wrong-size .before .enum-told .given .1) (at-wrong-size .wrong-size .ensures) _
+    (else2 .before .before .before .if1 .left) (else2 .before .out-of-turn .ensures) _ (else2 .if2 .left)
+    (sym (test-is (args .t1) (args .full) (args .stations) (args .round) _ _ (args .last .now) _ _
+    (at-any-exceeds .any-exceeds .ensures) (c .before .before .mills-exceed .ensures)) ∙ c .before .if3 .taken)
+    (c .refusing4 .ensures)
 
 add-requires : tie.Need-add-requires
 add-requires c κs =
-    let at-exceeds = c .before .before .before in
-    let at-any-exceeds = at-exceeds .before .before in
-    let entry = entry-before-any-exceeds at-any-exceeds in
-    addable _ _ (sym (at-any-exceeds .any-exceeds .ensures)
-    ∙ all-fail (entry .args .full) _ (at-exceeds .exceeds .result) (c .before .before .if2 .left) .0)
-
-add-house : tie.Need-add-house
-add-house c =
-    let at-if2 = c .before .before .before .before .before in
-    let at-exceeds = at-if2 .before in
-    let at-any-exceeds = at-exceeds .before .before in
-    let entry = entry-before-any-exceeds at-any-exceeds in
-    omega (
-      arith,
-      lt-no _ _ (sym (at-exceeds .exceeds .ensures)
-          ∙ all-fail (entry .args .full) (at-any-exceeds .any-exceeds .result) _ (at-if2 .if2 .left) .1),
+    let at-mills-exceed = c .before .before .before .before in
+    let at-any-exceeds = at-mills-exceed .before .before .before in
+    let else2 = at-any-exceeds .before .before .before .before in (
+      fits else2,
+      addable _ _ (sym (at-any-exceeds .any-exceeds .ensures)
+          ∙ all-fail (start else2 .args .full) _ (at-mills-exceed .mills-exceed .result)
+          (c .before .before .before .if3 .left) .0),
     )
 
-returns-3 : tie.Need-returns-3
-returns-3 c = settled-refused _ _ _ _ _ _ _ _ (c .before .before .reply .given .1) (c .refusing .ensures)
+plus-requires : tie.Need-plus-requires
+plus-requires c κs =
+    let else3 = c .before .before .before .before .before .before .before in
+    let at-mills-exceed = else3 .before in
+    let at-any-exceeds = at-mills-exceed .before .before .before in
+    let else2 = at-any-exceeds .before .before .before .before in
+    omega (
+      arith,
+      lt-no _ _ (sym (at-mills-exceed .mills-exceed .ensures)
+          ∙ all-fail (start else2 .args .full) (at-any-exceeds .any-exceeds .result) _ (else3 .if3 .left) .1),
+    )
 
 returns-4 : tie.Need-returns-4
-returns-4 c =
-    let at-if2 = c .before .before .before .before .before in
-    let at-exceeds = at-if2 .before in
-    let at-any-exceeds = at-exceeds .before .before in
-    let at-if1 = at-any-exceeds .before .before .before in
-    let at-out-of-turn = at-if1 .before in
-    let at-enum-told = at-out-of-turn .before .before in
-    let entry = entry-before-enum-told at-enum-told in
-    settled-posted (entry .args .r) (entry .args .full) _ _ _ _ _ _ (at-enum-told .enum-told .given .1)
-    (at-out-of-turn .out-of-turn .ensures) (at-if1 .if1 .left) (sym (test-is (entry .args .r) (entry .args .full)
-    (entry .args .round) _ _ (entry .args .last .now) _ _ (at-any-exceeds .any-exceeds .ensures)
-    (at-exceeds .exceeds .ensures)) ∙ at-if2 .if2 .left) (c .before .before .add .ensures)
+returns-4 c = settled-refused _ _ _ _ _ _ _ _ _ (c .before .before .reply .given .1) (c .refusing .ensures)
+
+returns-5 : tie.Need-returns-5
+returns-5 c =
+    let else3 = c .before .before .before .before .before .before .before .before in
+    let at-mills-exceed = else3 .before in
+    let at-any-exceeds = at-mills-exceed .before .before .before in
+    let else2 = at-any-exceeds .before .before .before .before in
+    let at-wrong-size = else2 .before .before .before .before in
+    let args = start else2 .args in
+    settled-posted (args .t1) (args .full) (args .stations) _ _ _ _ _
+    (at-wrong-size .before .enum-told .given .1) (at-wrong-size .wrong-size .ensures) _
+    (else2 .before .before .before .if1 .left) (else2 .before .out-of-turn .ensures) _ _ _ (else2 .if2 .left)
+    (sym (test-is (args .t1) (args .full) (args .stations) (args .round) _ _ (args .last .now) _ _
+    (at-any-exceeds .any-exceeds .ensures) (at-mills-exceed .mills-exceed .ensures)) ∙ else3 .if3 .left)
+    (at-wrong-size .before .enum-told .given .1) refl
+    (c .before .before .before .add .ensures) (c .plus .ensures)
 
 pub settle-spec : {M : Type 1} → statement M
 settle-spec =
     tie.close
     (tie.spec
-    (λ c. search needs) (λ c κs. search needs) (λ c. search needs) (λ c κs. search needs)
-    (λ c κs. search needs)
+    (λ c. search needs) (λ c κs. search needs) (λ c. search needs) (λ c κs. search needs) (λ c κs. search needs)
     returns
-    (λ c. search needs) (λ c κs. search needs) (λ c κs. search needs) (λ c κs. search needs)
-    (λ c. search needs)
+    (λ c κs. search needs) (λ c κs. search needs)
     returns-2
-    (λ c. search needs)
-    add-requires
-    add-house
+    any-exceeds-requires
+    (λ c κs. search needs) (λ c κs. search needs) (λ c. search needs)
     returns-3
+    add-requires
+    plus-requires
+    returns-4
     (λ c. search needs)
-    returns-4)
+    returns-5)

@@ -1,39 +1,44 @@
+use Prim.Native.Nat.{_+_}
+use mathlib.Core.Path.{_∙_, ap}
 use native.Mathlib.Omega.{arith}
 use borrow.Author.Needs.{needs}
-use Rattle.ledger.proofs.stations.Stations.{room, credited-not, credited-yes}
+use Rattle.ledger.proofs.stations.Stations.{room, credited-not, credited-past, credited-yes, sold-in, paid-in}
 use Rattle.ledger.proofs.stations.credited.Statement.{statement}
 use Rattle.ledger.proofs.stations.credited.Tie as tie
 
 returns : tie.Need-returns
 returns c = credited-not _ _ _ (c .before .station-exceeds .ensures) (c .if1 .taken)
 
-add-sold : tie.Need-add-sold
-add-sold c =
-    let at-if1 = c .before .before .before .before .before in
-    let at-station-exceeds = at-if1 .before in
-    omega (
-      arith,
-      c .before .at .ensures,
-      room _ _ _ (at-station-exceeds .station-exceeds .ensures) (at-if1 .if1 .left) .0,
-    )
-
-add-paid : tie.Need-add-paid
-add-paid c =
-    let at-if1 = c .before .before .before .before .before .before .before .before in
-    let at-station-exceeds = at-if1 .before in
-    omega (
-      arith,
-      c .before .at2 .ensures,
-      room _ _ _ (at-station-exceeds .station-exceeds .ensures) (at-if1 .if1 .left) .1,
-    )
-
 returns-2 : tie.Need-returns-2
-returns-2 c =
-    let at-at = c .before .before .before .before in
-    let at-if1 = at-at .before .before .before .before in
-    let at-station-exceeds = at-if1 .before in
-    credited-yes _ _ _ (at-station-exceeds .station-exceeds .ensures) (at-if1 .if1 .left) (at-at .at .ensures)
-    (c .before .at2 .ensures)
+returns-2 c = credited-past _ _ _ (c .before .before .station-exceeds .ensures) (c .before .if1 .left) (c .if2 .taken)
+
+add-t13 : tie.Need-add-t13
+add-t13 c =
+    let else1 = c .before .before .before in
+    let args = else1 .before .before .args in
+    omega (
+      arith,
+      room (args .t2) _ _ (else1 .before .station-exceeds .ensures) (else1 .if1 .left) .0,
+      sold-in (args .t2) (args .j) (omega arith),
+    )
+
+plus-requires : tie.Need-plus-requires
+plus-requires c κs =
+    let else1 = c .before .before .before .before in
+    let args = else1 .before .before .args in
+    omega (
+      arith,
+      room (args .t2) _ _ (else1 .before .station-exceeds .ensures) (else1 .if1 .left) .1,
+      paid-in (args .t2) (args .j) (omega arith),
+    )
+
+returns-3 : tie.Need-returns-3
+returns-3 c =
+    let else1 = c .before .before .before .before .before in
+    let args = else1 .before .before .args in
+    credited-yes (args .t2) (args .j) (args .account) (else1 .before .station-exceeds .ensures) (else1 .if1 .left)
+    (ap (λ x. args .account .sold + x) (sold-in (args .t2) (args .j) (omega arith)))
+    (c .plus .ensures ∙ ap (λ x. args .account .paid + x) (paid-in (args .t2) (args .j) (omega arith)))
 
 pub credited-spec : {M : Type 1} → statement M
 credited-spec =
@@ -41,8 +46,9 @@ credited-spec =
     (tie.spec
     (λ c κs. search needs)
     returns
-    (λ c. search needs) (λ c κs. search needs)
-    add-sold
-    (λ c. search needs) (λ c κs. search needs)
-    add-paid
-    returns-2)
+    returns-2
+    (λ c. search needs) (λ c. search needs) (λ c. search needs)
+    add-t13
+    (λ c. search needs) (λ c. search needs)
+    plus-requires
+    returns-3)

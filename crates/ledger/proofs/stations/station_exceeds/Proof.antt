@@ -1,20 +1,32 @@
+use native.Mathlib.Omega.{arith}
 use borrow.Author.Needs.{needs}
-use Rattle.ledger.proofs.stations.Stations.{exceeds-is}
+use Rattle.ledger.proofs.stations.Stations.{exceeds-is, sold-past, paid-past, sold-in, paid-in}
 use Rattle.ledger.proofs.stations.station_exceeds.Statement.{statement}
 use Rattle.ledger.proofs.stations.station_exceeds.Tie as tie
 
 returns : tie.Need-returns
 returns c =
-    let at-exceeds = c .before .before .before in
-    let at-at = at-exceeds .before in
-    let entry = at-at .before .before .before .before in
-    exceeds-is _ _ _ (entry .args .before) _ _ (at-at .at .ensures) (c .before .at2 .ensures)
-    (at-exceeds .exceeds .ensures) (c .exceeds2 .ensures)
+    let else1 = c .before .before in
+    let r = else1 .before .args .t2 in
+    let j = else1 .before .args .j in
+    let past = else1 .if1 .taken in
+    exceeds-is r j _ (else1 .before .args .before) _ _ (sold-past r j past) (paid-past r j past)
+    (c .before .kwh-exceed .ensures) (c .mills-exceed .ensures)
+
+returns-2 : tie.Need-returns-2
+returns-2 c =
+    let entry = c .before .before .before .before .before in
+    let r = entry .args .t2 in
+    let j = entry .args .j in
+    exceeds-is r j _ (entry .args .before) _ _ (sold-in r j (omega arith)) (paid-in r j (omega arith))
+    (c .before .before .kwh-exceed2 .ensures) (c .mills-exceed2 .ensures)
 
 pub station-exceeds-spec : {M : Type 1} → statement M
 station-exceeds-spec =
     tie.close
     (tie.spec
-    (λ c. search needs) (λ c κs. search needs) (λ c κs. search needs) (λ c. search needs)
     (λ c κs. search needs) (λ c κs. search needs)
-    returns)
+    returns
+    (λ c. search needs) (λ c. search needs) (λ c κs. search needs) (λ c. search needs) (λ c. search needs)
+    (λ c κs. search needs)
+    returns-2)
