@@ -33,9 +33,12 @@ fn clear_with_room(
     paid: &mut [u64],
 ) -> Clearing
     requires { ⌜ WithinLimits (regular (now asks) (now bays) (now amounts) (now bids)) ⌝ }
-    requires { ⌜ RightLengths (regular (now asks) (now bays) (now amounts) (now bids)) (results (now stations) (now charges) (now sold) (now paid)) ⌝ }
+    requires { ⌜ RightLengths (regular (now asks) (now bays) (now amounts) (now bids))
+        (results (now stations) (now charges) (now sold) (now paid)) ⌝ }
     requires { ⌜ length (now least) ≡ length (now amounts) ⌝ }
-    ensures { λ r. ⌜ Settles (regular (now (asks .entry)) (now (bays .entry)) (now (amounts .entry)) (now (bids .entry))) r (results (now (stations .exit)) (now (charges .exit)) (now (sold .exit)) (now (paid .exit))) ⌝ }
+    ensures { λ r. ⌜ Settles
+        (regular (now (asks .entry)) (now (bays .entry)) (now (amounts .entry)) (now (bids .entry))) r
+        (results (now (stations .exit)) (now (charges .exit)) (now (sold .exit)) (now (paid .exit))) ⌝ }
 {
     let cut = cut::cut(asks);
     charges::least_charges(amounts, cut, least);
@@ -56,8 +59,11 @@ fn clear_accepted(
     paid: &mut [u64],
 ) -> Clearing
     requires { ⌜ WithinLimits (regular (now asks) (now bays) (now amounts) (now bids)) ⌝ }
-    requires { ⌜ RightLengths (regular (now asks) (now bays) (now amounts) (now bids)) (results (now stations) (now charges) (now sold) (now paid)) ⌝ }
-    ensures { λ r. ⌜ Settles (regular (now (asks .entry)) (now (bays .entry)) (now (amounts .entry)) (now (bids .entry))) r (results (now (stations .exit)) (now (charges .exit)) (now (sold .exit)) (now (paid .exit))) ⌝ }
+    requires { ⌜ RightLengths (regular (now asks) (now bays) (now amounts) (now bids))
+        (results (now stations) (now charges) (now sold) (now paid)) ⌝ }
+    ensures { λ r. ⌜ Settles
+        (regular (now (asks .entry)) (now (bays .entry)) (now (amounts .entry)) (now (bids .entry))) r
+        (results (now (stations .exit)) (now (charges .exit)) (now (sold .exit)) (now (paid .exit))) ⌝ }
 {
     let mut least = [0u32; MAX_GUESTS];
     let n = amounts.len();
@@ -86,7 +92,10 @@ pub fn clear(
     sold: &mut [u32],
     paid: &mut [u64],
 ) -> Clearing
-    ensures { λ r. ⌜ Clears (tables (now (asks .entry)) (now (bays .entry)) (now (amounts .entry)) (now (bids .entry)) width) (results (now (stations .entry)) (now (charges .entry)) (now (sold .entry)) (now (paid .entry))) r (results (now (stations .exit)) (now (charges .exit)) (now (sold .exit)) (now (paid .exit))) ⌝ }
+    ensures { λ r. ⌜ Clears
+        (tables (now (asks .entry)) (now (bays .entry)) (now (amounts .entry)) (now (bids .entry)) width)
+        (results (now (stations .entry)) (now (charges .entry)) (now (sold .entry)) (now (paid .entry))) r
+        (results (now (stations .exit)) (now (charges .exit)) (now (sold .exit)) (now (paid .exit))) ⌝ }
 {
     let verdict = faults::first_fault(
         asks,

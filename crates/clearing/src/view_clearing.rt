@@ -16,7 +16,11 @@ pub fn clear_table(
     sold: &mut [u32],
     paid: &mut [u64],
 ) -> Clearing
-    ensures { λ r. ⌜ Clears (tables (now (asks .entry)) (now (bays .entry)) (now (amounts .entry)) (now (table .entry .bids)) (table .entry .width)) (results (now (stations .entry)) (now (charges .entry)) (now (sold .entry)) (now (paid .entry))) r (results (now (stations .exit)) (now (charges .exit)) (now (sold .exit)) (now (paid .exit))) ⌝ }
+    ensures { λ r. ⌜ Clears
+        (tables (now (asks .entry)) (now (bays .entry)) (now (amounts .entry))
+        (now (table .entry .bids)) (table .entry .width))
+        (results (now (stations .entry)) (now (charges .entry)) (now (sold .entry)) (now (paid .entry))) r
+        (results (now (stations .exit)) (now (charges .exit)) (now (sold .exit)) (now (paid .exit))) ⌝ }
 {
     crate::clear(
         asks,

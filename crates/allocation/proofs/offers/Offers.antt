@@ -95,7 +95,8 @@ unfolding picked
 picked-max a b = ⊎-elim (λ (l : a < b). rw (is-lt a b l) (omega arith)) (λ (l : b ≤ a). rw (not-lt a b l) (omega arith))
     (lt-or-le a b)
 
--- one guest more: of the total x, the least charge y and the gain z before, the code found w, c and g, and stored v1 and v2
+-- one guest more: of the total x, the least charge y and the gain z before, the code found w, c and
+-- g, and stored v1 and v2
 pub offers-more :
     {totals least : List ℕ} {t e s : ℕ} {chosen₀ gains₀ : List ℕ} {i : ℕ} {chosen gains : List ℕ}
     {w : Bool} {x y z c g v1 v2 : ℕ}
@@ -106,7 +107,8 @@ pub offers-more :
     → Offering totals least t e s chosen₀ gains₀ (i + 1) (set chosen i v1) (set gains i v2)
 unfolding taken gainAt chargeAt
 offers-more {i = i} {z = z} {g = g} h l ex ey ez ew ec eg e1 e2 = record {
-  chosen-are = filling-turn (h .chosen-are) l (cc (h .gains-are .filled .left i (le-refl i), h .chosen-are .filled .left i (le-refl i)));
+  chosen-are = filling-turn (h .chosen-are) l
+      (cc (h .gains-are .filled .left i (le-refl i), h .chosen-are .filled .left i (le-refl i)));
   gains-are = filling-turn (h .gains-are) l (cc (h .gains-are .filled .left i (le-refl i), picked-max z g));
 }
 

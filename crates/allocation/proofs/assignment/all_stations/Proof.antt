@@ -18,27 +18,47 @@ abbrev μ-loop : tie.MeasureT-loop
     length asks - j
 
 loop-holds : tie.Need-loop-holds Inv-loop μ-loop
-loop-holds c = turning-none (c .before .before .before .before .before .before .before .before .before .pre .1 .0) (c .before .before .before .before .before .before .before .before .before .pre .1 .1)
+loop-holds c =
+    let entry = c .before .before .before .before .before .before .before .before .before in
+    turning-none (entry .pre .1 .0) (entry .pre .1 .1)
+
+abbrev entry-before-loop : tie.At-loop Inv-loop μ-loop → tie.Start Inv-loop μ-loop
+entry-before-loop p = p .before .before .before .before .before .before .before .before .before .before
 
 station-requires : tie.Need-station-requires Inv-loop μ-loop
 station-requires c κs =
-    (c .before .before .before .before .before .before .before .before .before .before .before .before .before .before .before .pre .0, ((c .before .before .before .before .loop-test .taken, c .before .before .before .before .before .loop .inv .long), c .before .before .before .before .before .loop .inv .turned .after))
+    let at-loop-test = c .before .before .before .before in
+    let at-loop = at-loop-test .before in
+    let entry = entry-before-loop at-loop in
+    (entry .pre .0, ((at-loop-test .loop-test .taken, at-loop .loop .inv .long), at-loop .loop .inv .turned .after))
 
 loop-again : tie.Need-loop-again Inv-loop μ-loop
 loop-again c =
-    turning-more (c .before .before .before .before .before .before .before .before .before .before .before .before .before .before .loop .inv) (c .before .before .before .before .before .before .before .before .before .before .before .before .before .loop-test .taken) (c .before .before .before .before .before .before .before .before .station .kept .1 .1 .1 .1 .1 .1 .1 .0) (c .before .before .before .before .before .before .before .before .station .ensures)
+    let at-station = c .before .before .before .before .before .before .before .before in
+    let at-loop-test = at-station .before .before .before .before .before in
+    let at-loop = at-loop-test .before in
+    turning-more (at-loop .loop .inv) (at-loop-test .loop-test .taken)
+    (at-station .station .kept .1 .1 .1 .1 .1 .1 .1 .0) (at-station .station .ensures)
 
 same-length : tie.Need-same-length Inv-loop μ-loop
-same-length c = c .before .loop .inv .long ∙ sym (c .before .before .before .before .before .before .before .before .before .before .before .pre .1 .0)
+same-length c =
+    let entry = entry-before-loop (c .before) in
+    c .before .loop .inv .long ∙ sym (entry .pre .1 .0)
 
 same-length-2 : tie.Need-same-length-2 Inv-loop μ-loop
-same-length-2 c = long _ _ (c .before .loop .inv .turned .after .chosen-are) ∙ sym (long _ _ (c .before .before .before .before .before .before .before .before .before .before .before .pre .1 .1 .chosen-are))
+same-length-2 c =
+    let entry = entry-before-loop (c .before) in
+    long _ _ (c .before .loop .inv .turned .after .chosen-are) ∙ sym (long _ _ (entry .pre .1 .1 .chosen-are))
 
 same-length-3 : tie.Need-same-length-3 Inv-loop μ-loop
-same-length-3 c = long _ _ (c .before .loop .inv .turned .after .gains-are) ∙ sym (long _ _ (c .before .before .before .before .before .before .before .before .before .before .before .pre .1 .1 .gains-are))
+same-length-3 c =
+    let entry = entry-before-loop (c .before) in
+    long _ _ (c .before .loop .inv .turned .after .gains-are) ∙ sym (long _ _ (entry .pre .1 .1 .gains-are))
 
 same-length-4 : tie.Need-same-length-4 Inv-loop μ-loop
-same-length-4 c = long _ _ (c .before .loop .inv .turned .after .criticals-are) ∙ sym (long _ _ (c .before .before .before .before .before .before .before .before .before .before .before .pre .1 .1 .criticals-are))
+same-length-4 c =
+    let entry = entry-before-loop (c .before) in
+    long _ _ (c .before .loop .inv .turned .after .criticals-are) ∙ sym (long _ _ (entry .pre .1 .1 .criticals-are))
 
 returns : tie.Need-returns Inv-loop μ-loop
 returns c = turning-end (c .before .loop .inv) (c .loop-test .left)

@@ -5,17 +5,34 @@ use Rattle.allocation.proofs.assignment.assign.Statement.{statement}
 use Rattle.allocation.proofs.assignment.assign.Tie as tie
 
 all-stations-requires : tie.Need-all-stations-requires
-all-stations-requires c κs = (c .before .before .before .before .before .before .before .before .before .before .before .before .before .before .before .pre .0, (c .before .before .before .before .before .before .before .before .before .before .before .before .before .before .before .pre .1 .0, c .before .before .before .before .before .before .before .before .before .before .before .before .before .before .before .pre .1 .1 .0))
+all-stations-requires c κs =
+    let entry = c .before .before .before .before .before .before .before .before .before .before .before .before
+    .before .before .before in
+    (entry .pre .0, (entry .pre .1 .0, entry .pre .1 .1 .0))
+
+abbrev entry-before-all-stations : tie.After-all-stations → tie.Start
+entry-before-all-stations p =
+    p .before .before .before .before .before .before .before .before .before .before .before .before
+    .before .before .before .before
 
 charge-guests-requires : tie.Need-charge-guests-requires
 charge-guests-requires c κs =
-    chargeable (regular _ _ _ _) (c .before .before .before .before .before .before .before .before .before .before .before .before .before .before .before .before .before .before .before .before .before .before .before .before .before .before .before .before .pre .0) (c .before .before .before .before .before .before .before .before .before .before .before .before .all-stations .ensures .after) (c .before .before .before .before .before .before .before .before .before .before .before .before .before .before .before .before .before .before .before .before .before .before .before .before .before .before .before .before .pre .1 .1 .1 .0) (c .before .before .before .before .before .before .before .before .before .before .before .before .before .before .before .before .before .before .before .before .before .before .before .before .before .before .before .before .pre .1 .1 .1 .1)
+    let at-all-stations = c .before .before .before .before .before .before .before .before .before
+    .before .before .before in
+    let entry = entry-before-all-stations at-all-stations in
+    chargeable (regular _ _ _ _) (entry .pre .0) (at-all-stations .all-stations .ensures .after)
+    (entry .pre .1 .1 .1 .0) (entry .pre .1 .1 .1 .1)
 
 returns : tie.Need-returns
-returns c = (
-  c .before .before .before .before .before .before .before .before .before .before .before .before .before .before .before .before .before .all-stations .ensures,
-  assigned (regular _ _ _ _) (c .before .before .before .before .before .before .before .before .before .before .before .before .before .before .before .before .before .before .before .before .before .before .before .before .before .before .before .before .before .before .before .before .before .pre .0) (c .before .before .before .before .before .before .before .before .before .before .before .before .before .before .before .before .before .all-stations .ensures .after) (c .before .before .before .before .charge-guests .ensures),
-)
+returns c =
+    let at-charge-guests = c .before .before .before .before in
+    let at-all-stations = at-charge-guests .before .before .before .before .before .before .before .before .before
+    .before .before .before .before in
+    let entry = entry-before-all-stations at-all-stations in (
+      at-all-stations .all-stations .ensures,
+      assigned (regular _ _ _ _) (entry .pre .0) (at-all-stations .all-stations .ensures .after)
+          (at-charge-guests .charge-guests .ensures),
+    )
 
 pub assign-spec : {M : Type 1} → statement M
 assign-spec =

@@ -7,21 +7,31 @@ use Rattle.allocation.proofs.assignment.assign_all.Statement.{statement
 use Rattle.allocation.proofs.assignment.assign_all.Tie as tie
 
 slice-aggregate-assign : tie.Need-slice-aggregate-assign
-slice-aggregate-assign c = zeros-long maxGuests _ (c .before .before .before .before .before .before .before .before .pre .0 .within .guests-most)
+slice-aggregate-assign c =
+    let entry = c .before .before .before .before .before .before .before .before in
+    zeros-long maxGuests _ (entry .pre .0 .within .guests-most)
 
 slice-aggregate-assign-2 : tie.Need-slice-aggregate-assign-2
-slice-aggregate-assign-2 c = zeros-long maxGuests _ (c .before .before .before .before .before .before .before .before .before .pre .0 .within .guests-most)
+slice-aggregate-assign-2 c =
+    let entry = c .before .before .before .before .before .before .before .before .before in
+    zeros-long maxGuests _ (entry .pre .0 .within .guests-most)
 
 slice-aggregate-assign-3 : tie.Need-slice-aggregate-assign-3
-slice-aggregate-assign-3 c = zeros-long maxGuests _ (c .before .before .before .before .before .before .before .before .before .before .pre .0 .within .guests-most)
+slice-aggregate-assign-3 c =
+    let entry = c .before .before .before .before .before .before .before .before .before .before in
+    zeros-long maxGuests _ (entry .pre .0 .within .guests-most)
 
 assign-requires : tie.Need-assign-requires
 assign-requires c κs =
-    let most = c .before .before .before .before .before .before .before .before .before .before .before .before .before .pre .0 .within .guests-most in
-    (c .before .before .before .before .before .before .before .before .before .before .before .before .before .pre .0, (sym (zeros-long maxGuests _ most), (after-none most, c .before .before .before .before .before .before .before .before .before .before .before .before .before .pre .1)))
+    let entry = c .before .before .before .before .before .before .before .before .before .before
+    .before .before .before in
+    let most = entry .pre .0 .within .guests-most in
+    (entry .pre .0, (sym (zeros-long maxGuests _ most), (after-none most, entry .pre .1)))
 
 returns : tie.Need-returns
-returns c = c .before .before .before .before .before .before .before .before .assign .ensures .1
+returns c =
+    let at-assign = c .before .before .before .before .before .before .before .before in
+    at-assign .assign .ensures .1
 
 pub assign-all-spec : {M : Type 1} → statement M
 assign-all-spec =

@@ -18,64 +18,121 @@ abbrev μ-loop : tie.MeasureT-loop
 loop-holds : tie.Need-loop-holds Inv-loop μ-loop
 loop-holds c = offers-none (c .before .before .before .before .pre)
 
+abbrev entry-before-loop : tie.At-loop Inv-loop μ-loop → tie.Start Inv-loop μ-loop
+entry-before-loop p = p .before .before .before .before .before
+
 larger-small-requires : tie.Need-larger-small-requires Inv-loop μ-loop
-larger-small-requires c κs = (
-  omega (
-    arith,
-    c .wide2 .ensures,
-    c .before .before .before .before .before .before .before .before .before .before .pre .least-low (c .before .before .before .before .before .loop .i) (omega (arith, c .before .before .before .before .before .before .before .before .before .before .pre .least-long, c .before .before .before .before .loop-test .taken)),
-  ),
-  omega (arith, c .before .before .before .before .before .before .before .before .before .before .pre .critical-low),
-)
+larger-small-requires c κs =
+    let at-loop-test = c .before .before .before .before in
+    let at-loop = at-loop-test .before in
+    let entry = entry-before-loop at-loop in (
+      omega (
+        arith,
+        c .wide2 .ensures,
+        entry .pre .least-low (at-loop .loop .i)
+            (omega (arith, entry .pre .least-long, at-loop-test .loop-test .taken)),
+        entry .pre .totals-low (at-loop .loop .i) (at-loop-test .loop-test .taken),
+      ),
+      omega (arith, entry .pre .critical-low),
+    )
 
 wins-requires : tie.Need-wins-requires Inv-loop μ-loop
-wins-requires c κs = (
-  c .before .before .before .before .before .before .before .before .before .before .before .pre .no-tie,
-  (
-    omega (arith, c .before .before .before .before .before .before .before .before .before .before .before .pre .few, c .before .before .before .before .before .loop-test .taken),
-    omega (arith, c .before .before .before .before .before .before .before .before .before .before .before .pre .bound-low),
-    omega (arith, c .before .before .before .wide .ensures, c .before .before .before .before .before .before .before .before .before .before .before .pre .totals-low _ (c .before .before .before .before .before .loop-test .taken)),
-    c .before .before .before .before .before .before .before .before .before .before .before .pre .critical-low,
-  ),
-)
+wins-requires c κs =
+    let at-wide = c .before .before .before in
+    let at-loop-test = at-wide .before .before in
+    let entry = entry-before-loop (at-loop-test .before) in (
+      entry .pre .no-tie,
+      (
+        omega (arith, entry .pre .few, at-loop-test .loop-test .taken),
+        omega (arith, entry .pre .bound-low),
+        omega (arith, at-wide .wide .ensures, entry .pre .totals-low _ (at-loop-test .loop-test .taken)),
+        entry .pre .critical-low,
+      ),
+    )
 
 gain-for-requires : tie.Need-gain-for-requires Inv-loop μ-loop
-gain-for-requires c κs = (
-  omega (arith, c .before .before .before .before .wide .ensures, c .before .before .before .before .before .before .before .before .before .before .before .before .pre .totals-low _ (c .before .before .before .before .before .before .loop-test .taken)),
-  (λ w. rw (c .before .larger-small .ensures) (won-pays _ _ _ _ _
-      (λ p. omega (arith, c .before .before .before .before .wide .ensures, c .before .before .wide2 .ensures, c .before .before .before .before .before .before .before .before .before .before .before .before .pre .covers _ (c .before .before .before .before .before .before .loop-test .taken) (omega (arith, c .before .before .before .before .wide .ensures))))
-      (c .before .before .before .before .before .before .before .before .before .before .before .before .pre .no-tie) (sym (c .wins .ensures) ∙ w))),
-)
+gain-for-requires c κs =
+    let at-wide = c .before .before .before .before in
+    let at-loop-test = at-wide .before .before in
+    let entry = entry-before-loop (at-loop-test .before) in (
+      omega (arith, at-wide .wide .ensures, entry .pre .totals-low _ (at-loop-test .loop-test .taken)),
+      (λ w. rw (c .before .larger-small .ensures) (won-pays _ _ _ _ _
+          (λ p. omega (
+            arith,
+            at-wide .wide .ensures,
+            c .before .before .wide2 .ensures,
+            entry .pre .covers _ (at-loop-test .loop-test .taken) (omega (arith, at-wide .wide .ensures)),
+          ))
+          (entry .pre .no-tie) (sym (c .wins .ensures) ∙ w))),
+    )
 
 pick-requires : tie.Need-pick-requires Inv-loop μ-loop
-pick-requires c κs = (
-  omega (arith, c .before .wide3 .ensures, gain-left (c .before .before .before .before .before .before .before .before .before .before .before .before .before .before .before .before .pre) (c .before .before .before .before .before .before .before .before .before .before .before .loop .inv) (c .before .before .before .before .before .before .before .before .before .before .loop-test .taken)),
-  gain-low _ _ _ (omega (arith, c .before .before .before .before .before .before .before .before .wide .ensures, c .before .before .before .before .before .before .before .before .before .before .before .before .before .before .before .before .pre .totals-low _ (c .before .before .before .before .before .before .before .before .before .before .loop-test .taken))) (c .before .before .before .gain-for .ensures),
-)
+pick-requires c κs =
+    let at-gain-for = c .before .before .before in
+    let at-wide = at-gain-for .before .before .before .before .before in
+    let at-loop-test = at-wide .before .before in
+    let at-loop = at-loop-test .before in
+    let entry = entry-before-loop at-loop in (
+      omega (
+        arith,
+        c .before .wide3 .ensures,
+        gain-left (entry .pre) (at-loop .loop .inv) (at-loop-test .loop-test .taken),
+      ),
+      gain-low _ _ _ (omega (arith, at-wide .wide .ensures, entry .pre .totals-low _ (at-loop-test .loop-test .taken)))
+          (at-gain-for .gain-for .ensures),
+    )
 
 larger-small-requires-2 : tie.Need-larger-small-requires-2 Inv-loop μ-loop
-larger-small-requires-2 c κs = (
-  omega (arith, c .before .before .wide3 .ensures, gain-left (c .before .before .before .before .before .before .before .before .before .before .before .before .before .before .before .before .before .pre) (c .before .before .before .before .before .before .before .before .before .before .before .before .loop .inv) (c .before .before .before .before .before .before .before .before .before .before .before .loop-test .taken)),
-  omega (
-    arith,
-    gain-low _ _ _ (omega (arith, c .before .before .before .before .before .before .before .before .before .wide .ensures, c .before .before .before .before .before .before .before .before .before .before .before .before .before .before .before .before .before .pre .totals-low _ (c .before .before .before .before .before .before .before .before .before .before .before .loop-test .taken))) (c .before .before .before .before .gain-for .ensures),
-  ),
-)
+larger-small-requires-2 c κs =
+    let at-gain-for = c .before .before .before .before in
+    let at-wide = at-gain-for .before .before .before .before .before in
+    let at-loop-test = at-wide .before .before in
+    let at-loop = at-loop-test .before in
+    let entry = entry-before-loop at-loop in (
+      omega (
+        arith,
+        c .before .before .wide3 .ensures,
+        gain-left (entry .pre) (at-loop .loop .inv) (at-loop-test .loop-test .taken),
+      ),
+      omega (
+        arith,
+        gain-low _ _ _
+            (omega (arith, at-wide .wide .ensures, entry .pre .totals-low _ (at-loop-test .loop-test .taken)))
+            (at-gain-for .gain-for .ensures),
+      ),
+    )
 
 narrow-requires : tie.Need-narrow-requires Inv-loop μ-loop
 narrow-requires c κs =
+    let at-wide3 = c .before .before .before in
+    let at-gain-for = at-wide3 .before .before in
+    let at-wide = at-gain-for .before .before .before .before .before in
+    let at-loop-test = at-wide .before .before in
+    let at-loop = at-loop-test .before in
+    let entry = entry-before-loop at-loop in
     omega (
       arith,
       c .larger-small2 .ensures,
-      c .before .before .before .wide3 .ensures,
-      gain-left (c .before .before .before .before .before .before .before .before .before .before .before .before .before .before .before .before .before .before .pre) (c .before .before .before .before .before .before .before .before .before .before .before .before .before .loop .inv) (c .before .before .before .before .before .before .before .before .before .before .before .before .loop-test .taken),
-      gain-low _ _ _ (omega (arith, c .before .before .before .before .before .before .before .before .before .before .wide .ensures, c .before .before .before .before .before .before .before .before .before .before .before .before .before .before .before .before .before .before .pre .totals-low _ (c .before .before .before .before .before .before .before .before .before .before .before .before .loop-test .taken))) (c .before .before .before .before .before .gain-for .ensures),
+      at-wide3 .wide3 .ensures,
+      gain-left (entry .pre) (at-loop .loop .inv) (at-loop-test .loop-test .taken),
+      gain-low _ _ _ (omega (arith, at-wide .wide .ensures, entry .pre .totals-low _ (at-loop-test .loop-test .taken)))
+          (at-gain-for .gain-for .ensures),
     )
 
 loop-again : tie.Need-loop-again Inv-loop μ-loop
 loop-again c =
-    offers-more (c .before .before .before .before .before .before .before .before .before .before .before .before .before .before .loop .inv) (c .before .before .before .before .before .before .before .before .before .before .before .before .before .loop-test .taken) (c .before .before .before .before .before .before .before .before .before .before .before .wide .ensures) (c .before .before .before .before .before .before .before .before .before .wide2 .ensures) (c .before .before .before .before .wide3 .ensures) (c .before .before .before .before .before .before .before .wins .ensures)
-    (c .before .before .before .before .before .before .before .before .larger-small .ensures) (c .before .before .before .before .before .before .gain-for .ensures) (c .before .before .pick .ensures) (c .narrow .ensures ∙ c .before .larger-small2 .ensures)
+    let at-wide3 = c .before .before .before .before in
+    let at-gain-for = at-wide3 .before .before in
+    let at-wins = at-gain-for .before in
+    let at-larger-small = at-wins .before in
+    let at-wide2 = at-larger-small .before in
+    let at-wide = at-wide2 .before .before in
+    let at-loop-test = at-wide .before .before in
+    let at-loop = at-loop-test .before in
+    offers-more (at-loop .loop .inv) (at-loop-test .loop-test .taken) (at-wide .wide .ensures)
+    (at-wide2 .wide2 .ensures) (at-wide3 .wide3 .ensures) (at-wins .wins .ensures)
+    (at-larger-small .larger-small .ensures) (at-gain-for .gain-for .ensures) (c .before .before .pick .ensures)
+    (c .narrow .ensures ∙ c .before .larger-small2 .ensures)
 
 returns : tie.Need-returns Inv-loop μ-loop
 returns c = offers-end (c .before .loop .inv) (c .loop-test .left)

@@ -21,15 +21,26 @@ loop-holds c = counted-none
 
 below-small-requires : tie.Need-below-small-requires Inv-loop μ-loop
 below-small-requires c κs =
-    (omega (arith, c .before .before .before .before .before .pre .2), omega (arith, c .wide .ensures, c .before .before .before .before .before .pre .1 _ (c .before .before .loop-test .taken)))
+    let entry = c .before .before .before .before .before in (
+      omega (arith, entry .pre .2),
+      omega (arith, c .wide .ensures, entry .pre .1 _ (c .before .before .loop-test .taken)),
+    )
 
 add-n : tie.Need-add-n Inv-loop μ-loop
-add-n c = omega (arith, count-low (c .before .before .before .before .before .loop .inv), c .before .before .before .before .loop-test .taken, c .before .before .before .before .before .before .before .pre .0)
+add-n c =
+    let at-loop-test = c .before .before .before .before in
+    let at-loop = at-loop-test .before in
+    let entry = at-loop .before .before in
+    omega (arith, count-low (at-loop .loop .inv), at-loop-test .loop-test .taken, entry .pre .0)
 
 loop-again : tie.Need-loop-again Inv-loop μ-loop
 loop-again c =
-    let is = ap (λ x. c .before .before .before .before .before .before .before .args .t .0 <? x) (sym (c .before .before .wide .ensures)) ∙ sym (c .before .below-small .ensures) in
-    count-turn (c .before .before .before .before .before .loop .inv) (c .before .before .before .before .loop-test .taken)
+    let at-loop-test = c .before .before .before .before in
+    let at-loop = at-loop-test .before in
+    let entry = at-loop .before .before in
+    let is = ap (λ x. entry .args .t .0 <? x) (sym (c .before .before .wide .ensures))
+    ∙ sym (c .before .below-small .ensures) in
+    count-turn (at-loop .loop .inv) (at-loop-test .loop-test .taken)
     (⊎-map (λ w. (is ∙ w .0 .taken, w .1)) (λ w. (is ∙ w .0 .left, w .1)) (c .if1 .came))
 
 returns : tie.Need-returns Inv-loop μ-loop

@@ -21,23 +21,32 @@ loop-holds : tie.Need-loop-holds Inv-loop μ-loop
 loop-holds c = greatest-none
 
 capped-requires : tie.Need-capped-requires Inv-loop μ-loop
-capped-requires c κs = (omega (arith, c .wide .ensures, c .before .before .before .before .before .pre .0 _ (c .before .before .loop-test .taken)), c .before .before .before .before .before .pre .1)
+capped-requires c κs =
+    let entry = c .before .before .before .before .before in
+    (omega (arith, c .wide .ensures, entry .pre .0 _ (c .before .before .loop-test .taken)), entry .pre .1)
 
 larger-small-requires : tie.Need-larger-small-requires Inv-loop μ-loop
-larger-small-requires c κs = (
-  omega (arith, greatest-low {y = maxTotal} (c .before .before .before .before .loop .inv) (λ k l. only-le _ _ _ (λ _. c .before .before .before .before .before .before .pre .0 k l))),
-  omega (
-    arith,
-    c .capped .ensures,
-    only-le (c .before .wide .result .0 ≤? c .before .before .before .before .before .before .args .t .0) (c .before .wide .result .0) maxTotal
-        (λ _. omega (arith, c .before .wide .ensures, c .before .before .before .before .before .before .pre .0 _ (c .before .before .before .loop-test .taken))),
-  ),
-)
+larger-small-requires c κs =
+    let at-loop-test = c .before .before .before in
+    let at-loop = at-loop-test .before in
+    let entry = at-loop .before .before in (
+      omega (arith, greatest-low {y = maxTotal} (at-loop .loop .inv) (λ k l. only-le _ _ _ (λ _. entry .pre .0 k l))),
+      omega (
+        arith,
+        c .capped .ensures,
+        only-le (c .before .wide .result .0 ≤? entry .args .t .0) (c .before .wide .result .0) maxTotal
+            (λ _. omega (arith, c .before .wide .ensures, entry .pre .0 _ (at-loop-test .loop-test .taken))),
+      ),
+    )
 
 loop-again : tie.Need-loop-again Inv-loop μ-loop
 loop-again c =
-    greatest-turn (c .before .before .before .before .before .loop .inv) (c .before .before .before .before .loop-test .taken)
-    (c .before .capped .ensures ∙ ap (λ x. only (x ≤? c .before .before .before .before .before .before .before .args .t .0) x) (c .before .before .wide .ensures)) (c .larger-small .ensures)
+    let at-loop-test = c .before .before .before .before in
+    let at-loop = at-loop-test .before in
+    let entry = at-loop .before .before in
+    greatest-turn (at-loop .loop .inv) (at-loop-test .loop-test .taken)
+    (c .before .capped .ensures ∙ ap (λ x. only (x ≤? entry .args .t .0) x) (c .before .before .wide .ensures))
+    (c .larger-small .ensures)
 
 returns : tie.Need-returns Inv-loop μ-loop
 unfolding greatestUpTo

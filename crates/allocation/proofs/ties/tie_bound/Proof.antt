@@ -27,20 +27,27 @@ loop-holds c = (omega arith, omega arith, ties-none (c .before .before .before .
 
 returns-2 : tie.Need-returns-2 Inv-loop μ-loop
 returns-2 c =
-    bound-here (c .before .before .loop .inv .0) (c .before .before .before .if1 .left) (c .before .before .loop .inv .2) (c .before .before .loop .inv .3) (inl (c .if2 .taken))
+    bound-here (c .before .before .loop .inv .0) (c .before .before .before .if1 .left)
+    (c .before .before .loop .inv .2) (c .before .before .loop .inv .3) (inl (c .if2 .taken))
 
 loop-again : tie.Need-loop-again Inv-loop μ-loop
-loop-again c = (
-  omega arith,
-  omega (arith, c .tally .ensures .1),
-  ties-more (c .before .before .before .before .before .before .before .before .before .args .totals .now) _ _ _ _ _ (c .before .before .before .before .before .loop .inv .2)
-      (c .tally .ensures .0 ∙ ap (λ x. c .before .before .before .before .before .loop .s + only (x =? c .before .before .before .before .before .before .before .before .before .args .t .0) 1) (c .before .wide .ensures)),
-  room-more (c .before .before .before .before .before .before .before .before .before .args .totals .now) _ _ _ _ _ (c .before .before .before .before .before .loop .inv .2) (c .before .before .before .if2 .left) (c .before .before .before .before .before .loop .inv .3),
-)
+loop-again c =
+    let at-if2 = c .before .before .before in
+    let at-loop = at-if2 .before .before in
+    let entry = at-loop .before .before .before .before in (
+      omega arith,
+      omega (arith, c .tally .ensures .1),
+      ties-more (entry .args .totals .now) _ _ _ _ _ (at-loop .loop .inv .2)
+          (c .tally .ensures .0
+          ∙ ap (λ x. at-loop .loop .s + only (x =? entry .args .t .0) 1) (c .before .wide .ensures)),
+      room-more (entry .args .totals .now) _ _ _ _ _ (at-loop .loop .inv .2)
+          (at-if2 .if2 .left) (at-loop .loop .inv .3),
+    )
 
 returns-3 : tie.Need-returns-3 Inv-loop μ-loop
 returns-3 c =
-    bound-here (c .before .loop .inv .0) (c .before .before .if1 .left) (c .before .loop .inv .2) (c .before .loop .inv .3) (inr (c .loop-test .left))
+    bound-here (c .before .loop .inv .0) (c .before .before .if1 .left) (c .before .loop .inv .2)
+    (c .before .loop .inv .3) (inr (c .loop-test .left))
 
 pub tie-bound-spec : {M : Type 1} → statement M
 tie-bound-spec =

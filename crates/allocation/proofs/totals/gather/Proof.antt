@@ -62,19 +62,25 @@ narrow-requires c κs = omega (arith, total-here (c .before .before .before) (c 
 
 larger-small-requires : tie.Need-larger-small-requires Inv-loop μ-loop
 larger-small-requires c κs =
-    (omega (arith, c .before .before .before .before .before .loop .inv .2), omega (arith, total-here (c .before .before .before .before) (c .before .total-for .ensures)))
+    let in-loop = c .before .before .before .before in
+    let at-loop = in-loop .before in
+    (omega (arith, at-loop .loop .inv .2), omega (arith, total-here in-loop (c .before .total-for .ensures)))
 
 loop-again : tie.Need-loop-again Inv-loop μ-loop
-loop-again c = (
-  filling-turn (c .before .before .before .before .before .before .loop .inv .0) (c .before .before .before .before .before .loop-test .taken) (c .before .narrow .ensures ∙ c .before .before .total-for .ensures),
-  greatest-turn (c .before .before .before .before .before .before .loop .inv .1) (c .before .before .before .before .before .loop-test .taken) (c .before .before .total-for .ensures) (c .larger-small .ensures),
-  omega (
-    arith,
-    c .larger-small .ensures,
-    c .before .before .before .before .before .before .loop .inv .2,
-    total-here (c .before .before .before .before .before) (c .before .before .total-for .ensures),
-  ),
-)
+loop-again c =
+    let at-loop-test = c .before .before .before .before .before in
+    let at-loop = at-loop-test .before in (
+      filling-turn (at-loop .loop .inv .0) (at-loop-test .loop-test .taken)
+          (c .before .narrow .ensures ∙ c .before .before .total-for .ensures),
+      greatest-turn (at-loop .loop .inv .1) (at-loop-test .loop-test .taken) (c .before .before .total-for .ensures)
+          (c .larger-small .ensures),
+      omega (
+        arith,
+        c .larger-small .ensures,
+        at-loop .loop .inv .2,
+        total-here at-loop-test (c .before .before .total-for .ensures),
+      ),
+    )
 
 returns : tie.Need-returns Inv-loop μ-loop
 returns c =

@@ -9,7 +9,8 @@ returns : tie.Need-returns
 returns c = total-no _ _ _ (lt-yes _ _ (sym (c .before .below .ensures) ∙ c .if1 .taken))
 
 returns-2 : tie.Need-returns-2
-returns-2 c = c .times .ensures ∙ total-yes _ _ _ (lt-no _ _ (sym (c .before .before .below .ensures) ∙ c .before .if1 .left))
+returns-2 c =
+    c .times .ensures ∙ total-yes _ _ _ (lt-no _ _ (sym (c .before .before .below .ensures) ∙ c .before .if1 .left))
 
 pub total-for-spec : {M : Type 1} → statement M
 total-for-spec =

@@ -16,23 +16,36 @@ use Rattle.allocation.proofs.turns.station.Statement.{statement}
 use Rattle.allocation.proofs.turns.station.Tie as tie
 
 -- the station is open
-opened : (c : tie.After-gather) → getD (c .before .before .before .before .before .before .before .before .before .before .before .before .before .before .args .asks .now) (c .before .before .before .before .before .before .before .before .before .before .before .before .before .before .args .j) 0 < c .before .before .before .before .before .before .before .before .before .before .before .before .before .before .args .cut .0
+opened : (c : tie.After-gather) →
+    let entry = c .before .before .before .before .before .before .before .before .before .before .before
+    .before .before .before in
+    getD (entry .args .asks .now) (entry .args .j) 0 < entry .args .cut .0
 opened c = lt-yes _ _ (sym (c .before .before .before .below .ensures) ∙ c .before .before .if1 .taken)
+
+abbrev entry-before-below : tie.After-below → tie.Start
+entry-before-below p = p .before .before .before .before .before .before .before .before .before .before .before
 
 -- the totals gathered are few, and within the limits
 abbrev Here : tie.After-gather → (l : List ℕ) (top : ℕ) → Type 0
 Here c l top =
-    Gathered (length (c .before .before .before .before .before .before .before .before .before .before .before .before .before .before .args .amounts .now)) (totalAt (c .before .before .before .before .before .before .before .before .before .before .before .before .before .before .args .bids .now) (c .before .before .before .before .before .before .before .before .before .before .before .before .before .before .args .amounts .now)
-    (length (c .before .before .before .before .before .before .before .before .before .before .before .before .before .before .args .asks .now)) (c .before .before .before .before .before .before .before .before .before .before .before .before .before .before .args .j) (c .before .before .before .before .before .before .before .before .before .before .before .before .before .before .args .cut .0)) l top
+    let entry = entry-before-below (c .before .before .before) in
+    Gathered (length (entry .args .amounts .now)) (totalAt (entry .args .bids .now) (entry .args .amounts .now)
+    (length (entry .args .asks .now)) (entry .args .j) (entry .args .cut .0)) l top
 
 few : (c : tie.After-gather) {l : List ℕ} {top : ℕ} → Here c l top → length l ≤ maxGuests
-few c g = omega (arith, long _ _ (g .totals-are), c .before .before .before .before .before .before .before .before .before .before .before .before .before .before .pre .0 .within .guests-most)
+few c g =
+    let entry = entry-before-below (c .before .before .before) in
+    omega (arith, long _ _ (g .totals-are), entry .pre .0 .within .guests-most)
 
 low : (c : tie.After-gather) {l : List ℕ} {top : ℕ} → Here c l top → Totals l
-low c g = all-low (regular _ _ _ _) _ _ (c .before .before .before .before .before .before .before .before .before .before .before .before .before .before .pre .0) _ (c .before .before .before .before .before .before .before .before .before .before .before .before .before .before .pre .1 .0 .0) (opened c) _ (g .totals-are)
+low c g =
+    let entry = entry-before-below (c .before .before .before) in
+    all-low (regular _ _ _ _) _ _ (entry .pre .0) _ (entry .pre .1 .0 .0) (opened c) _ (g .totals-are)
 
 cast-b : tie.Need-cast-b
-cast-b c = omega (arith, c .shared-slice-known7 .given (c .before .before .before .before .before .before .before .before .before .before .before .before .before .before .before .before .before .args .j))
+cast-b c =
+    let entry = entry-before-below (c .before .before .before .before .before .before) in
+    omega (arith, c .shared-slice-known7 .given (entry .args .j))
 
 critical-total-requires : tie.Need-critical-total-requires
 critical-total-requires c κs =
@@ -42,54 +55,80 @@ critical-total-requires c κs =
 
 tie-bound-requires : tie.Need-tie-bound-requires
 tie-bound-requires c κs =
-    let here = c .before .before .before .before .before .before in
-    let g = here .gather .ensures in
-    (few here g, few-above maxGuests (c .before .critical-total .ensures) (few here g))
+    let at-gather = c .before .before .before .before .before .before in
+    let g = at-gather .gather .ensures in
+    (few at-gather g, few-above maxGuests (c .before .critical-total .ensures) (few at-gather g))
 
 add-s : tie.Need-add-s
-add-s c = omega (arith, c .before .before .before .before .before .before .before .before .before .before .before .before .before .before .before .before .before .before .before .before .before .pre .1 .0 .0, c .before .before .before .before .before .before .before .before .before .before .before .before .before .before .before .before .before .before .before .before .before .pre .0 .within .stations-most)
+add-s c =
+    let entry = entry-before-below
+    (c .before .before .before .before .before .before .before .before .before .before) in
+    omega (arith, entry .pre .1 .0 .0, entry .pre .0 .within .stations-most)
 
 narrow-requires : tie.Need-narrow-requires
 narrow-requires c κs =
-    let here = c .before .before .before .before .before .before .before in
-    let g = here .gather .ensures in
-    omega (arith, critical-low g (low here g) (c .before .before .critical-total .ensures))
+    let at-gather = c .before .before .before .before .before .before .before in
+    let g = at-gather .gather .ensures in
+    omega (arith, critical-low g (low at-gather g) (c .before .before .critical-total .ensures))
 
 mul-criticals : tie.Need-mul-criticals
-mul-criticals c = omega (arith, c .before .before .before .before .before .before .before .before .before .before .before .before .before .before .before .before .before .before .before .before .before .before .pre .1 .0 .0, c .before .before .before .before .before .before .before .before .before .before .before .before .before .before .before .before .before .before .before .before .before .before .pre .0 .within .stations-most)
+mul-criticals c =
+    let entry = entry-before-below
+    (c .before .before .before .before .before .before .before .before .before .before .before) in
+    omega (arith, entry .pre .1 .0 .0, entry .pre .0 .within .stations-most)
 
 slice-write-criticals : tie.Need-slice-write-criticals
 slice-write-criticals c =
-    omega (arith, c .before .before .before .before .before .before .before .before .before .before .before .before .before .before .before .before .before .before .before .before .before .before .pre .1 .0 .0, c .before .before .before .before .before .before .before .before .before .before .before .before .before .before .before .before .before .before .before .before .before .before .pre .0 .within .stations-most, long _ _ (c .before .before .before .before .before .before .before .before .before .before .before .before .before .before .before .before .before .before .before .before .before .before .pre .1 .1 .criticals-are))
+    let entry = entry-before-below
+    (c .before .before .before .before .before .before .before .before .before .before .before) in
+    omega (arith, entry .pre .1 .0 .0, entry .pre .0 .within .stations-most, long _ _ (entry .pre .1 .1 .criticals-are))
 
 cast-offer : tie.Need-cast-offer
-cast-offer c = omega (arith, c .before .before .before .before .before .before .before .before .before .before .before .before .before .before .before .before .before .before .before .before .before .before .before .pre .1 .0 .0, c .before .before .before .before .before .before .before .before .before .before .before .before .before .before .before .before .before .before .before .before .before .before .before .pre .0 .within .stations-most)
+cast-offer c =
+    let entry = entry-before-below
+    (c .before .before .before .before .before .before .before .before .before .before .before .before) in
+    omega (arith, entry .pre .1 .0 .0, entry .pre .0 .within .stations-most)
 
 offer-requires : tie.Need-offer-requires
 offer-requires c κs =
-    let here = c .before .before .before .before .before .before .before .before .before .before .before in
-    let g = here .gather .ensures in
-    offerable (regular _ _ _ _) _ _ (c .before .before .before .before .before .before .before .before .before .before .before .before .before .before .before .before .before .before .before .before .before .before .before .before .before .pre .0) (c .before .before .before .before .before .before .before .before .before .before .before .before .before .before .before .before .before .before .before .before .before .before .before .before .before .pre .1 .0 .0) (g .totals-are) (low here g)
-    (critical-low g (low here g) (c .before .before .before .before .before .before .critical-total .ensures)) (c .before .before .before .before .tie-bound .ensures) (c .before .before .before .before .before .before .before .before .before .before .before .before .before .before .before .before .before .before .before .before .before .before .before .before .before .pre .1 .1)
+    let at-tie-bound = c .before .before .before .before in
+    let at-critical-total = at-tie-bound .before .before in
+    let at-gather = at-critical-total .before .before .before .before .before in
+    let entry = entry-before-below (at-gather .before .before .before) in
+    let g = at-gather .gather .ensures in
+    offerable (regular _ _ _ _) _ _ (entry .pre .0) (entry .pre .1 .0 .0) (g .totals-are) (low at-gather g)
+    (critical-low g (low at-gather g) (at-critical-total .critical-total .ensures))
+    (at-tie-bound .tie-bound .ensures) (entry .pre .1 .1)
 
 returns : tie.Need-returns
 unfolding turnTotals gatheredIf
 returns c =
-    let here = c .before .before .before .before .before .before .before .before .before .before .before .before .before .before .before .before in
-    let g = here .gather .ensures in
-    let critical = c .before .before .before .before .before .before .before .before .before .before .before .critical-total .ensures in (
-      rw (c .before .before .before .before .before .before .before .before .narrow .ensures) (turned (regular _ _ _ _) _ _ (c .before .before .before .before .before .before .before .before .before .before .before .before .before .before .before .before .before .before .before .before .before .before .before .before .before .before .before .before .before .before .pre .0) _ (c .before .before .before .before .before .before .before .before .before .before .before .before .before .before .before .before .before .before .before .before .before .before .before .before .before .before .before .before .before .before .pre .1 .0 .0) (opened here)
+    let at-offer = c .before .before .before .before in
+    let at-narrow = at-offer .before .before .before .before in
+    let at-tie-bound = at-narrow .before in
+    let at-critical-total = at-tie-bound .before .before in
+    let at-gather = at-critical-total .before .before .before .before .before in
+    let at-if1 = at-gather .before .before in
+    let at-below = at-if1 .before in
+    let entry = entry-before-below at-below in
+    let g = at-gather .gather .ensures in
+    let critical = at-critical-total .critical-total .ensures in (
+      rw (at-narrow .narrow .ensures) (turned (regular _ _ _ _) _ _ (entry .pre .0) _
+          (entry .pre .1 .0 .0) (opened at-gather)
           _ (g .totals-are) _ _ _ refl (critical .least-few)
-          (rw (← critical .counted) (c .before .before .before .before .before .before .before .before .before .tie-bound .ensures)) _ refl (c .before .before .before .before .before .before .before .before .before .before .before .before .before .before .before .before .before .before .before .before .before .before .before .before .before .before .before .before .before .before .pre .1 .1) (c .before .before .before .before .offer .ensures)),
-      rw (sym (c .before .before .before .before .before .before .before .before .before .before .before .before .before .before .before .before .before .before .before .below .ensures) ∙ c .before .before .before .before .before .before .before .before .before .before .before .before .before .before .before .before .before .before .if1 .taken) (g .totals-are),
+          (rw (← critical .counted) (at-tie-bound .tie-bound .ensures)) _ refl (entry .pre .1 .1)
+          (at-offer .offer .ensures)),
+      rw (sym (at-below .below .ensures) ∙ at-if1 .if1 .taken) (g .totals-are),
     )
 
 returns-2 : tie.Need-returns-2
 unfolding turnTotals gatheredIf
-returns-2 c = (
-  shut (regular _ _ _ _) _ _ (c .before .before .before .before .before .before .before .before .before .before .before .before .pre .0) (lt-no _ _ (sym (c .before .below .ensures) ∙ c .if1 .left)) (c .before .before .before .before .before .before .before .before .before .before .before .before .pre .1 .1),
-  rw (sym (c .before .below .ensures) ∙ c .if1 .left) refl,
-)
+returns-2 c =
+    let entry = entry-before-below (c .before) in (
+      shut (regular _ _ _ _) _ _ (entry .pre .0)
+          (lt-no _ _ (sym (c .before .below .ensures) ∙ c .if1 .left)) (entry .pre .1 .1),
+      rw (sym (c .before .below .ensures) ∙ c .if1 .left) refl,
+    )
 
 pub station-spec : {M : Type 1} → statement M
 station-spec =

@@ -21,7 +21,8 @@ loop-holds : tie.Need-loop-holds Inv-loop μ-loop
 loop-holds c = greatest-none
 
 loop-again : tie.Need-loop-again Inv-loop μ-loop
-loop-again c = greatest-turn (c .before .before .before .loop .inv) (c .before .before .loop-test .taken) refl (c .raised .ensures)
+loop-again c =
+    greatest-turn (c .before .before .before .loop .inv) (c .before .before .loop-test .taken) refl (c .raised .ensures)
 
 returns : tie.Need-returns Inv-loop μ-loop
 unfolding medianAsk
