@@ -66,12 +66,6 @@ returns c =
 
 pub clear-with-room-spec : {M : Type 1} → statement M
 clear-with-room-spec =
-    tie.close
-    (tie.spec
-    (λ c κs. search needs)
-    least-charges-requires
-    assign-all-requires
-    sell-requires
-    margin-requires
-    (λ c. search needs) (λ c. search needs) (λ c. search needs) (λ c. search needs) (λ c. search needs)
-    returns)
+    tie.close (tie.spec (λ c κs. search needs) least-charges-requires assign-all-requires sell-requires
+    margin-requires (λ c. search needs) (λ c. search needs) (λ c. search needs) (λ c. search needs)
+    (λ c. search needs) returns)

@@ -19,9 +19,4 @@ returns-2 c = gain-lost _ _ _ (c .if1 .left)
 
 pub gain-for-spec : {M : Type 1} → statement M
 gain-for-spec =
-    tie.close
-    (tie.spec
-    less-requires
-    plus-requires
-    returns
-    returns-2)
+    tie.close (tie.spec less-requires plus-requires returns returns-2)

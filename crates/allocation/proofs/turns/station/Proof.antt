@@ -132,26 +132,7 @@ returns-2 c =
 
 pub station-spec : {M : Type 1} → statement M
 station-spec =
-    tie.close
-    (tie.spec
-    (λ c. search needs)
-    (λ c. search needs)
-    (λ c κs. search needs)
-    (λ c κs. search needs)
-    (λ c. search needs)
-    (λ c. search needs)
-    cast-b
-    critical-total-requires
-    tie-bound-requires
-    add-s
-    narrow-requires
-    mul-criticals
-    slice-write-criticals
-    cast-offer
-    offer-requires
-    (λ c. search needs)
-    (λ c. search needs)
-    (λ c. search needs)
-    (λ c. search needs)
-    returns
-    returns-2)
+    tie.close (tie.spec (λ c. search needs) (λ c. search needs) (λ c κs. search needs) (λ c κs. search needs)
+    (λ c. search needs) (λ c. search needs) cast-b critical-total-requires tie-bound-requires add-s narrow-requires
+    mul-criticals slice-write-criticals cast-offer offer-requires (λ c. search needs) (λ c. search needs)
+    (λ c. search needs) (λ c. search needs) returns returns-2)

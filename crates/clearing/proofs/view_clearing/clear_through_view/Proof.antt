@@ -65,7 +65,7 @@ use Rattle.clearing.proofs.view_clearing.clear_table.Symbol.{name as #c
 use Rattle.clearing.proofs.view_clearing.clear_through_view as f
 use Rattle.clearing.proofs.view_clearing.clear_through_view.Statement as stated
 use Rattle.clearing.proofs.view_clearing.clear_through_view.Code as code
-use Rattle.clearing.proofs.view_clearing.clear_through_view.Key.{name as #clearing·view-clearing·clear-through-view}
+use Rattle.clearing.proofs.view_clearing.clear_through_view.Key.{name as #through-view}
 
 -- the view's type, over the signature's lifetimes
 abbrev B : Lfts 8 → RattleType
@@ -528,7 +528,7 @@ pub clear-through-view-spec : {M : Type 1} → stated.statement M
 unfolding code.routine tablesOf
 clear-through-view-spec 𝓤 H 𝓜 𝓖 𝓡 =
     entered 𝓤 H (tripleOf 𝓤 H (𝓖 .A) f.signature (f.spec 𝓤 H (𝓖 .A) (𝓜 .mem) (𝓡 .run)))
-    (tables 𝓤 H 𝓜 𝓡 code.env .C) (tables 𝓤 H 𝓜 𝓡 code.env .Λ) #clearing·view-clearing·clear-through-view
+    (tables 𝓤 H 𝓜 𝓡 code.env .C) (tables 𝓤 H 𝓜 𝓡 code.env .Λ) #through-view
     code.function (code.unfolded 𝓤 H 𝓜 𝓡)
     (clear-through-view-meets 𝓤 H (𝓖 .A) (givenOf 𝓤 H 𝓜 𝓖) (𝓜 .mem) (𝓡 .run) (tablesOf 𝓤 H 𝓜 (tables 𝓤 H 𝓜 𝓡 code.env))
     (cited 𝓤 H (Table 𝓤 H (𝓖 .A) (𝓜 .mem) (𝓡 .run)) 𝓜 𝓡 code.env #clearing·views·bid-table t-def.routine

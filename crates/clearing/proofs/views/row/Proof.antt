@@ -56,18 +56,7 @@ returns-4 c =
 
 pub row-spec : {M : Type 1} → statement M
 row-spec =
-    tie.close
-    (tie.spec
-    (λ c. search needs) (λ c. search needs) (λ c. search needs)
-    returns
-    (λ c. search needs) (λ c. search needs) (λ c. search needs)
-    returns-2
-    (λ c. search needs) (λ c. search needs) (λ c. search needs) (λ c. search needs)
-    returns-3
-    (λ c. search needs)
-    mul-start
-    add-end
-    mul-result
-    (λ c. search needs) (λ c. search needs)
-    part-result-end-4
-    returns-4)
+    tie.close (tie.spec (λ c. search needs) (λ c. search needs) (λ c. search needs) returns (λ c. search needs)
+    (λ c. search needs) (λ c. search needs) returns-2 (λ c. search needs) (λ c. search needs) (λ c. search needs)
+    (λ c. search needs) returns-3 (λ c. search needs) mul-start add-end mul-result (λ c. search needs)
+    (λ c. search needs) part-result-end-4 returns-4)

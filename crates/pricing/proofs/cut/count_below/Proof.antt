@@ -37,16 +37,5 @@ returns c = folded-end (c .before .loop .inv) (c .loop-test .left)
 
 pub count-below-spec : {M : Type 1} → statement M
 count-below-spec =
-    tie.close
-    (tie.spec
-    Inv-loop
-    μ-loop
-    loop-holds
-    (λ c. search needs)
-    (λ c. search needs)
-    (λ c κs. search needs)
-    add-n
-    (λ c. search needs)
-    (λ c. search needs)
-    loop-again
-    returns)
+    tie.close (tie.spec Inv-loop μ-loop loop-holds (λ c. search needs) (λ c. search needs) (λ c κs. search needs)
+    add-n (λ c. search needs) (λ c. search needs) loop-again returns)

@@ -29,11 +29,5 @@ returns c =
 
 pub sell-spec : {M : Type 1} → statement M
 sell-spec =
-    tie.close
-    (tie.spec
-    (λ c. search needs)
-    tally-sales-requires
-    (λ c. search needs)
-    pay-out-requires
-    (λ c. search needs) (λ c. search needs)
-    returns)
+    tie.close (tie.spec (λ c. search needs) tally-sales-requires (λ c. search needs) pay-out-requires
+    (λ c. search needs) (λ c. search needs) returns)

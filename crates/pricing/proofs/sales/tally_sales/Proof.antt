@@ -84,22 +84,6 @@ returns c = tallied-end (c .before .loop .inv) (c .loop-test .left)
 
 pub tally-sales-spec : {M : Type 1} → statement M
 tally-sales-spec =
-    tie.close
-    (tie.spec
-    Inv-loop
-    μ-loop
-    loop-holds
-    (λ c. search needs) (λ c. search needs)
-    cast-slot
-    slot-requires
-    (λ c. search needs) (λ c. search needs)
-    cast-x
-    mul-kwh
-    slice-read-kwh
-    add-kwh
-    mul-kwh-2
-    slice-write-kwh
-    (λ c. search needs) (λ c. search needs)
-    loop-again
-    same-length
-    returns)
+    tie.close (tie.spec Inv-loop μ-loop loop-holds (λ c. search needs) (λ c. search needs) cast-slot slot-requires
+    (λ c. search needs) (λ c. search needs) cast-x mul-kwh slice-read-kwh add-kwh mul-kwh-2 slice-write-kwh
+    (λ c. search needs) (λ c. search needs) loop-again same-length returns)
