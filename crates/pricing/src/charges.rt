@@ -1,7 +1,7 @@
 // The least charges, and the charges of those who chose a station.
 use model::money::Mills;
 use model::money::UnitPrice;
-ghost use Prim.Native.Nat.{ℕ, _+_, _*_, _-_, _<_, _≤_, max};
+ghost use Prim.Native.Nat.{ℕ, _*_, _<_, _≤_, max};
 ghost use mathlib.Core.Path.{_≡_};
 ghost use lib.ListN.{length, getD};
 ghost use Rattle.model.specs.Limits.{maxPrice, maxAmount};

@@ -1,7 +1,7 @@
 // What each station sold and is paid.
 use model::limits::MAX_STATIONS;
 use model::money::UnitPrice;
-ghost use Prim.Native.Nat.{ℕ, _-_, _<_, _≤_};
+ghost use Prim.Native.Nat.{ℕ, _<_, _≤_};
 ghost use mathlib.Core.Path.{_≡_};
 ghost use lib.ListN.{length, getD};
 ghost use Rattle.model.specs.Limits.{maxGuests, maxStations, maxAmount};

@@ -1,12 +1,11 @@
 -- The rows of an accepted market's bid table.
-use Prim.Native.Nat.{ℕ, suc, _+_, _*_, _-_, _≤_, _<_}
+use Prim.Native.Nat.{ℕ, _+_, _*_, _-_, _≤_, _<_}
 use mathlib.Core.List.{List}
-use mathlib.Core.Path.{_≡_, refl, sym, ap, _∙_}
+use mathlib.Core.Path.{_≡_, sym, ap, _∙_}
 use native.Mathlib.Nat.{mul-le-mul-right}
 use native.Mathlib.Omega.{arith}
 use lib.ListN.{getD, length, take, drop, length-take, length-drop}
 use lib.Seq.{getD-take, getD-drop}
-use Rattle.model.specs.Counting.{_≤?_, _and_}
 use Rattle.model.specs.market.Market.{bidAt}
 use Rattle.model.proofs.Tests.{both, is-le}
 use Rattle.model.proofs.market.Acceptance.{accepted-reads}

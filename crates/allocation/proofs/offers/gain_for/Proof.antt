@@ -1,6 +1,5 @@
 use mathlib.Core.Path.{_∙_}
 use native.Mathlib.Omega.{arith}
-use borrow.Author.Needs.{needs}
 use Rattle.allocation.proofs.offers.Offers.{gain-won, gain-lost}
 use Rattle.allocation.proofs.offers.gain_for.Statement.{statement}
 use Rattle.allocation.proofs.offers.gain_for.Tie as tie
