@@ -6,24 +6,24 @@ ghost use mathlib.Core.Path.{_≡_};
 ghost use lib.ListN.{length, getD};
 ghost use Rattle.model.specs.Limits.{maxGuests, maxStations, maxAmount};
 ghost use Rattle.model.specs.Counting.{list};
-ghost use Rattle.pricing.specs.Sales.{kwhAt, slots, Tallied, PaidOut};
+ghost use Rattle.pricing.specs.Sales.{kwhAt, slots, slotOf, kwhIn, PaidOut};
 
 // Where the kWh of guest i with station number s are added. Those with none spread over the places past the last
 // number: in one place, each addition would wait for the one before.
 fn slot(s: usize, i: usize) -> usize
     requires { ⌜ s ≤ maxStations ⌝ }
-    ensures { λ r. ⌜ (r < slots) × (0 < s → r ≡ s) × (s ≡ 0 → maxStations < r) ⌝ }
+    ensures { λ r. ⌜ (r < slots) × (r ≡ slotOf s i) ⌝ }
 {
     if 0 < s { s } else { MAX_STATIONS + 1 + i % 4 }
 }
 
-// The kWh of each station number: kwh[s] is what the guests with that number take.
+// The kWh of each place: kwh[s] is what the guests with station number s take.
 fn tally_sales(stations: &[u16], amounts: &[u16], kwh: &mut [u32])
     requires { ⌜ (length (now stations) ≡ length (now amounts)) × (length (now amounts) ≤ maxGuests) ⌝ }
     requires { ⌜ ((k : ℕ) → k < length (now amounts) → getD (now amounts) k 0 ≤ maxAmount) ⌝ }
     requires { ⌜ ((k : ℕ) → k < length (now amounts) → getD (now stations) k 0 ≤ maxStations) ⌝ }
     requires { ⌜ now kwh ≡ list slots (λ _. 0) ⌝ }
-    ensures { λ _. ⌜ Tallied (now (stations .entry)) (now (amounts .entry)) (now (kwh .exit)) ⌝ }
+    ensures { λ _. ⌜ now (kwh .exit) ≡ list slots (kwhIn (now (stations .entry)) (now (amounts .entry))) ⌝ }
 {
     let mut i = 0;
     while i < amounts.len() {
