@@ -92,7 +92,7 @@ fn assign(
     charges::charge_guests(chosen, least, criticals, stations, charges);
 }
 
-// The same, with its own room. For `clearing`, which has checked the tables and found the cut and the least charges.
+// The same, with its own room.
 pub fn assign_all(
     asks: &[u32],
     bays: &[u16],
@@ -105,7 +105,8 @@ pub fn assign_all(
 )
     requires { ⌜ AtCut (regular (now asks) (now bays) (now amounts) (now bids)) (cut .0) (now least) ⌝ }
     requires { ⌜ (length (now stations) ≡ length (now amounts)) × (length (now charges) ≡ length (now amounts)) ⌝ }
-    ensures { λ _. ⌜ Assigned (regular (now (asks .entry)) (now (bays .entry)) (now (amounts .entry)) (now (bids .entry)))
+    ensures { λ _. ⌜ Assigned
+        (regular (now (asks .entry)) (now (bays .entry)) (now (amounts .entry)) (now (bids .entry)))
         (now (stations .exit)) (now (charges .exit)) ⌝ }
 {
     let mut totals = [0u32; MAX_GUESTS];

@@ -49,8 +49,8 @@ fn pick(old: Mills, new: Mills, a: u32, b: u32) -> u32
     if old.below_small(new) { a } else { b }
 }
 
-// One station's offers to every guest: where an offer gains more than the best so far, it is chosen. For `turns`: its lists are
-// those of an accepted market, and what it requires comes from `totals`, `selection` and `ties`.
+// One station's offers to every guest: where an offer gains more than the best so far, it is chosen. What it requires
+// of its lists holds in an accepted market.
 pub fn offer(
     totals: &[u32],
     least: &[u32],
@@ -61,7 +61,8 @@ pub fn offer(
     gains: &mut [u32],
 )
     requires { ⌜ Offerable (now totals) (now least) (critical .0) bound (now chosen) (now gains) ⌝ }
-    ensures { λ _. ⌜ Offered (now (totals .entry)) (now (least .entry)) (critical .0) bound station (now (chosen .entry)) (now (gains .entry)) (now (chosen .exit)) (now (gains .exit)) ⌝ }
+    ensures { λ _. ⌜ Offered (now (totals .entry)) (now (least .entry)) (critical .0) bound station
+        (now (chosen .entry)) (now (gains .entry)) (now (chosen .exit)) (now (gains .exit)) ⌝ }
 {
     let mut i = 0;
     while i < totals.len() {

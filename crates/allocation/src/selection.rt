@@ -58,9 +58,9 @@ pub struct Critical {
     pub above: u32,
 }
 
-// The critical total (document 01: the floor) of a station with b bays: the total at place b + 1 in falling order, 0 where there are
-// no more than b; no total is above top. By bisection on the value, with a count at each step. The first probe is just below the greatest:
-// many may be tied there, and a single bay needs no other. For `turns`: the totals are those of `gather`, and top is their greatest.
+// The critical total (document 01: the floor) of a station with b bays: the total at place b + 1 in falling order, 0
+// where there are no more than b; no total is above top. By bisection on the value, with a count at each step. The
+// first probe is just below the greatest: many may be tied there, and a single bay needs no other.
 pub fn critical_total(totals: &[u32], top: Mills, b: u32) -> Critical
     requires { ⌜ (length (now totals) ≤ maxGuests) × (above (now totals) (top .0) ≡ 0) ⌝ }
     requires { ⌜ Totals (now totals) × (top .0 ≤ maxTotal) ⌝ }

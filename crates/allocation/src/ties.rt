@@ -16,7 +16,6 @@ fn tally(s: u32, x: Mills, t: Mills) -> u32
 }
 
 // Of those at the critical total t, the guest below whom they still win a place: a stand above t, b bays.
-// For `turns`, which has at most 200 guests.
 pub fn tie_bound(totals: &[u32], t: Mills, a: u32, b: u32) -> u32
     requires { ⌜ (length (now totals) ≤ maxGuests) × (a ≤ maxGuests) ⌝ }
     ensures { λ r. ⌜ TieBound (now (totals .entry)) (t .0) a b r ⌝ }

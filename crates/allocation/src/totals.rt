@@ -1,5 +1,5 @@
-// Guests' totals at one station, in a table of 32-bit numbers, and the greatest. For `turns`, whose market is accepted: that gives
-// what is required here.
+// Guests' totals at one station, in a table of 32-bit numbers, and the greatest. What is required holds in an accepted
+// market.
 use model::money::Mills;
 use model::money::UnitPrice;
 ghost use Prim.Native.Nat.{ℕ, _+_, _*_, _<_, _≤_};
@@ -32,7 +32,8 @@ pub fn gather(
     requires { ⌜ (j < m) × (length (now totals) ≡ length (now amounts)) ⌝ }
     requires { ⌜ ((k : ℕ) → k < length (now bids) → getD (now bids) k 0 ≤ maxPrice) ⌝ }
     requires { ⌜ ((k : ℕ) → k < length (now amounts) → getD (now amounts) k 0 ≤ maxAmount) ⌝ }
-    ensures { λ r. ⌜ Gathered (length (now (amounts .entry))) (totalAt (now (bids .entry)) (now (amounts .entry)) m j (cut .0)) (now (totals .exit)) (r .0) ⌝ }
+    ensures { λ r. ⌜ Gathered (length (now (amounts .entry)))
+        (totalAt (now (bids .entry)) (now (amounts .entry)) m j (cut .0)) (now (totals .exit)) (r .0) ⌝ }
 {
     let mut top = Mills(0);
     let mut i = 0;

@@ -10,7 +10,7 @@ ghost use lib.ListN.{length};
 ghost use Rattle.model.specs.market.Market.{regular};
 ghost use Rattle.allocation.specs.Stages.{AtCut, AfterIn, turnTotals};
 
-// Station j's turn, after the stations before it. For `assignment`, whose market is accepted and at its cut.
+// Station j's turn, after the stations before it, in an accepted market at its cut.
 pub fn station(
     asks: &[u32],
     bays: &[u16],
@@ -28,7 +28,8 @@ pub fn station(
     requires { ⌜ (j < length (now asks)) × (length (now totals) ≡ length (now amounts)) ⌝ }
     requires { ⌜ AfterIn (regular (now asks) (now bays) (now amounts) (now bids)) j
         (now chosen) (now gains) (now criticals) ⌝ }
-    ensures { λ _. ⌜ (let t = regular (now (asks .entry)) (now (bays .entry)) (now (amounts .entry)) (now (bids .entry)) in
+    ensures { λ _. ⌜ (let t =
+        regular (now (asks .entry)) (now (bays .entry)) (now (amounts .entry)) (now (bids .entry)) in
         AfterIn t (j + 1) (now (chosen .exit)) (now (gains .exit)) (now (criticals .exit))
         × (now (totals .exit) ≡ turnTotals t (cut .0) j (now (totals .entry)))) ⌝ }
 {

@@ -1,4 +1,5 @@
 // The clearing for other languages: include/bay_market.h.
+use clearing::view_clearing;
 use model::answers::Clearing;
 ghost use Rattle.model.specs.market.Outcome.{results};
 ghost use Rattle.model.specs.market.Market.{tables};
@@ -20,7 +21,7 @@ pub extern "C" fn bay_market_clear(
 ) -> u8
     ensures { λ r. ⌜ ClearsOut (tables (now (asks .entry)) (now (bays .entry)) (now (amounts .entry)) (now (bids .entry)) width) (results (now (stations .entry)) (now (charges .entry)) (now (sold .entry)) (now (paid .entry))) (now (cut .entry)) (now (margin .entry)) r (results (now (stations .exit)) (now (charges .exit)) (now (sold .exit)) (now (paid .exit))) (now (cut .exit)) (now (margin .exit)) ⌝ }
 {
-    let answer = clearing::clear(
+    let answer = view_clearing::clear_through_view(
         asks,
         bays,
         amounts,

@@ -50,6 +50,11 @@ pub at-cut :
     → least ≡ list (length (t .amounts)) (leastAt (t .amounts) c) → AtCut t c least
 at-cut t w e l = record { within = w; is-cut = e ∙ cut-is t; cut-low = cut-low t _ w e; least-are = l }
 
+pub least-at-cut :
+    (t : Tables) {c : ℕ} {least : List ℕ} → AtCut t c least
+    → least ≡ list (length (t .amounts)) (leastAt (t .amounts) (cut (market t)))
+least-at-cut t A = A .least-are ∙ ap (λ c. list (length (t .amounts)) (leastAt (t .amounts) c)) (A .is-cut)
+
 module _ (t : Tables) {stations charges : List ℕ} (a : Assigned t stations charges) where
   station-is : (k : ℕ) → k < length (t .amounts) → getD stations k 0 ≡ (decided t) .assigned k
   unfolding outcome settle seen screen market marketBy

@@ -32,7 +32,8 @@ fn bad_lent(n: usize, m: usize, stations: usize, charges: usize, sold: usize, pa
 
 // The first fault of a value: all asks, then all bays, then all amounts, then all bids.
 fn value_fault(asks: &[u32], bays: &[u16], amounts: &[u16], bids: &[u32]) -> Verdict
-    ensures { λ r. ⌜ answerOfVerdict r ≡ firstFault (values (regular (now (asks .entry)) (now (bays .entry)) (now (amounts .entry)) (now (bids .entry)))) ⌝ }
+    ensures { λ r. ⌜ answerOfVerdict r ≡ firstFault (values
+        (regular (now (asks .entry)) (now (bays .entry)) (now (amounts .entry)) (now (bids .entry)))) ⌝ }
 {
     if scans::any_outside32(asks, 0, MAX_PRICE) {
         return Verdict::Refused(Refusal::AskOutOfRange);
@@ -61,7 +62,9 @@ pub fn first_fault(
     sold: &[u32],
     paid: &[u64],
 ) -> Verdict
-    ensures { λ r. ⌜ answerOfVerdict r ≡ firstFault (clearingFaults (tables (now (asks .entry)) (now (bays .entry)) (now (amounts .entry)) (now (bids .entry)) width) (results (now (stations .entry)) (now (charges .entry)) (now (sold .entry)) (now (paid .entry)))) ⌝ }
+    ensures { λ r. ⌜ answerOfVerdict r ≡ firstFault (clearingFaults
+        (tables (now (asks .entry)) (now (bays .entry)) (now (amounts .entry)) (now (bids .entry)) width)
+        (results (now (stations .entry)) (now (charges .entry)) (now (sold .entry)) (now (paid .entry)))) ⌝ }
 {
     let n = amounts.len();
     let m = asks.len();

@@ -15,9 +15,11 @@ use pricing::sales;
 ghost use mathlib.Core.Path.{_≡_};
 ghost use lib.ListN.{length};
 ghost use Rattle.model.specs.claims.Readings.{WithinLimits, RightLengths};
-ghost use Rattle.model.specs.market.Market.{regular, tables};
+ghost use Rattle.model.specs.Counting.{list};
+ghost use Rattle.model.specs.market.Market.{market, cut, regular, tables};
 ghost use Rattle.model.specs.market.Outcome.{results};
 ghost use Rattle.model.specs.contracts.Clears.{Clears};
+ghost use Rattle.pricing.specs.Charges.{leastAt};
 ghost use Rattle.clearing.specs.Settles.{Settles};
 
 // The clearing of an accepted market, with room for each guest's least charge.
@@ -33,9 +35,13 @@ fn clear_with_room(
     paid: &mut [u64],
 ) -> Clearing
     requires { ⌜ WithinLimits (regular (now asks) (now bays) (now amounts) (now bids)) ⌝ }
-    requires { ⌜ RightLengths (regular (now asks) (now bays) (now amounts) (now bids)) (results (now stations) (now charges) (now sold) (now paid)) ⌝ }
+    requires { ⌜ RightLengths (regular (now asks) (now bays) (now amounts) (now bids))
+        (results (now stations) (now charges) (now sold) (now paid)) ⌝ }
     requires { ⌜ length (now least) ≡ length (now amounts) ⌝ }
-    ensures { λ r. ⌜ Settles (regular (now (asks .entry)) (now (bays .entry)) (now (amounts .entry)) (now (bids .entry))) r (results (now (stations .exit)) (now (charges .exit)) (now (sold .exit)) (now (paid .exit))) ⌝ }
+    ensures { λ r. ⌜ (let t =
+        regular (now (asks .entry)) (now (bays .entry)) (now (amounts .entry)) (now (bids .entry)) in
+        Settles t r (results (now (stations .exit)) (now (charges .exit)) (now (sold .exit)) (now (paid .exit)))
+        × (now (least .exit) ≡ list (length (t .amounts)) (leastAt (t .amounts) (cut (market t))))) ⌝ }
 {
     let cut = cut::cut(asks);
     charges::least_charges(amounts, cut, least);
@@ -56,8 +62,11 @@ fn clear_accepted(
     paid: &mut [u64],
 ) -> Clearing
     requires { ⌜ WithinLimits (regular (now asks) (now bays) (now amounts) (now bids)) ⌝ }
-    requires { ⌜ RightLengths (regular (now asks) (now bays) (now amounts) (now bids)) (results (now stations) (now charges) (now sold) (now paid)) ⌝ }
-    ensures { λ r. ⌜ Settles (regular (now (asks .entry)) (now (bays .entry)) (now (amounts .entry)) (now (bids .entry))) r (results (now (stations .exit)) (now (charges .exit)) (now (sold .exit)) (now (paid .exit))) ⌝ }
+    requires { ⌜ RightLengths (regular (now asks) (now bays) (now amounts) (now bids))
+        (results (now stations) (now charges) (now sold) (now paid)) ⌝ }
+    ensures { λ r. ⌜ Settles
+        (regular (now (asks .entry)) (now (bays .entry)) (now (amounts .entry)) (now (bids .entry))) r
+        (results (now (stations .exit)) (now (charges .exit)) (now (sold .exit)) (now (paid .exit))) ⌝ }
 {
     let mut least = [0u32; MAX_GUESTS];
     let n = amounts.len();
@@ -86,7 +95,10 @@ pub fn clear(
     sold: &mut [u32],
     paid: &mut [u64],
 ) -> Clearing
-    ensures { λ r. ⌜ Clears (tables (now (asks .entry)) (now (bays .entry)) (now (amounts .entry)) (now (bids .entry)) width) (results (now (stations .entry)) (now (charges .entry)) (now (sold .entry)) (now (paid .entry))) r (results (now (stations .exit)) (now (charges .exit)) (now (sold .exit)) (now (paid .exit))) ⌝ }
+    ensures { λ r. ⌜ Clears
+        (tables (now (asks .entry)) (now (bays .entry)) (now (amounts .entry)) (now (bids .entry)) width)
+        (results (now (stations .entry)) (now (charges .entry)) (now (sold .entry)) (now (paid .entry))) r
+        (results (now (stations .exit)) (now (charges .exit)) (now (sold .exit)) (now (paid .exit))) ⌝ }
 {
     let verdict = faults::first_fault(
         asks,

@@ -1,4 +1,5 @@
 // The clearing of a market whose bids stand in a view.
+use crate::views;
 use crate::views::BidTable;
 use model::answers::Clearing;
 ghost use Rattle.model.specs.market.Outcome.{results};
@@ -16,7 +17,11 @@ pub fn clear_table(
     sold: &mut [u32],
     paid: &mut [u64],
 ) -> Clearing
-    ensures { λ r. ⌜ Clears (tables (now (asks .entry)) (now (bays .entry)) (now (amounts .entry)) (now (table .entry .bids)) (table .entry .width)) (results (now (stations .entry)) (now (charges .entry)) (now (sold .entry)) (now (paid .entry))) r (results (now (stations .exit)) (now (charges .exit)) (now (sold .exit)) (now (paid .exit))) ⌝ }
+    ensures { λ r. ⌜ Clears
+        (tables (now (asks .entry)) (now (bays .entry)) (now (amounts .entry))
+        (now (table .entry .bids)) (table .entry .width))
+        (results (now (stations .entry)) (now (charges .entry)) (now (sold .entry)) (now (paid .entry)))
+        r (results (now (stations .exit)) (now (charges .exit)) (now (sold .exit)) (now (paid .exit))) ⌝ }
 {
     crate::clear(
         asks,
@@ -24,6 +29,36 @@ pub fn clear_table(
         amounts,
         table.bids,
         table.width,
+        stations,
+        charges,
+        sold,
+        paid,
+    )
+}
+
+// Clears a market through the view of its bids, or refuses it and writes nothing. Its parameters are plain, so that
+// whoever calls it needs no proof by hand.
+pub fn clear_through_view(
+    asks: &[u32],
+    bays: &[u16],
+    amounts: &[u16],
+    bids: &[u32],
+    width: usize,
+    stations: &mut [u16],
+    charges: &mut [u32],
+    sold: &mut [u32],
+    paid: &mut [u64],
+) -> Clearing
+    ensures { λ r. ⌜ Clears
+        (tables (now (asks .entry)) (now (bays .entry)) (now (amounts .entry)) (now (bids .entry)) width)
+        (results (now (stations .entry)) (now (charges .entry)) (now (sold .entry)) (now (paid .entry))) r
+        (results (now (stations .exit)) (now (charges .exit)) (now (sold .exit)) (now (paid .exit))) ⌝ }
+{
+    clear_table(
+        asks,
+        bays,
+        amounts,
+        views::bid_table(bids, width),
         stations,
         charges,
         sold,

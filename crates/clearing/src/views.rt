@@ -2,7 +2,8 @@
 ghost use mathlib.Core.Path.{_≡_};
 ghost use Rattle.model.specs.contracts.Rows.{rowOf};
 
-// The bids of a guest, counted from 1, as a part of the lent table: empty for guest 0 and for a row that ends past the table.
+// The bids of a guest, counted from 1, as a part of the lent table: empty for guest 0 and for a row that ends past the
+// table.
 pub fn row(bids: &[u32], m: usize, guest: usize) -> &[u32]
     ensures { λ r. ⌜ now r ≡ rowOf (now (bids .entry)) m guest ⌝ }
 {

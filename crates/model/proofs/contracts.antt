@@ -3,3 +3,4 @@ pub mod Clears
 pub mod ClearsOut
 pub mod Reads
 pub mod ReadsOut
+pub mod Rows

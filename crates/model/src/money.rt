@@ -1,4 +1,5 @@
-// Unit prices and whole mills.
+// Unit prices and whole mills. Tables between loops hold them as plain numbers: the borrow checker does not cover a
+// slice of structs.
 use crate::signed;
 ghost use Prim.Native.Nat.{_+_, _*_, _-_, _<_, _≤_, _^_, max};
 ghost use mathlib.Core.Path.{_≡_};
@@ -26,14 +27,14 @@ impl UnitPrice {
 }
 
 impl Mills {
-    // From a number of a table of whole mills: totals, charges, gains.
+    // From a table of whole mills in 32 bits: totals, charges, gains.
     pub fn wide(x: u32) -> Mills
         ensures { λ r. ⌜ r .0 ≡ x ⌝ }
     {
         Mills(x as u64)
     }
 
-    // Into such a table, where the number fits it: totals, charges and gains are at most 10^9 + 1.
+    // Into such a table.
     pub fn narrow(self) -> u32
         requires { ⌜ self .0 < 2 ^ 32 ⌝ }
         ensures { λ r. ⌜ r ≡ self .0 ⌝ }
@@ -41,7 +42,6 @@ impl Mills {
         self.0 as u32
     }
 
-    // Where the sum fits: a margin adds at most 200 numbers of 32 bits.
     pub fn plus(self, other: Mills) -> Mills
         requires { ⌜ self .0 + other .0 < 2 ^ 64 ⌝ }
         ensures { λ r. ⌜ r .0 ≡ self .0 + other .0 ⌝ }
@@ -49,7 +49,6 @@ impl Mills {
         Mills(self.0 + other.0)
     }
 
-    // Where no more is taken away than there is.
     pub fn less(self, other: Mills) -> Mills
         requires { ⌜ other .0 ≤ self .0 ⌝ }
         ensures { λ r. ⌜ r .0 ≡ self .0 - other .0 ⌝ }
@@ -63,7 +62,7 @@ impl Mills {
         if self.0 < other.0 { other } else { self }
     }
 
-    // Of numbers from tables, in 32 bits: the processor compares four at once.
+    // Of numbers below 2^31, compared in 32 bits as signed ones, so that a loop over a table takes four at once.
     pub fn below_small(self, other: Mills) -> bool
         requires { ⌜ (self .0 < 2 ^ 31) × (other .0 < 2 ^ 31) ⌝ }
         ensures { λ r. ⌜ r ≡ self .0 <? other .0 ⌝ }

@@ -1,9 +1,8 @@
-// Comparison of numbers below 2^31, as signed ones. For `totals`, `selection` and `offers`, whose totals and gains are at most 10^9 + 1.
+// Comparison of numbers below 2^31, as signed ones: the processor compares four signed numbers at once.
 ghost use Prim.Native.Nat.{_^_, _<_, max};
 ghost use mathlib.Core.Path.{_≡_};
 ghost use Rattle.model.specs.Counting.{_<?_};
 
-// Whether x is below y, of numbers that are the same when read as signed: the processor compares four signed numbers at once.
 pub fn below(x: u32, y: u32) -> bool
     requires { ⌜ (x < 2 ^ 31) × (y < 2 ^ 31) ⌝ }
     ensures { λ r. ⌜ r ≡ x <? y ⌝ }

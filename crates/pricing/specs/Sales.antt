@@ -1,5 +1,5 @@
 -- The kWh that stations sold, and what they are paid.
-use Prim.Native.Nat.{ℕ, _+_, _*_, _<_, _≤_}
+use Prim.Native.Nat.{ℕ, zero, suc, _+_, _*_, _%_}
 use mathlib.Core.List.{List}
 use mathlib.Core.Path.{_≡_}
 use lib.ListN.{getD, length}
@@ -10,13 +10,19 @@ use Rattle.model.specs.Counting.{_=?_, only, sum, list}
 unfoldable pub kwhAt : (stations amounts : List ℕ) → ℕ → ℕ
 kwhAt stations amounts s = sum (length amounts) (λ k. only (getD stations k 0 =? s) (getD amounts k 0))
 
--- the kWh of each station number in a table; those with none take the places past the last number
+-- a table of kWh: guest i's are added at its station number s, or at one of the places past the last number where it
+-- has none
 abbrev pub slots : ℕ
 slots = maxStations + 5
 
-pub record Tallied (stations amounts kwh : List ℕ) : Type 0 where
-  pub long : length kwh ≡ slots
-  pub sales-are : (s : ℕ) → 0 < s → s ≤ maxStations → getD kwh s 0 ≡ kwhAt stations amounts s
+unfoldable pub slotOf : (s i : ℕ) → ℕ
+slotOf zero i = maxStations + 1 + i % 4
+slotOf (suc s) i = suc s
+
+-- what is added at place p
+unfoldable pub kwhIn : (stations amounts : List ℕ) → ℕ → ℕ
+kwhIn stations amounts p =
+    sum (length amounts) (λ k. only (slotOf (getD stations k 0) k =? p) (getD amounts k 0))
 
 -- what each of m stations sold, by the kWh of each station number, and what it is paid
 pub record PaidOut (kwh : ℕ → ℕ) (cut m : ℕ) (sold paid : List ℕ) : Type 0 where

@@ -1,7 +1,7 @@
 // The least charges, and the charges of those who chose a station.
 use model::money::Mills;
 use model::money::UnitPrice;
-ghost use Prim.Native.Nat.{ℕ, _+_, _*_, _-_, _<_, _≤_, max};
+ghost use Prim.Native.Nat.{ℕ, _*_, _<_, _≤_, max};
 ghost use mathlib.Core.Path.{_≡_};
 ghost use lib.ListN.{length, getD};
 ghost use Rattle.model.specs.Limits.{maxPrice, maxAmount};
@@ -14,11 +14,12 @@ fn least_charge(cut: UnitPrice, amount: u16) -> Mills
     cut.times(amount as u32)
 }
 
-// Cut times amount for each guest. For `clearing`, once the market is found good.
+// Cut times amount for each guest, where both are within their limits.
 pub fn least_charges(amounts: &[u16], cut: UnitPrice, least: &mut [u32])
     requires { ⌜ (length (now least) ≡ length (now amounts)) × (cut .0 ≤ maxPrice) ⌝ }
     requires { ⌜ ((k : ℕ) → k < length (now amounts) → getD (now amounts) k 0 ≤ maxAmount) ⌝ }
-    ensures { λ _. ⌜ now (least .exit) ≡ list (length (now (amounts .entry))) (leastAt (now (amounts .entry)) (cut .0)) ⌝ }
+    ensures { λ _. ⌜ now (least .exit)
+        ≡ list (length (now (amounts .entry))) (leastAt (now (amounts .entry)) (cut .0)) ⌝ }
 {
     let mut i = 0;
     while i < amounts.len() {
@@ -38,8 +39,7 @@ fn charge_at(station: u32, least: Mills, critical: Mills) -> Mills
     }
 }
 
-// Each guest's station and charge, from the station chosen and the critical total of each station number. For
-// `assignment`, where all have chosen one of the stations or none.
+// Each guest's station and charge, from the station chosen and the critical total of each station number.
 pub fn charge_guests(
     chosen: &[u32],
     least: &[u32],
@@ -48,7 +48,8 @@ pub fn charge_guests(
     charges: &mut [u32],
 )
     requires { ⌜ Chargeable (now chosen) (now least) (now criticals) (now stations) (now charges) ⌝ }
-    ensures { λ _. ⌜ Charged (now (chosen .entry)) (now (least .entry)) (now (criticals .entry)) (now (stations .exit)) (now (charges .exit)) ⌝ }
+    ensures { λ _. ⌜ Charged (now (chosen .entry)) (now (least .entry)) (now (criticals .entry))
+        (now (stations .exit)) (now (charges .exit)) ⌝ }
 {
     let mut i = 0;
     while i < chosen.len() {

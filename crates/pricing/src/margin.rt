@@ -12,11 +12,11 @@ fn excess(charge: Mills, least: Mills) -> Mills
     charge.larger(least).less(least)
 }
 
-// What the charges exceed the least charges by, in all: whoever is charged nothing adds nothing. For `clearing`, which has a
-// charge and a least charge for each of at most 200 guests: that is what it requires.
+// What the charges exceed the least charges by, in all: whoever is charged nothing adds nothing.
 pub fn margin(charges: &[u32], least: &[u32]) -> Mills
     requires { ⌜ (length (now least) ≡ length (now charges)) × (length (now charges) ≤ maxGuests) ⌝ }
-    ensures { λ r. ⌜ r .0 ≡ sum (length (now (charges .entry))) (λ i. getD (now (charges .entry)) i 0 - getD (now (least .entry)) i 0) ⌝ }
+    ensures { λ r. ⌜ r .0 ≡ sum (length (now (charges .entry)))
+        (λ i. getD (now (charges .entry)) i 0 - getD (now (least .entry)) i 0) ⌝ }
 {
     let mut r = Mills(0);
     let mut i = 0;

@@ -11,7 +11,6 @@ use Rattle.model.proofs.Tests.{first, second, both, clash, only-le, le-only, is
 use Rattle.model.proofs.Tests.{lt-or-le}
 use Rattle.model.proofs.Counting.{count-mono, count-strict, count-none, length-list, getD-list, le-greatest}
 use Rattle.model.proofs.Counting.{greatest-le, search-below, count-most}
-use Rattle.allocation.specs.Totals.{maxTotal, Totals}
 use Rattle.allocation.specs.Selection.{above, greatestUpTo, Selected}
 
 pub above-falls : (l : List ℕ) (s t : ℕ) → s ≤ t → above l t ≤ above l s

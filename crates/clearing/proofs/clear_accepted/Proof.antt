@@ -24,9 +24,5 @@ clear-with-room-requires c κs =
 
 pub clear-accepted-spec : {M : Type 1} → statement M
 clear-accepted-spec =
-    tie.close
-    (tie.spec
-    array-borrow-prefix-least
-    slice-aggregate-clear-with-room
-    clear-with-room-requires
+    tie.close (tie.spec array-borrow-prefix-least slice-aggregate-clear-with-room clear-with-room-requires
     (λ c. search needs) (λ c. search needs) (λ c. search needs) (λ c. search needs) (λ c. search needs))

@@ -3,7 +3,8 @@ use native.Mathlib.Omega.{arith}
 use borrow.Author.Needs.{needs}
 use Rattle.model.specs.market.Market.{regular}
 use Rattle.model.proofs.Loops.{long}
-use Rattle.clearing.proofs.Answers.{cut-low, at-cut, stations-count, charges-count, stations-low, settles}
+use Rattle.clearing.proofs.Answers.{cut-low, at-cut, least-at-cut, stations-count, charges-count, stations-low}
+use Rattle.clearing.proofs.Answers.{settles}
 use Rattle.clearing.proofs.clear_with_room.Statement.{statement}
 use Rattle.clearing.proofs.clear_with_room.Tie as tie
 
@@ -62,18 +63,15 @@ returns c =
     let at-least-charges = at-assign-all .before .before .before .before .before .before in
     let at-cut′ = at-least-charges .before .before in
     let entry = entry-before-cut at-cut′ in
-    settles (regular _ _ _ _) (at-assign-all .assign-all .ensures)
-    (at-cut (regular _ _ _ _) (entry .pre .0) (at-cut′ .cut .ensures) (at-least-charges .least-charges .ensures))
-    _ _ refl (entry .pre .1 .0 .sold-long) (at-sell .sell .ensures) (c .margin .ensures)
+    let A = at-cut (regular _ _ _ _) (entry .pre .0) (at-cut′ .cut .ensures) (at-least-charges .least-charges .ensures)
+    in (
+      settles (regular _ _ _ _) (at-assign-all .assign-all .ensures) A
+          _ _ refl (entry .pre .1 .0 .sold-long) (at-sell .sell .ensures) (c .margin .ensures),
+      least-at-cut _ A,
+    )
 
 pub clear-with-room-spec : {M : Type 1} → statement M
 clear-with-room-spec =
-    tie.close
-    (tie.spec
-    (λ c κs. search needs)
-    least-charges-requires
-    assign-all-requires
-    sell-requires
-    margin-requires
-    (λ c. search needs) (λ c. search needs) (λ c. search needs) (λ c. search needs) (λ c. search needs)
-    returns)
+    tie.close (tie.spec (λ c κs. search needs) least-charges-requires assign-all-requires sell-requires
+    margin-requires (λ c. search needs) (λ c. search needs) (λ c. search needs) (λ c. search needs)
+    (λ c. search needs) returns)

@@ -7,7 +7,7 @@ use native.Mathlib.Nat.{le-div-iff-mul-le, div-lt-iff-lt-mul, suc-mul}
 use native.Mathlib.Omega.{arith}
 use lib.ListN.{length, take, drop}
 use Rattle.model.specs.Counting.{_≤?_, _and_}
-use Rattle.model.proofs.Tests.{both, and-no, and-false, is-le, not-le}
+use Rattle.model.proofs.Tests.{and-no, and-false, not-le}
 use Rattle.model.specs.contracts.Rows.{shown, rowOf}
 
 -- what is not 0 is at least 1
@@ -49,9 +49,3 @@ inside n m i h p l =
     let e : suc (i - 1) ≡ i = omega (arith, positive i h) in
     let end : (i - 1) * m + m ≡ i * m = sym (suc-mul (i - 1) m) ∙ ap (λ k. k * m) e in
     record { start = omega (arith, positive m p); end = omega arith; whole = whole }
-
-pub row-in : (xs : List ℕ) (m i : ℕ) → (i ≡ 0 → ⊥) → i * m ≤ length xs → take m (drop ((i - 1) * m) xs) ≡ rowOf xs m i
-unfolding rowOf shown
-row-in xs m i h l =
-    ap (λ b. shown b (take m (drop ((i - 1) * m) xs)))
-    (sym (both (is-le 1 i (positive i h)) (is-le (i * m) (length xs) l)))

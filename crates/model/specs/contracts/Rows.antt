@@ -1,9 +1,12 @@
 -- A row of a bid table.
-use Prim.Native.Nat.{ℕ, _*_, _-_}
+use Prim.Native.Nat.{ℕ, _+_, _*_, _-_, _<_}
 use mathlib.Core.Bool.{Bool, true, false}
 use mathlib.Core.List.{List, []}
-use lib.ListN.{length, take, drop}
+use mathlib.Core.Path.{_≡_}
+use lib.ListN.{getD, length, take, drop}
 use Rattle.model.specs.Counting.{_≤?_, _and_}
+use Rattle.model.specs.market.Market.{Tables, bidAt}
+use Rattle.model.specs.market.Faults.{Accepted}
 
 -- a list where a test passes, the empty list where not
 unfoldable pub shown : Bool → List ℕ → List ℕ
@@ -13,3 +16,9 @@ shown false l = []
 -- the m bids of a guest counted from 1; none for guest 0 or a row that ends past the table
 unfoldable pub rowOf : (bids : List ℕ) (m guest : ℕ) → List ℕ
 rowOf bids m guest = shown (1 ≤? guest and guest * m ≤? length bids) (take m (drop ((guest - 1) * m) bids))
+
+-- in an accepted market the row of each guest is as long as there are stations, and shows its bid at each
+abbrev pub RowsShowBids : Type 0
+RowsShowBids =
+    (t : Tables) → Accepted t → (i : ℕ) → i < length (t .amounts) → let row = rowOf (t .bids) (t .width) (i + 1) in
+    (length row ≡ length (t .asks)) × ((j : ℕ) → j < length (t .asks) → getD row j 0 ≡ bidAt t i j)

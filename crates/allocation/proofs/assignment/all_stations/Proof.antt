@@ -1,6 +1,5 @@
 use Prim.Native.Nat.{_-_}
 use mathlib.Core.Path.{sym, _∙_}
-use native.Mathlib.Omega.{arith}
 use lib.ListN.{length}
 use borrow.Author.Needs.{needs}
 use Rattle.model.specs.market.Market.{regular}
@@ -65,17 +64,5 @@ returns c = turning-end (c .before .loop .inv) (c .loop-test .left)
 
 pub all-stations-spec : {M : Type 1} → statement M
 all-stations-spec =
-    tie.close
-    (tie.spec
-    Inv-loop
-    μ-loop
-    loop-holds
-    station-requires
-    (λ c. search needs)
-    (λ c. search needs)
-    loop-again
-    same-length
-    same-length-2
-    same-length-3
-    same-length-4
-    returns)
+    tie.close (tie.spec Inv-loop μ-loop loop-holds station-requires (λ c. search needs) (λ c. search needs)
+    loop-again same-length same-length-2 same-length-3 same-length-4 returns)

@@ -36,14 +36,5 @@ returns c =
 
 pub assign-spec : {M : Type 1} → statement M
 assign-spec =
-    tie.close
-    (tie.spec
-    all-stations-requires
-    charge-guests-requires
-    (λ c. search needs)
-    (λ c. search needs)
-    (λ c. search needs)
-    (λ c. search needs)
-    (λ c. search needs)
-    (λ c. search needs)
-    returns)
+    tie.close (tie.spec all-stations-requires charge-guests-requires (λ c. search needs) (λ c. search needs)
+    (λ c. search needs) (λ c. search needs) (λ c. search needs) (λ c. search needs) returns)

@@ -35,16 +35,6 @@ returns c =
 
 pub assign-all-spec : {M : Type 1} → statement M
 assign-all-spec =
-    tie.close
-    (tie.spec
-    (λ c. search needs)
-    slice-aggregate-assign
-    (λ c. search needs)
-    slice-aggregate-assign-2
-    (λ c. search needs)
-    slice-aggregate-assign-3
-    (λ c. search needs)
-    assign-requires
-    (λ c. search needs)
-    (λ c. search needs)
-    returns)
+    tie.close (tie.spec (λ c. search needs) slice-aggregate-assign (λ c. search needs) slice-aggregate-assign-2
+    (λ c. search needs) slice-aggregate-assign-3 (λ c. search needs) assign-requires (λ c. search needs)
+    (λ c. search needs) returns)

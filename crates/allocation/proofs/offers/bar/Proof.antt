@@ -25,9 +25,4 @@ returns-2 c = omega (arith, only-no _ 1 (sym (c .before .below .ensures) ∙ c .
 
 pub bar-spec : {M : Type 1} → statement M
 bar-spec =
-    tie.close
-    (tie.spec
-    (λ c κs. search needs)
-    less-requires
-    returns
-    returns-2)
+    tie.close (tie.spec (λ c κs. search needs) less-requires returns returns-2)

@@ -1,6 +1,5 @@
 use mathlib.Core.Path.{_∙_}
 use native.Mathlib.Omega.{arith}
-use borrow.Author.Needs.{needs}
 use Rattle.allocation.proofs.offers.Offers.{gain-won, gain-lost}
 use Rattle.allocation.proofs.offers.gain_for.Statement.{statement}
 use Rattle.allocation.proofs.offers.gain_for.Tie as tie
@@ -19,9 +18,4 @@ returns-2 c = gain-lost _ _ _ (c .if1 .left)
 
 pub gain-for-spec : {M : Type 1} → statement M
 gain-for-spec =
-    tie.close
-    (tie.spec
-    less-requires
-    plus-requires
-    returns
-    returns-2)
+    tie.close (tie.spec less-requires plus-requires returns returns-2)

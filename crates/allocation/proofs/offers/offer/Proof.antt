@@ -31,6 +31,7 @@ larger-small-requires c κs =
         c .wide2 .ensures,
         entry .pre .least-low (at-loop .loop .i)
             (omega (arith, entry .pre .least-long, at-loop-test .loop-test .taken)),
+        entry .pre .totals-low (at-loop .loop .i) (at-loop-test .loop-test .taken),
       ),
       omega (arith, entry .pre .critical-low),
     )
@@ -138,36 +139,9 @@ returns c = offers-end (c .before .loop .inv) (c .loop-test .left)
 
 pub offer-spec : {M : Type 1} → statement M
 offer-spec =
-    tie.close
-    (tie.spec
-    Inv-loop
-    μ-loop
-    loop-holds
-    (λ c. search needs)
-    (λ c. search needs)
-    (λ c κs. search needs)
-    (λ c. search needs)
-    (λ c. search needs)
-    (λ c κs. search needs)
-    larger-small-requires
-    (λ c. search needs)
-    wins-requires
-    gain-for-requires
-    (λ c. search needs)
-    (λ c. search needs)
-    (λ c κs. search needs)
-    (λ c. search needs)
-    (λ c. search needs)
-    pick-requires
-    (λ c. search needs)
-    (λ c. search needs)
-    larger-small-requires-2
-    narrow-requires
-    (λ c. search needs)
-    (λ c. search needs)
-    (λ c. search needs)
-    (λ c. search needs)
-    loop-again
-    (λ c. search needs)
-    (λ c. search needs)
-    returns)
+    tie.close (tie.spec Inv-loop μ-loop loop-holds (λ c. search needs) (λ c. search needs) (λ c κs. search needs)
+    (λ c. search needs) (λ c. search needs) (λ c κs. search needs) larger-small-requires (λ c. search needs)
+    wins-requires gain-for-requires (λ c. search needs) (λ c. search needs) (λ c κs. search needs)
+    (λ c. search needs) (λ c. search needs) pick-requires (λ c. search needs) (λ c. search needs)
+    larger-small-requires-2 narrow-requires (λ c. search needs) (λ c. search needs) (λ c. search needs)
+    (λ c. search needs) loop-again (λ c. search needs) (λ c. search needs) returns)

@@ -17,8 +17,4 @@ returns-2 c = rw (sym (c .before .below-small .ensures) ∙ c .if1 .left) refl
 
 pub pick-spec : {M : Type 1} → statement M
 pick-spec =
-    tie.close
-    (tie.spec
-    below-small-requires
-    returns
-    returns-2)
+    tie.close (tie.spec below-small-requires returns returns-2)

@@ -14,8 +14,4 @@ returns c = won-is _ _ _ _ (c .before .before .pre .0) (c .before .bar .ensures)
 
 pub wins-spec : {M : Type 1} → statement M
 wins-spec =
-    tie.close
-    (tie.spec
-    bar-requires
-    below-small-requires
-    returns)
+    tie.close (tie.spec bar-requires below-small-requires returns)

@@ -15,8 +15,4 @@ returns-2 c = sym (only-yes _ _ (is-le _ _ (lt-no _ _ (sym (c .before .below-sma
 
 pub capped-spec : {M : Type 1} → statement M
 capped-spec =
-    tie.close
-    (tie.spec
-    below-small-requires
-    returns
-    returns-2)
+    tie.close (tie.spec below-small-requires returns returns-2)

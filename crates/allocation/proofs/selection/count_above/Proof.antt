@@ -49,17 +49,5 @@ returns c = folded-end (c .before .loop .inv) (c .loop-test .left)
 
 pub count-above-spec : {M : Type 1} → statement M
 count-above-spec =
-    tie.close
-    (tie.spec
-    Inv-loop
-    μ-loop
-    loop-holds
-    (λ c. search needs)
-    (λ c. search needs)
-    (λ c κs. search needs)
-    below-small-requires
-    add-n
-    (λ c. search needs)
-    (λ c. search needs)
-    loop-again
-    returns)
+    tie.close (tie.spec Inv-loop μ-loop loop-holds (λ c. search needs) (λ c. search needs) (λ c κs. search needs)
+    below-small-requires add-n (λ c. search needs) (λ c. search needs) loop-again returns)

@@ -146,26 +146,7 @@ returns-5 c =
 
 pub critical-total-spec : {M : Type 1} → statement M
 critical-total-spec =
-    tie.close
-    (tie.spec
-    Inv-loop
-    μ-loop
-    (λ c κs. search needs)
-    returns
-    less-requires
-    count-above-requires-2
-    returns-2
-    largest-at-most-requires
-    returns-3
-    loop-holds
-    (λ c κs. search needs)
-    count-above-requires-3
-    largest-at-most-requires-2
-    returns-4
-    loop-less
-    loop-again
-    plus-requires
-    loop-less-2
-    loop-again-2
-    count-above-requires-4
-    returns-5)
+    tie.close (tie.spec Inv-loop μ-loop (λ c κs. search needs) returns less-requires count-above-requires-2
+    returns-2 largest-at-most-requires returns-3 loop-holds (λ c κs. search needs) count-above-requires-3
+    largest-at-most-requires-2 returns-4 loop-less loop-again plus-requires loop-less-2 loop-again-2
+    count-above-requires-4 returns-5)

@@ -54,17 +54,5 @@ returns c = folded-end (c .before .loop .inv) (c .loop-test .left)
 
 pub largest-at-most-spec : {M : Type 1} → statement M
 largest-at-most-spec =
-    tie.close
-    (tie.spec
-    Inv-loop
-    μ-loop
-    loop-holds
-    (λ c. search needs)
-    (λ c. search needs)
-    (λ c κs. search needs)
-    capped-requires
-    larger-small-requires
-    (λ c. search needs)
-    (λ c. search needs)
-    loop-again
-    returns)
+    tie.close (tie.spec Inv-loop μ-loop loop-holds (λ c. search needs) (λ c. search needs) (λ c κs. search needs)
+    capped-requires larger-small-requires (λ c. search needs) (λ c. search needs) loop-again returns)

@@ -12,8 +12,4 @@ returns-2 c = (omega (arith, only-no _ 1 (not-eq _ _ (c .if1 .left))), omega ari
 
 pub tally-spec : {M : Type 1} → statement M
 tally-spec =
-    tie.close
-    (tie.spec
-    (λ c. search needs)
-    returns
-    returns-2)
+    tie.close (tie.spec (λ c. search needs) returns returns-2)

@@ -91,24 +91,7 @@ returns c =
 
 pub gather-spec : {M : Type 1} → statement M
 gather-spec =
-    tie.close
-    (tie.spec
-    Inv-loop
-    μ-loop
-    loop-holds
-    mul-bid
-    add-bid
-    mul-bid-2
-    shared-slice-read-bid
-    (λ c. search needs)
-    (λ c. search needs)
-    (λ c κs. search needs)
-    narrow-requires
-    (λ c. search needs)
-    (λ c. search needs)
-    larger-small-requires
-    (λ c. search needs)
-    (λ c. search needs)
-    loop-again
-    (λ c. search needs)
+    tie.close (tie.spec Inv-loop μ-loop loop-holds mul-bid add-bid mul-bid-2 shared-slice-read-bid
+    (λ c. search needs) (λ c. search needs) (λ c κs. search needs) narrow-requires (λ c. search needs)
+    (λ c. search needs) larger-small-requires (λ c. search needs) (λ c. search needs) loop-again (λ c. search needs)
     returns)

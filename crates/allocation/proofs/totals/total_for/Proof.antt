@@ -14,9 +14,4 @@ returns-2 c =
 
 pub total-for-spec : {M : Type 1} → statement M
 total-for-spec =
-    tie.close
-    (tie.spec
-    (λ c κs. search needs)
-    (λ c κs. search needs)
-    returns
-    returns-2)
+    tie.close (tie.spec (λ c κs. search needs) (λ c κs. search needs) returns returns-2)

@@ -81,12 +81,7 @@ slice-write-criticals : tie.Need-slice-write-criticals
 slice-write-criticals c =
     let entry = entry-before-below
     (c .before .before .before .before .before .before .before .before .before .before .before) in
-    omega (
-      arith,
-      entry .pre .1 .0 .0,
-      entry .pre .0 .within .shape .stations-most,
-      long _ _ (entry .pre .1 .1 .criticals-are),
-    )
+    omega (arith, entry .pre .1 .0 .0, entry .pre .0 .within .shape .stations-most, long _ _ (entry .pre .1 .1 .criticals-are))
 
 cast-offer : tie.Need-cast-offer
 cast-offer c =
@@ -137,26 +132,7 @@ returns-2 c =
 
 pub station-spec : {M : Type 1} → statement M
 station-spec =
-    tie.close
-    (tie.spec
-    (λ c. search needs)
-    (λ c. search needs)
-    (λ c κs. search needs)
-    (λ c κs. search needs)
-    (λ c. search needs)
-    (λ c. search needs)
-    cast-b
-    critical-total-requires
-    tie-bound-requires
-    add-s
-    narrow-requires
-    mul-criticals
-    slice-write-criticals
-    cast-offer
-    offer-requires
-    (λ c. search needs)
-    (λ c. search needs)
-    (λ c. search needs)
-    (λ c. search needs)
-    returns
-    returns-2)
+    tie.close (tie.spec (λ c. search needs) (λ c. search needs) (λ c κs. search needs) (λ c κs. search needs)
+    (λ c. search needs) (λ c. search needs) cast-b critical-total-requires tie-bound-requires add-s narrow-requires
+    mul-criticals slice-write-criticals cast-offer offer-requires (λ c. search needs) (λ c. search needs)
+    (λ c. search needs) (λ c. search needs) returns returns-2)

@@ -5,13 +5,13 @@ use Rattle.bay_market.proofs.clear.bay_market_clear.Tie as tie
 
 returns : tie.Need-returns
 returns c =
-    let at-clear = c .before .before .before .before .before .before .before .before .before .before .before .before in
-    clears-refused _ _ _ _ (at-clear .clear .ensures) _ _ _ _ (c .before .before .answer .given .1) (c .number .ensures)
+    let at-clearing = c .before .before .before .before .before .before .before .before .before .before .before .before in
+    clears-refused _ _ _ _ (at-clearing .clear-through-view .ensures) _ _ _ _ (c .before .before .answer .given .1) (c .number .ensures)
 
 returns-2 : tie.Need-returns-2
 returns-2 c =
-    let at-clear = c .before .before .before .before .before .before .before .before .before .before .before in
-    clears-market _ _ _ _ (at-clear .clear .ensures) _ _ _ _ (c .before .answer2 .given .1)
+    let at-clearing = c .before .before .before .before .before .before .before .before .before .before .before in
+    clears-market _ _ _ _ (at-clearing .clear-through-view .ensures) _ _ _ _ (c .before .answer2 .given .1)
 
 pub bay-market-clear-spec : {M : Type 1} → statement M
 bay-market-clear-spec =

@@ -45,13 +45,5 @@ returns-4 c =
 
 pub first-fault-spec : {M : Type 1} → statement M
 first-fault-spec =
-    tie.close
-    (tie.spec
-    (λ c κs. search needs)
-    returns
-    bad-lengths-requires
-    returns-2
-    (λ c κs. search needs)
-    returns-3
-    (λ c κs. search needs)
-    returns-4)
+    tie.close (tie.spec (λ c κs. search needs) returns bad-lengths-requires returns-2 (λ c κs. search needs)
+    returns-3 (λ c κs. search needs) returns-4)

@@ -15,11 +15,7 @@ abbrev μ-loop : tie.MeasureT-loop
 
 pub any-outside32-spec : {M : Type 1} → statement M
 any-outside32-spec =
-    tie.close
-    (tie.spec
-    Inv-loop
-    μ-loop
-    (λ c. some-none)
-    (λ c. search needs) (λ c. search needs) (λ c. search needs) (λ c. search needs)
+    tie.close (tie.spec Inv-loop μ-loop (λ c. some-none) (λ c. search needs) (λ c. search needs) (λ c. search needs)
+    (λ c. search needs)
     (λ c. some-turn (c .before .before .loop .inv) (c .before .loop-test .taken) (outside-is _ _ _))
     (λ c. any-end _ _ (c .before .loop .inv) (c .loop-test .left)))

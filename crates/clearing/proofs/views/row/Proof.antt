@@ -3,7 +3,8 @@ use native.Mathlib.Nat.{add-sub-cancel-left}
 use native.Mathlib.Omega.{arith}
 use lib.ListN.{length}
 use borrow.Author.Needs.{needs}
-use Rattle.clearing.proofs.views.Rows.{row-none, row-of-none, row-past, inside, row-in}
+use Rattle.clearing.proofs.views.Rows.{positive, row-none, row-of-none, row-past, inside}
+use Rattle.model.proofs.contracts.Rows.{row-in}
 use Rattle.clearing.proofs.views.row.Statement.{statement}
 use Rattle.clearing.proofs.views.row.Tie as tie
 
@@ -49,23 +50,13 @@ returns-4 : tie.Need-returns-4
 returns-4 c =
     let at-if1 = c .before .before .before in
     let entry = at-if1 .before in
-    rw add-sub-cancel-left (row-in _ _ _ (at-if1 .if1 .left) (inside (length (entry .args .bids .now)) (entry .args .m)
+    rw add-sub-cancel-left (row-in _ _ _ (positive _ (at-if1 .if1 .left)) (inside
+    (length (entry .args .bids .now)) (entry .args .m)
     (entry .args .guest) (at-if1 .if1 .left) (c .before .before .if2 .left) (omega arith) .whole))
 
 pub row-spec : {M : Type 1} → statement M
 row-spec =
-    tie.close
-    (tie.spec
-    (λ c. search needs) (λ c. search needs) (λ c. search needs)
-    returns
-    (λ c. search needs) (λ c. search needs) (λ c. search needs)
-    returns-2
-    (λ c. search needs) (λ c. search needs) (λ c. search needs) (λ c. search needs)
-    returns-3
-    (λ c. search needs)
-    mul-start
-    add-end
-    mul-result
-    (λ c. search needs) (λ c. search needs)
-    part-result-end-4
-    returns-4)
+    tie.close (tie.spec (λ c. search needs) (λ c. search needs) (λ c. search needs) returns (λ c. search needs)
+    (λ c. search needs) (λ c. search needs) returns-2 (λ c. search needs) (λ c. search needs) (λ c. search needs)
+    (λ c. search needs) returns-3 (λ c. search needs) mul-start add-end mul-result (λ c. search needs)
+    (λ c. search needs) part-result-end-4 returns-4)

@@ -92,7 +92,7 @@ returns-5 c =
     (sym (test-is (args .t1) (args .full) (args .stations) (args .round) _ _ (args .last .now) _ _
     (at-any-exceeds .any-exceeds .ensures) (at-mills-exceed .mills-exceed .ensures)) ∙ else3 .if3 .left)
     (at-wrong-size .before .enum-told .given .1) refl
-    (c .before .before .before .add .ensures) (c .plus .ensures)
+    (c .before .before .before .before .add .ensures) (c .plus .ensures)
 
 pub settle-spec : {M : Type 1} → statement M
 settle-spec =

@@ -12,8 +12,4 @@ returns-2 c = sym (only-no _ _ (not-lt _ _ (c .if1 .left)))
 
 pub charge-at-spec : {M : Type 1} → statement M
 charge-at-spec =
-    tie.close
-    (tie.spec
-    (λ c κs. search needs)
-    returns
-    returns-2)
+    tie.close (tie.spec (λ c κs. search needs) returns returns-2)

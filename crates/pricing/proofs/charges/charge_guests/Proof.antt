@@ -18,62 +18,66 @@ abbrev μ-loop : tie.MeasureT-loop
 μ-loop chosen least criticals stations₀ charges₀ i₀ stations charges i = length chosen - i
 
 loop-holds : tie.Need-loop-holds Inv-loop μ-loop
-loop-holds c = (filling-none (c .before .before .before .before .before .pre .stations-long), filling-none (c .before .before .before .before .before .pre .charges-long))
+loop-holds c =
+    let entry = c .before .before .before .before .before in
+    (filling-none (entry .pre .stations-long), filling-none (entry .pre .charges-long))
+
+abbrev entry-before-loop : tie.At-loop Inv-loop μ-loop → tie.Start Inv-loop μ-loop
+entry-before-loop p = p .before .before .before .before .before .before
 
 cast-wide : tie.Need-cast-wide Inv-loop μ-loop
-cast-wide c = omega (arith, c .before .before .before .before .before .before .before .before .pre .numbers _ (c .before .loop-test .taken))
+cast-wide c =
+    let entry = entry-before-loop (c .before .before) in
+    omega (arith, entry .pre .numbers _ (c .before .loop-test .taken))
 
 mul-wide : tie.Need-mul-wide Inv-loop μ-loop
-mul-wide c = omega (arith, c .before .before .before .before .before .before .before .before .pre .numbers _ (c .before .loop-test .taken))
+mul-wide c =
+    let entry = entry-before-loop (c .before .before) in
+    omega (arith, entry .pre .numbers _ (c .before .loop-test .taken))
 
 shared-slice-read-wide : tie.Need-shared-slice-read-wide Inv-loop μ-loop
-shared-slice-read-wide c = omega (arith, c .before .before .before .before .before .before .before .before .before .pre .numbers _ (c .before .before .loop-test .taken), c .before .before .before .before .before .before .before .before .before .pre .criticals-long)
+shared-slice-read-wide c =
+    let entry = entry-before-loop (c .before .before .before) in
+    omega (arith, entry .pre .numbers _ (c .before .before .loop-test .taken), entry .pre .criticals-long)
 
 cast-stations : tie.Need-cast-stations Inv-loop μ-loop
-cast-stations c = omega (arith, c .before .before .before .before .before .before .before .before .before .before .pre .numbers _ (c .before .before .before .loop-test .taken))
+cast-stations c =
+    let at-loop-test = c .before .before .before in
+    let entry = entry-before-loop (at-loop-test .before) in
+    omega (arith, entry .pre .numbers _ (at-loop-test .loop-test .taken))
 
 narrow-requires : tie.Need-narrow-requires Inv-loop μ-loop
 narrow-requires c κs =
+    let at-wide = c .before .before .before in
+    let at-shared-slice-known5 = at-wide .before in
+    let at-loop = at-shared-slice-known5 .before .before .before in
+    let entry = entry-before-loop at-loop in
     charge-fits _ _ _ (c .charge-at .ensures)
-    (omega (arith, c .before .wide2 .ensures, c .before .before .shared-slice-known6 .given (c .before .before .before .before .before .before .before .loop .i)))
-    (omega (arith, c .before .before .before .wide .ensures, c .before .before .before .before .shared-slice-known5 .given (getD (c .before .before .before .before .before .before .before .before .before .before .before .before .before .args .chosen .now) (c .before .before .before .before .before .before .before .loop .i) 0)))
+    (omega (arith, c .before .wide2 .ensures, c .before .before .shared-slice-known6 .given (at-loop .loop .i)))
+    (omega (
+      arith,
+      at-wide .wide .ensures,
+      at-shared-slice-known5 .shared-slice-known5 .given (getD (entry .args .chosen .now) (at-loop .loop .i) 0),
+    ))
 
 loop-again : tie.Need-loop-again Inv-loop μ-loop
-loop-again c = (
-  filling-turn (c .before .before .before .before .before .before .before .before .loop .inv .0) (c .before .before .before .before .before .before .before .loop-test .taken) refl,
-  filling-turn (c .before .before .before .before .before .before .before .before .loop .inv .1) (c .before .before .before .before .before .before .before .loop-test .taken)
-      (charged-is _ _ _ _ (c .narrow .ensures) (c .before .charge-at .ensures) (c .before .before .wide2 .ensures) (c .before .before .before .before .wide .ensures)),
-)
+loop-again c =
+    let at-wide = c .before .before .before .before in
+    let at-loop-test = at-wide .before .before .before in
+    let at-loop = at-loop-test .before in (
+      filling-turn (at-loop .loop .inv .0) (at-loop-test .loop-test .taken) refl,
+      filling-turn (at-loop .loop .inv .1) (at-loop-test .loop-test .taken)
+          (charged-is _ _ _ _ (c .narrow .ensures) (c .before .charge-at .ensures)
+          (c .before .before .wide2 .ensures) (at-wide .wide .ensures)),
+    )
 
 returns : tie.Need-returns Inv-loop μ-loop
 returns c = charged-end (c .before .loop .inv .0) (c .before .loop .inv .1) (c .loop-test .left)
 
 pub charge-guests-spec : {M : Type 1} → statement M
 charge-guests-spec =
-    tie.close
-    (tie.spec
-    Inv-loop
-    μ-loop
-    loop-holds
-    (λ c. search needs)
-    (λ c. search needs)
-    cast-wide
-    mul-wide
-    shared-slice-read-wide
-    (λ c κs. search needs)
-    cast-stations
-    (λ c. search needs)
-    (λ c. search needs)
-    (λ c. search needs)
-    (λ c. search needs)
-    (λ c κs. search needs)
-    (λ c κs. search needs)
-    narrow-requires
-    (λ c. search needs)
-    (λ c. search needs)
-    (λ c. search needs)
-    (λ c. search needs)
-    loop-again
-    (λ c. search needs)
-    (λ c. search needs)
-    returns)
+    tie.close (tie.spec Inv-loop μ-loop loop-holds (λ c. search needs) (λ c. search needs) cast-wide mul-wide
+    shared-slice-read-wide (λ c κs. search needs) cast-stations (λ c. search needs) (λ c. search needs)
+    (λ c. search needs) (λ c. search needs) (λ c κs. search needs) (λ c κs. search needs) narrow-requires
+    (λ c. search needs) (λ c. search needs) (λ c. search needs) (λ c. search needs) loop-again (λ c. search needs)
+    (λ c. search needs) returns)

@@ -20,29 +20,25 @@ loop-holds c = filling-none (c .before .before .pre .0 .0)
 
 narrow-requires : tie.Need-narrow-requires Inv-loop μ-loop
 narrow-requires c κs =
-    omega (arith, c .least-charge .ensures, product _ _ (c .before .before .before .before .before .before .pre .0 .1) (c .before .before .before .before .before .before .pre .1 _ (c .before .before .loop-test .taken)))
+    let entry = c .before .before .before .before .before .before in
+    omega (
+      arith,
+      c .least-charge .ensures,
+      product _ _ (entry .pre .0 .1) (entry .pre .1 _ (c .before .before .loop-test .taken)),
+    )
 
 loop-again : tie.Need-loop-again Inv-loop μ-loop
-loop-again c = filling-turn (c .before .before .before .before .loop .inv) (c .before .before .before .loop-test .taken) (c .narrow .ensures ∙ c .before .least-charge .ensures)
+loop-again c =
+    let at-loop-test = c .before .before .before in
+    let at-loop = at-loop-test .before in
+    filling-turn (at-loop .loop .inv) (at-loop-test .loop-test .taken)
+    (c .narrow .ensures ∙ c .before .least-charge .ensures)
 
 returns : tie.Need-returns Inv-loop μ-loop
 returns c = filling-end (c .before .loop .inv) (c .loop-test .left)
 
 pub least-charges-spec : {M : Type 1} → statement M
 least-charges-spec =
-    tie.close
-    (tie.spec
-    Inv-loop
-    μ-loop
-    loop-holds
-    (λ c. search needs)
-    (λ c. search needs)
-    (λ c κs. search needs)
-    narrow-requires
-    (λ c. search needs)
-    (λ c. search needs)
-    (λ c. search needs)
-    (λ c. search needs)
-    loop-again
-    (λ c. search needs)
-    returns)
+    tie.close (tie.spec Inv-loop μ-loop loop-holds (λ c. search needs) (λ c. search needs) (λ c κs. search needs)
+    narrow-requires (λ c. search needs) (λ c. search needs) (λ c. search needs) (λ c. search needs) loop-again
+    (λ c. search needs) returns)

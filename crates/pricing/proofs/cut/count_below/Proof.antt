@@ -24,8 +24,11 @@ add-n c = omega (arith, count-low (c .before .before .before .before .loop .inv)
 
 loop-again : tie.Need-loop-again Inv-loop μ-loop
 loop-again c =
-    count-turn (c .before .before .before .before .loop .inv) (c .before .before .before .loop-test .taken)
-    (⊎-map (λ w. (sym (c .before .below .ensures) ∙ w .0 .taken, w .1)) (λ w. (sym (c .before .below .ensures) ∙ w .0 .left, w .1))
+    let at-loop-test = c .before .before .before in
+    let at-loop = at-loop-test .before in
+    count-turn (at-loop .loop .inv) (at-loop-test .loop-test .taken)
+    (⊎-map (λ w. (sym (c .before .below .ensures) ∙ w .0 .taken, w .1))
+    (λ w. (sym (c .before .below .ensures) ∙ w .0 .left, w .1))
     (c .if1 .came))
 
 returns : tie.Need-returns Inv-loop μ-loop
@@ -34,16 +37,5 @@ returns c = folded-end (c .before .loop .inv) (c .loop-test .left)
 
 pub count-below-spec : {M : Type 1} → statement M
 count-below-spec =
-    tie.close
-    (tie.spec
-    Inv-loop
-    μ-loop
-    loop-holds
-    (λ c. search needs)
-    (λ c. search needs)
-    (λ c κs. search needs)
-    add-n
-    (λ c. search needs)
-    (λ c. search needs)
-    loop-again
-    returns)
+    tie.close (tie.spec Inv-loop μ-loop loop-holds (λ c. search needs) (λ c. search needs) (λ c κs. search needs)
+    add-n (λ c. search needs) (λ c. search needs) loop-again returns)

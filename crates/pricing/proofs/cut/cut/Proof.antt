@@ -1,6 +1,5 @@
 use Prim.Native.Nat.{_-_}
 use mathlib.Core.Path.{refl}
-use native.Mathlib.Omega.{arith}
 use lib.ListN.{length, getD}
 use borrow.Author.Needs.{needs}
 use Rattle.model.specs.Counting.{greatest}
@@ -21,7 +20,8 @@ loop-holds : tie.Need-loop-holds Inv-loop μ-loop
 loop-holds c = greatest-none
 
 loop-again : tie.Need-loop-again Inv-loop μ-loop
-loop-again c = greatest-turn (c .before .before .before .loop .inv) (c .before .before .loop-test .taken) refl (c .raised .ensures)
+loop-again c =
+    greatest-turn (c .before .before .before .loop .inv) (c .before .before .loop-test .taken) refl (c .raised .ensures)
 
 returns : tie.Need-returns Inv-loop μ-loop
 unfolding medianAsk
@@ -29,16 +29,5 @@ returns c = rw (← median-is) (folded-end (c .before .loop .inv) (c .loop-test 
 
 pub cut-spec : {M : Type 1} → statement M
 cut-spec =
-    tie.close
-    (tie.spec
-    Inv-loop
-    μ-loop
-    (λ c. search needs)
-    loop-holds
-    (λ c. search needs)
-    (λ c. search needs)
-    (λ c κs. search needs)
-    (λ c. search needs)
-    (λ c. search needs)
-    loop-again
-    returns)
+    tie.close (tie.spec Inv-loop μ-loop (λ c. search needs) loop-holds (λ c. search needs) (λ c. search needs)
+    (λ c κs. search needs) (λ c. search needs) (λ c. search needs) loop-again returns)

@@ -16,19 +16,29 @@ abbrev μ-loop : tie.MeasureT-loop
 
 plus-requires : tie.Need-plus-requires Inv-loop μ-loop
 plus-requires c κs =
+    let at-wide = c .before .before .before in
+    let at-shared-slice-known3 = at-wide .before in
+    let at-loop-test = at-shared-slice-known3 .before in
+    let at-loop = at-loop-test .before in
+    let entry = at-loop .before .before .before in
     omega (
       arith,
       c .excess .ensures,
-      c .before .before .before .wide .ensures,
-      c .before .before .before .before .shared-slice-known3 .given (c .before .before .before .before .before .before .loop .i),
-      sum-low 4294967295 (c .before .before .before .before .before .before .loop .inv) (λ k l. omega (arith, c .before .before .before .before .shared-slice-known3 .given k)),
-      c .before .before .before .before .before .loop-test .taken,
-      c .before .before .before .before .before .before .before .before .before .pre .1,
+      at-wide .wide .ensures,
+      at-shared-slice-known3 .shared-slice-known3 .given (at-loop .loop .i),
+      sum-low 4294967295 (at-loop .loop .inv)
+          (λ k l. omega (arith, at-shared-slice-known3 .shared-slice-known3 .given k)),
+      at-loop-test .loop-test .taken,
+      entry .pre .1,
     )
 
 loop-again : tie.Need-loop-again Inv-loop μ-loop
 loop-again c =
-    sum-turn (c .before .before .before .before .before .before .before .loop .inv) (c .before .before .before .before .before .before .loop-test .taken) (c .before .excess .ensures ∙ ap₂ _-_ (c .before .before .before .before .wide .ensures) (c .before .before .wide2 .ensures))
+    let at-wide = c .before .before .before .before in
+    let at-loop-test = at-wide .before .before in
+    let at-loop = at-loop-test .before in
+    sum-turn (at-loop .loop .inv) (at-loop-test .loop-test .taken)
+    (c .before .excess .ensures ∙ ap₂ _-_ (at-wide .wide .ensures) (c .before .before .wide2 .ensures))
     (c .plus .ensures)
 
 loop-holds : tie.Need-loop-holds Inv-loop μ-loop
@@ -39,20 +49,6 @@ returns c = folded-end (c .before .loop .inv) (c .loop-test .left)
 
 pub margin-spec : {M : Type 1} → statement M
 margin-spec =
-    tie.close
-    (tie.spec
-    Inv-loop
-    μ-loop
-    loop-holds
-    (λ c. search needs)
-    (λ c. search needs)
-    (λ c κs. search needs)
-    (λ c. search needs)
-    (λ c. search needs)
-    (λ c κs. search needs)
-    (λ c κs. search needs)
-    plus-requires
-    (λ c. search needs)
-    (λ c. search needs)
-    loop-again
-    returns)
+    tie.close (tie.spec Inv-loop μ-loop loop-holds (λ c. search needs) (λ c. search needs) (λ c κs. search needs)
+    (λ c. search needs) (λ c. search needs) (λ c κs. search needs) (λ c κs. search needs) plus-requires
+    (λ c. search needs) (λ c. search needs) loop-again returns)

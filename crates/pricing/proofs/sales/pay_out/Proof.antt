@@ -20,8 +20,11 @@ loop-holds c = (filling-none refl, filling-none (c .before .before .before .pre 
 
 loop-again : tie.Need-loop-again Inv-loop μ-loop
 loop-again c =
-    let here : c .before .before .before .loop .j < length (c .before .before .before .before .before .before .before .args .sold .now) = omega (arith, c .before .before .before .loop .inv .0 .filled .same, c .before .before .loop-test .taken) in
-    (filling-turn (c .before .before .before .loop .inv .0) here refl, filling-turn (c .before .before .before .loop .inv .1) here (c .times .ensures))
+    let at-loop = c .before .before .before in
+    let entry = at-loop .before .before .before .before in
+    let here : at-loop .loop .j < length (entry .args .sold .now) = omega
+    (arith, at-loop .loop .inv .0 .filled .same, c .before .before .loop-test .taken) in
+    (filling-turn (at-loop .loop .inv .0) here refl, filling-turn (at-loop .loop .inv .1) here (c .times .ensures))
 
 returns : tie.Need-returns Inv-loop μ-loop
 returns c =
@@ -32,22 +35,6 @@ returns c =
 
 pub pay-out-spec : {M : Type 1} → statement M
 pay-out-spec =
-    tie.close
-    (tie.spec
-    Inv-loop
-    μ-loop
-    loop-holds
-    (λ c. search needs)
-    (λ c. search needs)
-    (λ c. search needs)
-    (λ c. search needs)
-    (λ c. search needs)
-    (λ c κs. search needs)
-    (λ c. search needs)
-    (λ c. search needs)
-    (λ c. search needs)
-    (λ c. search needs)
-    loop-again
-    (λ c. search needs)
-    (λ c. search needs)
-    returns)
+    tie.close (tie.spec Inv-loop μ-loop loop-holds (λ c. search needs) (λ c. search needs) (λ c. search needs)
+    (λ c. search needs) (λ c. search needs) (λ c κs. search needs) (λ c. search needs) (λ c. search needs)
+    (λ c. search needs) (λ c. search needs) loop-again (λ c. search needs) (λ c. search needs) returns)

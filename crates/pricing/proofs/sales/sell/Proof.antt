@@ -1,6 +1,6 @@
 use native.Mathlib.Omega.{arith}
 use borrow.Author.Needs.{needs}
-use Rattle.model.proofs.Loops.{zeros}
+use Rattle.model.proofs.Loops.{long, zeros}
 use Rattle.pricing.specs.Sales.{slots}
 use Rattle.pricing.proofs.sales.sell.Statement.{statement}
 use Rattle.pricing.proofs.sales.sell.Tie as tie
@@ -18,22 +18,16 @@ pay-out-requires : tie.Need-pay-out-requires
 pay-out-requires c κs =
     let at-tally-sales = c .before .before .before .before in
     let entry = entry-before-tally-sales at-tally-sales in
-    (omega (arith, at-tally-sales .tally-sales .ensures .long, entry .pre .1 .1 .1 .0), entry .pre .1 .1 .1 .1)
+    (omega (arith, long slots _ (at-tally-sales .tally-sales .ensures), entry .pre .1 .1 .1 .0), entry .pre .1 .1 .1 .1)
 
 returns : tie.Need-returns
 returns c =
     let at-pay-out = c .before .before .before .before in
     let at-tally-sales = at-pay-out .before .before .before .before .before in
     let entry = entry-before-tally-sales at-tally-sales in
-    sells (at-tally-sales .tally-sales .ensures) (entry .pre .1 .1 .1 .0) (at-pay-out .pay-out .ensures)
+    sells _ _ (at-tally-sales .tally-sales .ensures) (entry .pre .1 .1 .1 .0) (at-pay-out .pay-out .ensures)
 
 pub sell-spec : {M : Type 1} → statement M
 sell-spec =
-    tie.close
-    (tie.spec
-    (λ c. search needs)
-    tally-sales-requires
-    (λ c. search needs)
-    pay-out-requires
-    (λ c. search needs) (λ c. search needs)
-    returns)
+    tie.close (tie.spec (λ c. search needs) tally-sales-requires (λ c. search needs) pay-out-requires
+    (λ c. search needs) (λ c. search needs) returns)

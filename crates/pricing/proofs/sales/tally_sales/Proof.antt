@@ -7,7 +7,7 @@ use Rattle.model.proofs.Counting.{length-list}
 use Rattle.pricing.specs.Sales.{slots}
 use Rattle.pricing.proofs.sales.tally_sales.Statement.{statement}
 use Rattle.pricing.proofs.sales.tally_sales.Tie as tie
-use Rattle.pricing.proofs.sales.Sales.{Tallying, tallied-none, tallied-more, tallied-end}
+use Rattle.pricing.proofs.sales.Sales.{Tallying, tallied-none, tallied-low, tallied-more, tallied-end}
 
 abbrev Inv-loop : tie.InvT-loop
 Inv-loop stations amounts kwh₀ i₀ kwh i = Tallying stations amounts i kwh
@@ -53,7 +53,7 @@ add-kwh c =
     omega (
       arith,
       pre .1 .0 _ (loop-test .taken),
-      loop .inv .small _ (c .before .before .slot .ensures .0),
+      tallied-low _ (loop .inv) (c .before .before .slot .ensures .0) (pre .1 .0),
       loop .inv .within,
       pre .0 .1,
     )
@@ -70,9 +70,7 @@ loop-again : tie.Need-loop-again Inv-loop μ-loop
 loop-again c =
     let at-loop-test = c .before .before .before .before in
     let at-loop = at-loop-test .before in
-    let entry = entry-before-loop at-loop in
-    tallied-more (at-loop .loop .inv) (at-loop-test .loop-test .taken) refl (c .before .before .slot .ensures)
-    (entry .pre .1 .0 _ (at-loop-test .loop-test .taken)) refl
+    tallied-more (at-loop .loop .inv) (at-loop-test .loop-test .taken) (c .before .before .slot .ensures) refl
 
 same-length : tie.Need-same-length Inv-loop μ-loop
 same-length c =
@@ -84,22 +82,6 @@ returns c = tallied-end (c .before .loop .inv) (c .loop-test .left)
 
 pub tally-sales-spec : {M : Type 1} → statement M
 tally-sales-spec =
-    tie.close
-    (tie.spec
-    Inv-loop
-    μ-loop
-    loop-holds
-    (λ c. search needs) (λ c. search needs)
-    cast-slot
-    slot-requires
-    (λ c. search needs) (λ c. search needs)
-    cast-x
-    mul-kwh
-    slice-read-kwh
-    add-kwh
-    mul-kwh-2
-    slice-write-kwh
-    (λ c. search needs) (λ c. search needs)
-    loop-again
-    same-length
-    returns)
+    tie.close (tie.spec Inv-loop μ-loop loop-holds (λ c. search needs) (λ c. search needs) cast-slot slot-requires
+    (λ c. search needs) (λ c. search needs) cast-x mul-kwh slice-read-kwh add-kwh mul-kwh-2 slice-write-kwh
+    (λ c. search needs) (λ c. search needs) loop-again same-length returns)
