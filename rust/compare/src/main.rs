@@ -1,6 +1,6 @@
 //! Runs the static library and the clearing program against the reference on seeded random cases:
 //! `compare [SEED [PART]]`, where a part is read, clear, post, truth or print. A failing case prints itself and ends the
-//! run.
+//! run with 1; wrong use ends it with 2.
 
 mod call;
 mod clearing;
@@ -46,15 +46,27 @@ const PARTS: [(&str, Part, usize); 5] = [
     ("print", printing::run, 400),
 ];
 
+/// The seed and the parts that the arguments name.
+fn choice(mut args: impl Iterator<Item = String>) -> Result<(u64, Vec<(&'static str, Part, usize)>), String> {
+    let seed = args.next().map_or(Ok(SEED), |seed| seed.parse().map_err(|_| format!("not a seed: {seed}")))?;
+    let part = args.next();
+    let parts: Vec<_> = PARTS.into_iter().filter(|(name, ..)| part.as_deref().is_none_or(|part| part == *name)).collect();
+    if parts.is_empty() || args.next().is_some() {
+        return Err(format!("compare [SEED [PART]], with a part of {}", PARTS.map(|(name, ..)| name).join(", ")));
+    }
+    Ok((seed, parts))
+}
+
 fn main() -> ExitCode {
-    let mut args = std::env::args().skip(1);
-    let seed = args.next().map_or(SEED, |seed| seed.parse().expect("a seed is a number"));
-    let only = args.next();
-    println!("seed {seed}");
-    for (name, run, cases) in PARTS {
-        if only.as_ref().is_some_and(|only| only != name) {
-            continue;
+    let (seed, parts) = match choice(std::env::args().skip(1)) {
+        Ok(choice) => choice,
+        Err(usage) => {
+            eprintln!("{usage}");
+            return ExitCode::from(2);
         }
+    };
+    println!("seed {seed}");
+    for (name, run, cases) in parts {
         let start = Instant::now();
         let mut tally = Tally::default();
         let result = run(&mut Random::new(seed), &mut tally, cases);
@@ -72,6 +84,17 @@ fn main() -> ExitCode {
 #[cfg(test)]
 mod tests {
     use super::*;
+
+    #[test]
+    fn a_part_is_one_of_the_parts() {
+        let names = |args: &[&str]| {
+            let choice = choice(args.iter().map(|arg| arg.to_string()));
+            choice.map(|(seed, parts)| (seed, parts.into_iter().map(|(name, ..)| name).collect::<Vec<_>>()))
+        };
+        assert_eq!(names(&[]), Ok((SEED, vec!["read", "clear", "post", "truth", "print"])));
+        assert_eq!(names(&["7", "post"]), Ok((7, vec!["post"])));
+        assert!(names(&["x"]).is_err() && names(&["7", "posts"]).is_err() && names(&["7", "post", "read"]).is_err());
+    }
 
     #[test]
     fn an_answer_that_was_not_met_is_missed() {
