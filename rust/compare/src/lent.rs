@@ -107,7 +107,7 @@ impl<T: Noise + Copy + PartialEq> Lent<T> {
 mod tests {
     use super::*;
 
-    fn write<T>(lent: &mut Lent<T>, place: usize, element: T) {
+    fn write<T: Copy + PartialEq>(lent: &mut Lent<T>, place: usize, element: T) {
         lent.now[place] = element;
     }
 
