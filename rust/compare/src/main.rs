@@ -36,23 +36,28 @@ impl Tally {
     }
 }
 
-type Part = fn(&mut Random, &mut Tally, usize) -> Result<(), String>;
+#[derive(Clone, Copy)]
+struct Part {
+    name: &'static str,
+    run: fn(&mut Random, &mut Tally, usize) -> Result<(), String>,
+    cases: usize,
+}
 
-const PARTS: [(&str, Part, usize); 5] = [
-    ("read", reading::run, 6_000),
-    ("clear", clearing::run, 20_000),
-    ("post", posting::run, 4_000),
-    ("truth", truth::run, 3_000),
-    ("print", printing::run, 400),
+const PARTS: [Part; 5] = [
+    Part { name: "read", run: reading::run, cases: 6_000 },
+    Part { name: "clear", run: clearing::run, cases: 20_000 },
+    Part { name: "post", run: posting::run, cases: 4_000 },
+    Part { name: "truth", run: truth::run, cases: 3_000 },
+    Part { name: "print", run: printing::run, cases: 400 },
 ];
 
 /// The seed and the parts that the arguments name.
-fn choice(mut args: impl Iterator<Item = String>) -> Result<(u64, Vec<(&'static str, Part, usize)>), String> {
+fn choice(mut args: impl Iterator<Item = String>) -> Result<(u64, Vec<Part>), String> {
     let seed = args.next().map_or(Ok(SEED), |seed| seed.parse().map_err(|_| format!("not a seed: {seed}")))?;
-    let part = args.next();
-    let parts: Vec<_> = PARTS.into_iter().filter(|(name, ..)| part.as_deref().is_none_or(|part| part == *name)).collect();
+    let named = args.next();
+    let parts: Vec<Part> = PARTS.into_iter().filter(|part| named.as_deref().is_none_or(|name| name == part.name)).collect();
     if parts.is_empty() || args.next().is_some() {
-        return Err(format!("compare [SEED [PART]], with a part of {}", PARTS.map(|(name, ..)| name).join(", ")));
+        return Err(format!("compare [SEED [PART]], with a part of {}", PARTS.map(|part| part.name).join(", ")));
     }
     Ok((seed, parts))
 }
@@ -66,7 +71,7 @@ fn main() -> ExitCode {
         }
     };
     println!("seed {seed}");
-    for (name, run, cases) in parts {
+    for Part { name, run, cases } in parts {
         let start = Instant::now();
         let mut tally = Tally::default();
         let result = run(&mut Random::new(seed), &mut tally, cases);
@@ -89,7 +94,7 @@ mod tests {
     fn a_part_is_one_of_the_parts() {
         let names = |args: &[&str]| {
             let choice = choice(args.iter().map(|arg| arg.to_string()));
-            choice.map(|(seed, parts)| (seed, parts.into_iter().map(|(name, ..)| name).collect::<Vec<_>>()))
+            choice.map(|(seed, parts)| (seed, parts.into_iter().map(|part| part.name).collect::<Vec<_>>()))
         };
         assert_eq!(names(&[]), Ok((SEED, vec!["read", "clear", "post", "truth", "print"])));
         assert_eq!(names(&["7", "post"]), Ok((7, vec!["post"])));
