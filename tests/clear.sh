@@ -60,6 +60,7 @@ expect 2 '' 'clear: a folder, not a file: examples' './clear examples'
 # input and output that fail
 expect 3 '' 'clear: cannot read standard input' './clear </'
 expect 3 '' 'clear: cannot read standard input' './clear <&-'
+expect 3 '' 'clear: cannot read /proc/self/mem' './clear /proc/self/mem'
 expect 3 '' 'clear: cannot write standard output' './clear examples/full.sheet >/dev/full'
 expect 3 '' 'clear: cannot write standard output' './clear examples/case_e.sheet >&-'
 expect 3 '' 'clear: cannot write standard output' './clear examples/refused.sheet >/dev/full'
@@ -93,10 +94,15 @@ mkdir "$copy"
 cp -r clear scripts crates crates.txt examples "$copy"
 mkdir -p "$copy/prebuilt"
 cp -r "$(scripts/current)" "$copy/prebuilt/x86_64-linux"
-expect 0 "$case_e" '' "$copy/clear $copy/examples/case_e.sheet"
+expect 0 "$case_e" '' "PATH=/usr/bin:/bin $copy/clear $copy/examples/case_e.sheet"
 chmod -R a-w "$copy"
 expect 0 "$case_e" '' "$copy/clear $copy/examples/case_e.sheet"
 chmod -R u+w "$copy"
+# a program that fails
+for program in 'kill -9 $$' 'exit 1' 'echo oops >&2'; do
+    printf '#!/bin/sh\n%s\n' "$program" >"$copy/prebuilt/x86_64-linux/clear"
+    expect 3 '' 'clear: the program failed: *' "$copy/clear $copy/examples/case_e.sheet"
+done
 echo '// another text' >>"$copy/crates/console/src/lib.rt"
 no_kit='PATH=/usr/bin:/bin'
 if ! PATH=/usr/bin:/bin command -v rt >/dev/null; then
