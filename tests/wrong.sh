@@ -20,12 +20,13 @@ BAY_MARKET_LIB_DIR=$wrong cargo build --offline --locked --quiet --release --man
 compare=$wrong/cargo/release/compare
 
 found=0
-# finds FAULT PART [WORDS]: the part tells of the fault, by a difference or by a written guard
+# finds FAULT WORDS PART [WAY]: the part, by the way, tells of the fault in these words, or of a written guard
 finds() {
-    local status=0
-    BAY_MARKET_FAULT=$1 timeout 60 "$compare" $seed "$2" >"$wrong/said" 2>&1 || status=$?
-    if { [ $status != 1 ] && [ $status != 101 ]; } || ! grep -Eq "${3-differs|wrote beside lent memory}" "$wrong/said"; then
-        echo "the fault '$1' is not found by $2: status $status" >&2
+    local fault=$1 words=$2 status=0
+    shift 2
+    BAY_MARKET_FAULT=$fault timeout 60 "$compare" $seed "$@" >"$wrong/said" 2>&1 || status=$?
+    if { [ $status != 1 ] && [ $status != 101 ]; } || ! grep -Eq "$words|wrote beside lent memory" "$wrong/said"; then
+        echo "the fault '$fault' is not found by $*: status $status" >&2
         tail -n 3 "$wrong/said" >&2
         exit 1
     fi
@@ -35,32 +36,61 @@ finds() {
 for part in read clear post truth; do
     BAY_MARKET_FAULT='' "$compare" $seed $part >/dev/null
 done
-parts() {
+
+# what a function only reads, what it fills, the numbers that it gives
+lists() {
     case $1 in
-    read) echo sheet amounts asks bays bids n m ;;
-    clear) echo asks bays amounts bids stations charges sold paid cut margin ;;
-    post) echo asks bays amounts bids guests stations house last ;;
+    read) echo sheet ;;
+    clear | post) echo asks bays amounts bids ;;
+    esac
+}
+filled() {
+    case $1 in
+    read) echo amounts asks bays bids ;;
+    clear) echo stations charges sold paid ;;
+    post) echo guests stations ;;
+    esac
+}
+numbers() {
+    case $1 in
+    read) echo n m ;;
+    clear) echo cut margin ;;
+    post) echo house last ;;
     esac
 }
 for function in read clear post; do
-    finds "$function answer" $function 'answered'
-    finds "$function number" $function 'answered'
-    for part in $(parts $function); do
-        for place in first last before after; do
-            finds "$function $part $place accepted" $function
-            finds "$function $part $place refused" $function
+    for way in c slices owned; do
+        finds "$function answer" 'differs' $function $way
+        finds "$function number" 'differs' $function $way
+        for part in $(filled $function) $(numbers $function); do
+            finds "$function $part first accepted" 'differ' $function $way
         done
     done
+    for part in $(lists $function) $(filled $function); do
+        for place in first last before after; do
+            for answer in accepted refused; do
+                finds "$function $part $place $answer" 'differ|written|wrote' $function c
+                finds "$function $part $place $answer" 'differ|written|wrote' $function slices
+            done
+        done
+    done
+    for part in $(numbers $function); do
+        for place in first before after; do
+            finds "$function $part $place refused" 'differ|wrote' $function c
+        done
+        finds "$function $part before accepted" 'differ' $function c
+        finds "$function $part after accepted" 'differ' $function c
+    done
 done
-finds 'clear bid' truth 'guest [0-9]+ gains by'
-finds 'clear ask' truth 'station [0-9]+ gains by'
-finds 'clear charges first accepted' truth 'charge'
-finds 'clear sold first accepted' truth 'sold other kWh'
+finds 'clear bid' 'guest [0-9]+ gains by' truth
+finds 'clear ask' 'station [0-9]+ gains by' truth
+finds 'clear charges first accepted' 'charge' truth
+finds 'clear sold first accepted' 'sold other kWh' truth
 
 export BAY_MARKET_PROGRAM=$PWD/tests/wrong_program BAY_MARKET_REAL=$real/clear
 BAY_MARKET_FAULT='' "$compare" $seed print >/dev/null
 for fault in text refusal stderr line status; do
-    finds $fault print
+    finds $fault 'differs' print
 done
 status=0
 "$compare" $seed nothing >/dev/null 2>&1 || status=$?

@@ -10,6 +10,7 @@ use reference::ledger::Ledger;
 use reference::market::Market;
 use reference::random::Random;
 use reference::sheet::{GREATEST, TableLengths};
+use std::sync::OnceLock;
 
 /// The lent tables of a market.
 struct Tables {
@@ -45,13 +46,22 @@ impl Tables {
 }
 
 /// By which way a function is called.
-#[derive(Clone, Copy, Debug)]
-enum Way {
+#[derive(Clone, Copy, Debug, PartialEq, Eq)]
+pub enum Way {
     C,
-    Safe,
+    Slices,
+    Owned,
 }
 
-const WAYS: [Way; 2] = [Way::C, Way::Safe];
+pub const WAYS: [(&str, Way); 3] = [("c", Way::C), ("slices", Way::Slices), ("owned", Way::Owned)];
+
+/// The one way that is gone, or all.
+static ONLY: OnceLock<Way> = OnceLock::new();
+
+/// From now on only one way is gone.
+pub fn only(way: Way) {
+    ONLY.set(way).expect("one way");
+}
 
 /// A mismatch, in words.
 fn require(holds: bool, what: &str) -> Result<(), String> {
@@ -70,26 +80,27 @@ fn numbered<T>(answer: Result<T, Refusal>, keep: impl FnOnce(T)) -> u8 {
 
 /// Runs a call by each way.
 fn each_way(mut call: impl FnMut(Way) -> Result<(), String>) -> Result<(), String> {
-    WAYS.into_iter().try_for_each(|way| call(way).map_err(|what| format!("{what} ({way:?})")))
+    let gone = WAYS.iter().filter(|(_, way)| ONLY.get().is_none_or(|only| only == way));
+    gone.into_iter().try_for_each(|(name, way)| call(*way).map_err(|what| format!("{what} ({name})")))
 }
 
 /// Reads a sheet and holds answer and memory to what is expected.
 pub fn read(random: &mut Random, sheet: &[u8], lengths: TableLengths, expected: &Result<Market, u8>) -> Result<(), String> {
-    each_way(|way| read_by(way, random, sheet, lengths, expected))?;
-    if lengths != GREATEST {
-        return Ok(());
-    }
-    let read = bay_market::Market::read(sheet).map_err(Refusal::number);
-    require(read == expected.as_ref().map(own).map_err(|&number| number), "the owned market differs")
+    each_way(|way| match way {
+        Way::C => read_lent(way, random, sheet, lengths, expected),
+        _ if lengths != GREATEST => Ok(()), // the types do not let it happen
+        Way::Slices => read_lent(way, random, sheet, lengths, expected),
+        Way::Owned => {
+            let read = bay_market::Market::read(sheet).map_err(Refusal::number);
+            require(read == expected.as_ref().map(own).map_err(|&number| number), "the owned market differs")
+        }
+    })
 }
 
 #[rustfmt::skip] // pointer and length on one line
-fn read_by(
+fn read_lent(
     way: Way, random: &mut Random, sheet: &[u8], lengths: TableLengths, expected: &Result<Market, u8>,
 ) -> Result<(), String> {
-    if matches!(way, Way::Safe) && lengths != GREATEST {
-        return Ok(()); // the types do not let it happen
-    }
     let mut sheet: Lent<u8> = Lent::holding(random, sheet);
     let mut amounts: Lent<u16> = Lent::noise(random, lengths.amounts);
     let mut asks: Lent<u32> = Lent::noise(random, lengths.asks);
@@ -109,7 +120,7 @@ fn read_by(
                 n.pointer(), m.pointer(),
             )
         },
-        Way::Safe => {
+        _ => {
             let size = "a table of the greatest size";
             let mut tables = lent::Tables {
                 amounts: amounts.slice().try_into().expect(size),
@@ -139,16 +150,18 @@ fn read_by(
 
 /// Clears a market and holds answer and memory to what is expected.
 pub fn clear(random: &mut Random, market: &Market, lists: ListLengths, expected: &Result<Outcome, u8>) -> Result<(), String> {
-    each_way(|way| clear_by(way, random, market, lists, expected))?;
-    if market.width != market.stations() || lists != ListLengths::of(market) {
-        return Ok(());
-    }
-    let cleared = own(market).clear().map_err(Refusal::number);
-    require(cleared == expected.as_ref().map(own_outcome).map_err(|&number| number), "the owned clearing differs")
+    each_way(|way| match way {
+        Way::C | Way::Slices => clear_lent(way, random, market, lists, expected),
+        Way::Owned if market.width != market.stations() || lists != ListLengths::of(market) => Ok(()),
+        Way::Owned => {
+            let cleared = own(market).clear().map_err(Refusal::number);
+            require(cleared == expected.as_ref().map(own_outcome).map_err(|&number| number), "the owned clearing differs")
+        }
+    })
 }
 
 #[rustfmt::skip] // pointer and length on one line
-fn clear_by(
+fn clear_lent(
     way: Way, random: &mut Random, market: &Market, lists: ListLengths, expected: &Result<Outcome, u8>,
 ) -> Result<(), String> {
     let mut tables = Tables::of(random, market);
@@ -159,7 +172,7 @@ fn clear_by(
     let mut cut: Lent<u32> = Lent::noise(random, 1);
     let mut margin: Lent<u64> = Lent::noise(random, 1);
     let answer = match way {
-        // SAFETY: as in `read_by`.
+        // SAFETY: as in `read_lent`.
         Way::C => unsafe {
             bay_market_clear(
                 tables.asks.pointer(), tables.asks.len(),
@@ -174,7 +187,7 @@ fn clear_by(
                 cut.pointer(), margin.pointer(),
             )
         },
-        Way::Safe => {
+        _ => {
             let mut results = lent::Results {
                 stations: stations.slice(), charges: charges.slice(), sold: sold.slice(), paid: paid.slice(),
             };
@@ -209,18 +222,20 @@ pub struct Posting<'a> {
 
 /// Posts a market and holds answer and memory to what is expected.
 pub fn post(random: &mut Random, posting: &Posting) -> Result<(), String> {
-    each_way(|way| post_by(way, random, posting))?;
     let Posting { market, round, before, expected, after } = *posting;
-    if market.width != market.stations() {
-        return Ok(());
-    }
-    let mut ledger = own_ledger(before);
-    let answer = ledger.post(&own(market), round).map_err(Refusal::number);
-    require(answer == expected && ledger == own_ledger(after), "the owned ledger differs")
+    each_way(|way| match way {
+        Way::C | Way::Slices => post_lent(way, random, posting),
+        Way::Owned if market.width != market.stations() => Ok(()),
+        Way::Owned => {
+            let mut ledger = own_ledger(before);
+            let answer = ledger.post(&own(market), round).map_err(Refusal::number);
+            require(answer == expected && ledger == own_ledger(after), "the owned ledger differs")
+        }
+    })
 }
 
 #[rustfmt::skip] // pointer and length on one line
-fn post_by(way: Way, random: &mut Random, posting: &Posting) -> Result<(), String> {
+fn post_lent(way: Way, random: &mut Random, posting: &Posting) -> Result<(), String> {
     let Posting { market, round, before, expected, after } = *posting;
     let mut tables = Tables::of(random, market);
     let mut guests: Lent<u64> = Lent::holding(random, &guest_accounts(before));
@@ -228,7 +243,7 @@ fn post_by(way: Way, random: &mut Random, posting: &Posting) -> Result<(), Strin
     let mut house: Lent<u64> = Lent::holding(random, &[narrow(before.house)]);
     let mut last: Lent<u32> = Lent::holding(random, &[narrow(before.last)]);
     let answer = match way {
-        // SAFETY: as in `read_by`.
+        // SAFETY: as in `read_lent`.
         Way::C => unsafe {
             bay_market_post(
                 tables.asks.pointer(), tables.asks.len(),
@@ -241,7 +256,7 @@ fn post_by(way: Way, random: &mut Random, posting: &Posting) -> Result<(), Strin
                 house.pointer(), last.pointer(),
             )
         },
-        Way::Safe => {
+        _ => {
             let mut ledger = lent::Ledger {
                 guests: guests.slice(), stations: stations.slice(), house: house.number(), last: last.number(),
             };

@@ -1,6 +1,6 @@
 //! Runs the static library and the clearing program against the reference on seeded random cases:
-//! `compare [SEED [PART]]`, where a part is read, clear, post, truth or print. A failing case prints itself and ends the
-//! run with 1; wrong use ends it with 2.
+//! `compare [SEED [PART [WAY]]]`, where a part is read, clear, post, truth or print, and the first three are called by
+//! all ways or by one: c, slices or owned. A failing case prints itself and ends the run with 1; wrong use ends it with 2.
 
 mod call;
 mod clearing;
@@ -11,6 +11,7 @@ mod printing;
 mod reading;
 mod truth;
 
+use call::{WAYS, Way};
 use reference::random::Random;
 use std::collections::BTreeMap;
 use std::process::ExitCode;
@@ -51,25 +52,37 @@ const PARTS: [Part; 5] = [
     Part { name: "print", run: printing::run, cases: 400 },
 ];
 
-/// The seed and the parts that the arguments name.
-fn choice(mut args: impl Iterator<Item = String>) -> Result<(u64, Vec<Part>), String> {
+/// What the arguments choose.
+struct Choice {
+    seed: u64,
+    parts: Vec<Part>,
+    way: Option<Way>,
+}
+
+fn choice(mut args: impl Iterator<Item = String>) -> Result<Choice, String> {
     let seed = args.next().map_or(Ok(SEED), |seed| seed.parse().map_err(|_| format!("not a seed: {seed}")))?;
+    let part = args.next();
+    let parts: Vec<Part> = PARTS.into_iter().filter(|Part { name, .. }| part.as_ref().is_none_or(|part| part == name)).collect();
     let named = args.next();
-    let parts: Vec<Part> = PARTS.into_iter().filter(|part| named.as_deref().is_none_or(|name| name == part.name)).collect();
-    if parts.is_empty() || args.next().is_some() {
-        return Err(format!("compare [SEED [PART]], with a part of {}", PARTS.map(|part| part.name).join(", ")));
+    let way = named.as_ref().and_then(|named| WAYS.iter().find(|(name, _)| name == named)).map(|&(_, way)| way);
+    if parts.is_empty() || way.is_some() != named.is_some() || args.next().is_some() {
+        let parts = PARTS.map(|part| part.name).join(", ");
+        return Err(format!("compare [SEED [PART [WAY]]]: parts {parts}; ways {}", WAYS.map(|(name, _)| name).join(", ")));
     }
-    Ok((seed, parts))
+    Ok(Choice { seed, parts, way })
 }
 
 fn main() -> ExitCode {
-    let (seed, parts) = match choice(std::env::args().skip(1)) {
+    let Choice { seed, parts, way } = match choice(std::env::args().skip(1)) {
         Ok(choice) => choice,
         Err(usage) => {
             eprintln!("{usage}");
             return ExitCode::from(2);
         }
     };
+    if let Some(way) = way {
+        call::only(way);
+    }
     println!("seed {seed}");
     for Part { name, run, cases } in parts {
         let start = Instant::now();
@@ -91,14 +104,17 @@ mod tests {
     use super::*;
 
     #[test]
-    fn a_part_is_one_of_the_parts() {
-        let names = |args: &[&str]| {
+    fn only_parts_and_ways_that_are_there_are_chosen() {
+        let chosen = |args: &[&str]| {
             let choice = choice(args.iter().map(|arg| arg.to_string()));
-            choice.map(|(seed, parts)| (seed, parts.into_iter().map(|part| part.name).collect::<Vec<_>>()))
+            choice.map(|Choice { seed, parts, way }| (seed, parts.iter().map(|part| part.name).collect::<Vec<_>>(), way))
         };
-        assert_eq!(names(&[]), Ok((SEED, vec!["read", "clear", "post", "truth", "print"])));
-        assert_eq!(names(&["7", "post"]), Ok((7, vec!["post"])));
-        assert!(names(&["x"]).is_err() && names(&["7", "posts"]).is_err() && names(&["7", "post", "read"]).is_err());
+        assert_eq!(chosen(&[]), Ok((SEED, vec!["read", "clear", "post", "truth", "print"], None)));
+        assert_eq!(chosen(&["7", "post"]), Ok((7, vec!["post"], None)));
+        assert_eq!(chosen(&["7", "post", "slices"]), Ok((7, vec!["post"], Some(Way::Slices))));
+        for wrong in [&["x"][..], &["7", "posts"], &["7", "post", "read"], &["7", "post", "c", "c"]] {
+            assert!(chosen(wrong).is_err());
+        }
     }
 
     #[test]
