@@ -4,7 +4,7 @@ set -euo pipefail
 cd -- "$(dirname -- "$(readlink -f -- "$0")")/.."
 
 missing=
-for tool in rt gcc g++ cargo cargo-fmt rustfmt cargo-clippy nm ar objcopy readelf sha256sum install timeout; do
+for tool in rt gcc g++ cargo cargo-fmt rustfmt cargo-clippy nm ar objcopy readelf sha256sum flock install timeout; do
     command -v "$tool" >/dev/null || missing+=" $tool"
 done
 [ -z "$missing" ] || { echo "not installed:$missing" >&2; exit 1; }
