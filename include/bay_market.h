@@ -1,15 +1,20 @@
 /*
  * The bay market: reading a market sheet, clearing a market, posting it to a ledger.
  *
- * Link target/staticlib/libbay_market.a, which `rt staticlib bay_market` makes, for x86-64. Nothing else is
- * needed, and nothing is allocated.
+ * For x86-64 Linux: link libbay_market.a, or libbay_market.so. Both need memcpy and memset of the C library and
+ * nothing else. Nothing is allocated; a call takes at most BAY_MARKET_MAX_STACK bytes of stack.
  *
  * Every function answers 0, or the number of the first fault found (enum bay_market_refusal). A call
  * that is refused has changed no lent memory. Any lengths and values may be lent; every call returns.
  *
- * The caller owes what a C function cannot test: a pointer is aligned, is not null (also where the
- * length is 0) and has that many elements; what a call may write overlaps nothing else that it is lent.
+ * The caller owes what a C function cannot test: a pointer is aligned and has as many elements as the length after
+ * it says; what a call may write overlaps nothing else that it is lent. Where the length is 0 the pointer may be null:
+ * nothing is read or written through it. A pointer with no length after it is not null and has one element.
  * Calls share no state, so threads may call at the same time on different memory.
+ *
+ * MIND THE ORDER OF ARGUMENTS. bay_market_read takes amounts, asks, bays, bids, as the sheet's reader fills them;
+ * bay_market_clear and bay_market_post take asks, bays, amounts, bids. Amounts and bays have one type, asks and
+ * bids another, so a compiler cannot see a swap.
  *
  * Prices are in mills (thousandths of the currency unit) per kWh, charges and payments in mills,
  * amounts in whole kWh. Guests and stations are numbered from 1; element 0 of a table is number 1.
@@ -24,6 +29,8 @@
 extern "C" {
 #endif
 
+#define BAY_MARKET_VERSION "0.1.0"
+
 /* Limits. Amounts and bays are at least 1, and so is the number of stations. */
 #define BAY_MARKET_MAX_GUESTS 200
 #define BAY_MARKET_MAX_STATIONS 40
@@ -34,23 +41,48 @@ extern "C" {
 #define BAY_MARKET_MAX_SHEET 33644                    /* bytes of the largest sheet */
 #define BAY_MARKET_MAX_ACCOUNT UINT64_C(1000000000000000)
 #define BAY_MARKET_MAX_ROUND UINT32_C(4294967295)
+#define BAY_MARKET_MAX_STACK 16384                    /* bytes of stack that a call takes at most */
 
+/* scripts/refusals writes what follows from refusals.txt */
 enum bay_market_refusal {
-    BAY_MARKET_ACCEPTED = 0,
-    BAY_MARKET_SHEET_ENDS = 1,           /* the sheet ends inside a field */
-    BAY_MARKET_COUNTS_OUT_OF_RANGE = 2,  /* over 200 guests, no station or over 40 */
-    BAY_MARKET_STRAY_BIT = 3,            /* a bit map has a bit beyond the last station */
-    BAY_MARKET_TRAILING_BYTES = 4,       /* bytes follow the last row */
-    BAY_MARKET_LENGTHS_DIFFER = 5,       /* bays, bids or row width do not fit the counts */
-    BAY_MARKET_ASK_OUT_OF_RANGE = 6,
-    BAY_MARKET_BAYS_OUT_OF_RANGE = 7,
-    BAY_MARKET_AMOUNT_OUT_OF_RANGE = 8,
-    BAY_MARKET_BID_OUT_OF_RANGE = 9,
-    BAY_MARKET_LENT_LENGTHS = 10,        /* the reader's tables or a result list have another length */
-    BAY_MARKET_ROUND_OUT_OF_TURN = 11,   /* not the last round plus 1, or no round is left */
-    BAY_MARKET_ACCOUNT_OVER_LIMIT = 12,  /* an account is above its limit, or would be */
-    BAY_MARKET_BOOK_SIZE = 13            /* accounts beyond the limits, or fewer than the market needs */
+    BAY_MARKET_ACCEPTED = 0,            /* accepted */
+    BAY_MARKET_SHEET_ENDS = 1,          /* the sheet ends inside a field */
+    BAY_MARKET_COUNTS_OUT_OF_RANGE = 2, /* more than 200 guests, no station, or more than 40 */
+    BAY_MARKET_STRAY_BIT = 3,           /* a bit map has a bit beyond the last station */
+    BAY_MARKET_TRAILING_BYTES = 4,      /* bytes follow the last row */
+    BAY_MARKET_LENGTHS_DIFFER = 5,      /* bays, bids or row width do not fit the counts */
+    BAY_MARKET_ASK_OUT_OF_RANGE = 6,    /* an ask is above 1,000,000 */
+    BAY_MARKET_BAYS_OUT_OF_RANGE = 7,   /* a station has no bays or more than 200 */
+    BAY_MARKET_AMOUNT_OUT_OF_RANGE = 8, /* an amount is 0 or above 1,000 */
+    BAY_MARKET_BID_OUT_OF_RANGE = 9,    /* a bid is above 1,000,000 */
+    BAY_MARKET_LENT_LENGTHS = 10,       /* the reader's tables or a result list have another length */
+    BAY_MARKET_ROUND_OUT_OF_TURN = 11,  /* the round is not the last one plus 1, or no round is left */
+    BAY_MARKET_ACCOUNT_OVER_LIMIT = 12, /* an account is above 10^15, or would be */
+    BAY_MARKET_BOOK_SIZE = 13           /* the ledger has accounts beyond the limits, or fewer than the market needs */
 };
+
+/* What an answer says. */
+static inline const char *bay_market_refusal_text(uint8_t answer)
+{
+    switch (answer) {
+    case BAY_MARKET_ACCEPTED: return "accepted";
+    case BAY_MARKET_SHEET_ENDS: return "the sheet ends inside a field";
+    case BAY_MARKET_COUNTS_OUT_OF_RANGE: return "more than 200 guests, no station, or more than 40";
+    case BAY_MARKET_STRAY_BIT: return "a bit map has a bit beyond the last station";
+    case BAY_MARKET_TRAILING_BYTES: return "bytes follow the last row";
+    case BAY_MARKET_LENGTHS_DIFFER: return "bays, bids or row width do not fit the counts";
+    case BAY_MARKET_ASK_OUT_OF_RANGE: return "an ask is above 1,000,000";
+    case BAY_MARKET_BAYS_OUT_OF_RANGE: return "a station has no bays or more than 200";
+    case BAY_MARKET_AMOUNT_OUT_OF_RANGE: return "an amount is 0 or above 1,000";
+    case BAY_MARKET_BID_OUT_OF_RANGE: return "a bid is above 1,000,000";
+    case BAY_MARKET_LENT_LENGTHS: return "the reader's tables or a result list have another length";
+    case BAY_MARKET_ROUND_OUT_OF_TURN: return "the round is not the last one plus 1, or no round is left";
+    case BAY_MARKET_ACCOUNT_OVER_LIMIT: return "an account is above 10^15, or would be";
+    case BAY_MARKET_BOOK_SIZE: return "the ledger has accounts beyond the limits, or fewer than the market needs";
+    default: return "not an answer of the engine";
+    }
+}
+/* end of what scripts/refusals writes */
 
 /* A station's account in the ledger. */
 struct bay_market_station_account {
@@ -59,7 +91,8 @@ struct bay_market_station_account {
 };
 
 /*
- * Reads a sheet into tables of the greatest size: 200 amounts, 40 asks, 40 bays, 8,000 bids.
+ * Reads a sheet into tables of the greatest size: 200 amounts, 40 asks, 40 bays, 8,000 bids, IN THIS ORDER, which
+ * is not that of the other functions.
  * Fills the first n amounts, m asks, m bays and n times m bids, row after row, and leaves the rest;
  * *n is the number of guests and *m of stations. Whether values are in range is the clearing's business.
  *

@@ -2,6 +2,7 @@
 #include "bay_market.h"
 
 #include <stdio.h>
+#include <string.h>
 
 _Static_assert(BAY_MARKET_MAX_BIDS == BAY_MARKET_MAX_GUESTS * BAY_MARKET_MAX_STATIONS, "bids");
 _Static_assert(BAY_MARKET_MAX_SHEET == 4 + 6 * BAY_MARKET_MAX_STATIONS
@@ -123,6 +124,43 @@ static void test_post(void)
     }
 }
 
+/* Null pointers where the length is 0: no guests, no sheet, no ledger. */
+static void test_null(void)
+{
+    const uint32_t ask = 5;
+    const uint16_t bay = 1;
+    uint32_t sold = 77, cut = 77, last = 0;
+    uint64_t paid = 77, margin = 77, house = 3;
+    struct bay_market_station_account station = {1, 2};
+
+    expect(bay_market_clear(&ask, 1, &bay, 1, NULL, 0, NULL, 0, 1, NULL, 0, NULL, 0, &sold, 1, &paid, 1, &cut, &margin)
+           == BAY_MARKET_ACCEPTED, "a market with no guests is cleared");
+    expect(sold == 0 && paid == 0 && cut == 5 && margin == 0, "nobody buys");
+    expect(bay_market_post(&ask, 1, &bay, 1, NULL, 0, NULL, 0, 1, 1, NULL, 0, &station, 1, &house, &last)
+           == BAY_MARKET_ACCEPTED, "a market with no guests is posted");
+    expect(station.sold == 1 && station.paid == 2 && house == 3 && last == 1, "only the round is posted");
+    expect(bay_market_clear(NULL, 0, NULL, 0, NULL, 0, NULL, 0, 0, NULL, 0, NULL, 0, NULL, 0, NULL, 0, &cut, &margin)
+           == BAY_MARKET_COUNTS_OUT_OF_RANGE, "no station");
+    expect(bay_market_post(NULL, 0, NULL, 0, NULL, 0, NULL, 0, 0, 1, NULL, 0, NULL, 0, &house, &last)
+           == BAY_MARKET_COUNTS_OUT_OF_RANGE, "no station to post");
+    expect(bay_market_post(&ask, 1, &bay, 1, NULL, 0, NULL, 0, 1, 2, NULL, 0, NULL, 0, &house, &last)
+           == BAY_MARKET_BOOK_SIZE, "no ledger");
+    expect(bay_market_read(NULL, 0, NULL, 0, NULL, 0, NULL, 0, NULL, 0, &n, &m) == BAY_MARKET_LENT_LENGTHS, "no tables");
+    expect(bay_market_read(NULL, 0, amounts, BAY_MARKET_MAX_GUESTS, asks, BAY_MARKET_MAX_STATIONS, bays,
+                           BAY_MARKET_MAX_STATIONS, bids, BAY_MARKET_MAX_BIDS, &n, &m) == BAY_MARKET_SHEET_ENDS, "no sheet");
+}
+
+static void test_texts(void)
+{
+    expect(strcmp(bay_market_refusal_text(BAY_MARKET_ACCEPTED), "accepted") == 0, "the text of 0");
+    expect(strcmp(bay_market_refusal_text(14), bay_market_refusal_text(255)) == 0, "no answer of the engine");
+    for (uint8_t one = 0; one <= BAY_MARKET_BOOK_SIZE; one++) {
+        for (uint8_t two = (uint8_t)(one + 1); two <= BAY_MARKET_BOOK_SIZE + 1; two++) {
+            expect(strcmp(bay_market_refusal_text(one), bay_market_refusal_text(two)) != 0, "each answer has its text");
+        }
+    }
+}
+
 int main(void)
 {
     test_read();
@@ -130,6 +168,8 @@ int main(void)
     test_post();
     test_limits();
     test_ledger_limits();
+    test_null();
+    test_texts();
     if (failures == 0) {
         puts("C test: all as expected");
     }

@@ -30,7 +30,8 @@ fn read_input(buffer: &mut [u8]) -> Input
     Input::Bytes(n)
 }
 
-// Reads at most one byte more than the largest sheet has, so that every fault is seen. What the system reads and writes no contract can say.
+// Reads at most one byte more than the largest sheet has, so that every fault is seen. What the system reads and writes
+// no contract can say. Where standard error fails too, nobody is left to tell.
 pub fn run() {
     let mut sheet = [0u8; 33645];
     let input = read_input(&mut sheet);
@@ -41,7 +42,10 @@ pub fn run() {
         Input::Bytes(n) => {
             let mut out = [0u8; 20480];
             let k = report::print_clearing(&sheet[..n], &mut out);
-            io::write_all(STDOUT_FILENO, &out[..k]);
+            let is_written = io::write_all(STDOUT_FILENO, &out[..k]);
+            if !is_written {
+                io::write_all(STDERR_FILENO, b"clear: cannot write standard output\n");
+            }
         }
     }
 }

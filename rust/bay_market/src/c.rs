@@ -1,4 +1,8 @@
 //! The functions of include/bay_market.h, where each is documented.
+//!
+//! Mind the order of arguments: `bay_market_read` takes amounts, asks, bays, bids, the others asks, bays, amounts, bids.
+//! Amounts and bays have one type, asks and bids another, so the compiler cannot see a swap. The safe functions name
+//! each.
 
 use crate::StationAccount;
 

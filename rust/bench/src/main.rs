@@ -2,27 +2,34 @@
 
 mod baseline;
 
-use bay_market::{Cleared, Counts, Ledger, MAX_BIDS, MAX_GUESTS, MAX_STATIONS, Results, StationAccount, Tables};
+use baseline::Scratch;
+use bay_market::lent::{self, Cleared, Counts, Results, Tables};
+use bay_market::{Ledger, MAX_BIDS, MAX_GUESTS, MAX_STATIONS, StationAccount};
 use reference::market::Market;
 use reference::random::{Random, Shape};
 use reference::{clearing, ledger, sheet};
 use std::hint::black_box;
-use std::time::Instant;
+use std::time::{Duration, Instant};
 
-const ROUNDS: usize = 301;
-const MARKETS: usize = 12;
+const ROUNDS: usize = 31;
+/// So many that a branch predictor cannot learn them.
+const MARKETS: usize = 200;
 
-/// Lets each contender run in turn, `ROUNDS` times over all inputs; the median time of one call of each, in µs.
-fn medians<T>(inputs: &[T], contenders: &mut [&mut dyn FnMut(&T)]) -> Vec<f64> {
+/// Lets each contender run in turn, `ROUNDS` times over all inputs; the median time of one call of each, in µs. Each call
+/// gets a fresh copy of its input, so that this is in the cache, as it is for a caller that just made it.
+fn medians<T: Clone>(inputs: &[T], contenders: &mut [&mut dyn FnMut(&T)]) -> Vec<f64> {
     let mut times = vec![Vec::new(); contenders.len()];
     for round in 0..ROUNDS {
         for turn in 0..contenders.len() {
             let which = (round + turn) % contenders.len();
-            let start = Instant::now();
+            let mut time = Duration::ZERO;
             for input in inputs {
-                contenders[which](black_box(input));
+                let input = black_box(input.clone());
+                let start = Instant::now();
+                contenders[which](&input);
+                time += start.elapsed();
             }
-            times[which].push(start.elapsed().as_secs_f64() * 1e6 / inputs.len() as f64);
+            times[which].push(time.as_secs_f64() * 1e6 / inputs.len() as f64);
         }
     }
     for times in &mut times {
@@ -60,30 +67,24 @@ impl Lists {
     }
 }
 
-fn lend(market: &Market) -> bay_market::Market<'_> {
-    bay_market::Market {
-        asks: &market.asks,
-        bays: &market.bays,
-        amounts: &market.amounts,
-        bids: &market.bids,
-        width: market.width,
-    }
+fn lend(market: &Market) -> lent::Market<'_> {
+    lent::Market { asks: &market.asks, bays: &market.bays, amounts: &market.amounts, bids: &market.bids, width: market.width }
 }
 
-type Clear = fn(&bay_market::Market, &mut Results) -> Result<Cleared, u8>;
+type Clear = fn(&mut Scratch, &lent::Market, &mut Results) -> Result<Cleared, u8>;
 
 const CLEARINGS: [Clear; 3] = [
-    |market, results| bay_market::clear(market, results).map_err(|refusal| refusal.number()),
-    |market, results| baseline::clear(market, results, baseline::select),
-    |market, results| baseline::clear(market, results, baseline::sort),
+    |_, market, results| lent::clear(market, results).map_err(|refusal| refusal.number()),
+    |scratch, market, results| baseline::clear(scratch, market, results, baseline::select),
+    |scratch, market, results| baseline::clear(scratch, market, results, baseline::sort),
 ];
 
 /// Every contender's outcome is the reference's.
-fn verify_clearing(market: &Market) {
+fn verify_clearing(scratch: &mut Scratch, market: &Market) {
     let expected = clearing::clear(market);
     for clear in CLEARINGS {
         let mut lists = Lists::new(market);
-        let cleared = clear(&lend(market), &mut lists.lend()).expect("an accepted market");
+        let cleared = clear(scratch, &lend(market), &mut lists.lend()).expect("an accepted market");
         let outcome = clearing::Outcome {
             cut: cleared.cut.into(),
             stations: lists.stations.iter().map(|&station| station.into()).collect(),
@@ -113,11 +114,11 @@ fn clearings(random: &mut Random) {
     println!("|---|---|---|---|---|---|");
     for (name, shape) in shapes {
         let markets: Vec<Market> = (0..MARKETS).map(|_| shape.market(random)).collect();
-        markets.iter().for_each(verify_clearing);
-        let mut lists = [Lists::new(&markets[0]), Lists::new(&markets[0]), Lists::new(&markets[0])];
-        let [engine, select, sort] = &mut lists;
-        let run = |clear: Clear, market: &Market, lists: &mut Lists| {
-            black_box(clear(&lend(market), &mut lists.lend())).expect("an accepted market");
+        let mut working = [Scratch::new(), Scratch::new(), Scratch::new()].map(|scratch| (scratch, Lists::new(&markets[0])));
+        markets.iter().for_each(|market| verify_clearing(&mut working[0].0, market));
+        let [engine, select, sort] = &mut working;
+        let run = |clear: Clear, market: &Market, (scratch, lists): &mut (Box<Scratch>, Lists)| {
+            black_box(clear(scratch, &lend(market), &mut lists.lend())).expect("an accepted market");
         };
         let medians = medians(
             &markets,
@@ -133,31 +134,31 @@ fn clearings(random: &mut Random) {
 
 /// Owned tables of the reader.
 struct Read {
-    amounts: Vec<u16>,
-    asks: Vec<u32>,
-    bays: Vec<u16>,
-    bids: Vec<u32>,
+    amounts: [u16; MAX_GUESTS],
+    asks: [u32; MAX_STATIONS],
+    bays: [u16; MAX_STATIONS],
+    bids: [u32; MAX_BIDS],
 }
 
 impl Read {
     fn new() -> Read {
-        Read { amounts: vec![0; MAX_GUESTS], asks: vec![0; MAX_STATIONS], bays: vec![0; MAX_STATIONS], bids: vec![0; MAX_BIDS] }
+        Read { amounts: [0; MAX_GUESTS], asks: [0; MAX_STATIONS], bays: [0; MAX_STATIONS], bids: [0; MAX_BIDS] }
     }
 
     fn lend(&mut self) -> Tables<'_> {
         Tables { amounts: &mut self.amounts, asks: &mut self.asks, bays: &mut self.bays, bids: &mut self.bids }
     }
 
-    fn market(&self, counts: Counts) -> Market {
-        let (n, m) = (usize::from(counts.guests), usize::from(counts.stations));
-        Market::new(&self.asks[..m], &self.bays[..m], &self.amounts[..n], &self.bids[..n * m])
+    fn market(&mut self, counts: Counts) -> Market {
+        let tables = self.lend();
+        let read = tables.market(counts);
+        Market::new(read.asks, read.bays, read.amounts, read.bids)
     }
 }
 
 type ReadSheet = fn(&[u8], &mut Tables) -> Result<Counts, u8>;
 
-const READINGS: [ReadSheet; 2] =
-    [|sheet, tables| bay_market::read(sheet, tables).map_err(|refusal| refusal.number()), baseline::read];
+const READINGS: [ReadSheet; 2] = [|sheet, tables| lent::read(sheet, tables).map_err(|refusal| refusal.number()), baseline::read];
 
 fn readings(random: &mut Random) {
     println!("\n| reading | engine µs | two walks µs | engine / two walks |");
@@ -187,39 +188,20 @@ fn readings(random: &mut Random) {
     }
 }
 
-/// An owned ledger.
-#[derive(PartialEq, Eq)]
-struct Accounts {
-    guests: Vec<u64>,
-    stations: Vec<StationAccount>,
-    house: u64,
-    last: u32,
-}
-
-impl Accounts {
-    fn new() -> Accounts {
-        Accounts { guests: vec![0; MAX_GUESTS], stations: vec![StationAccount::default(); MAX_STATIONS], house: 0, last: 0 }
-    }
-
-    fn lend(&mut self) -> Ledger<'_> {
-        Ledger { guests: &mut self.guests, stations: &mut self.stations, house: &mut self.house, last: &mut self.last }
-    }
-
-    fn plain(&self) -> ledger::Ledger {
-        let account = |account: &StationAccount| ledger::StationAccount { sold: account.sold.into(), paid: account.paid.into() };
-        ledger::Ledger {
-            guests: self.guests.iter().map(|&account| account.into()).collect(),
-            stations: self.stations.iter().map(account).collect(),
-            house: self.house.into(),
-            last: self.last.into(),
-        }
+fn plain(ledger: &Ledger) -> ledger::Ledger {
+    let account = |account: &StationAccount| ledger::StationAccount { sold: account.sold.into(), paid: account.paid.into() };
+    ledger::Ledger {
+        guests: ledger.guests.iter().map(|&account| account.into()).collect(),
+        stations: ledger.stations.iter().map(account).collect(),
+        house: ledger.house.into(),
+        last: ledger.last.into(),
     }
 }
 
-type Post = fn(&bay_market::Market, u32, &mut Ledger) -> Result<(), u8>;
+type Post = fn(&mut Scratch, &lent::Market, u32, &mut lent::Ledger) -> Result<(), u8>;
 
 const POSTINGS: [Post; 2] =
-    [|market, round, ledger| bay_market::post(market, round, ledger).map_err(|refusal| refusal.number()), baseline::post];
+    [|_, market, round, ledger| lent::post(market, round, ledger).map_err(|refusal| refusal.number()), baseline::post];
 
 fn postings(random: &mut Random) {
     println!("\n| posting | engine µs | select µs | engine / select |");
@@ -227,25 +209,25 @@ fn postings(random: &mut Random) {
     for (name, guests, stations) in [("200 by 40, bays 1 to 10", 200, 40), ("100 by 10, bays 1 to 10", 100, 10)] {
         let shape = Shape { guests: guests..=guests, stations: stations..=stations, bays: 1..=10, ..Shape::full() };
         let markets: Vec<Market> = (0..MARKETS).map(|_| shape.market(random)).collect();
-        let mut accounts = [Accounts::new(), Accounts::new()];
-        let mut plain = ledger::Ledger::empty(MAX_GUESTS, MAX_STATIONS);
-        let run = |post: Post, market: &Market, accounts: &mut Accounts| {
-            let round = accounts.last + 1;
-            black_box(post(&lend(market), round, &mut accounts.lend())).expect("an accepted posting");
+        let mut working = [Scratch::new(), Scratch::new()].map(|scratch| (scratch, Ledger::new(MAX_GUESTS, MAX_STATIONS)));
+        let mut expected = ledger::Ledger::empty(MAX_GUESTS, MAX_STATIONS);
+        let run = |post: Post, market: &Market, (scratch, ledger): &mut (Box<Scratch>, Ledger)| {
+            let round = ledger.last + 1;
+            black_box(post(scratch, &lend(market), round, &mut ledger.lend())).expect("an accepted posting");
         };
-        for market in &markets {
-            plain.post(market, accounts[0].last + 1).expect("an accepted posting");
-            for (post, accounts) in POSTINGS.iter().zip(&mut accounts) {
-                run(*post, market, accounts);
-                assert!(accounts.plain() == plain, "a contender differs from the reference");
+        for (round, market) in (1..).zip(&markets) {
+            expected.post(market, round).expect("an accepted posting");
+            for (post, working) in POSTINGS.iter().zip(&mut working) {
+                run(*post, market, working);
+                assert!(plain(&working.1) == expected, "a contender differs from the reference");
             }
         }
-        let [engine, select] = &mut accounts;
+        let [engine, select] = &mut working;
         let medians = medians(
             &markets,
             &mut [&mut |market| run(POSTINGS[0], market, engine), &mut |market| run(POSTINGS[1], market, select)],
         );
-        assert!(engine == select, "the ledgers differ");
+        assert!(engine.1 == select.1, "the ledgers differ");
         print_row(name, &medians);
     }
 }

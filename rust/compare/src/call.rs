@@ -1,14 +1,16 @@
-//! One call of each function of the static library, on memory that is watched.
+//! Calls of each function of the static library, on memory that is watched: as C calls it, through the safe function
+//! over slices, and through the types that own their lists.
 
 use crate::lent::Lent;
-use bay_market::StationAccount;
 use bay_market::c::{bay_market_clear, bay_market_post, bay_market_read};
+use bay_market::{Refusal, StationAccount, lent};
 use reference::clearing::Outcome;
 use reference::faults::ListLengths;
 use reference::ledger::Ledger;
 use reference::market::Market;
 use reference::random::Random;
-use reference::sheet::TableLengths;
+use reference::sheet::{GREATEST, TableLengths};
+use std::sync::OnceLock;
 
 /// The lent tables of a market.
 struct Tables {
@@ -28,9 +30,37 @@ impl Tables {
         }
     }
 
+    fn lend(&mut self, width: usize) -> lent::Market<'_> {
+        lent::Market {
+            asks: self.asks.slice(),
+            bays: self.bays.slice(),
+            amounts: self.amounts.slice(),
+            bids: self.bids.slice(),
+            width,
+        }
+    }
+
     fn untouched(&self) -> bool {
         self.asks.untouched() && self.bays.untouched() && self.amounts.untouched() && self.bids.untouched()
     }
+}
+
+/// By which way a function is called.
+#[derive(Clone, Copy, Debug, PartialEq, Eq)]
+pub enum Way {
+    C,
+    Slices,
+    Owned,
+}
+
+pub const WAYS: [(&str, Way); 3] = [("c", Way::C), ("slices", Way::Slices), ("owned", Way::Owned)];
+
+/// The one way that is gone, or all.
+static ONLY: OnceLock<Way> = OnceLock::new();
+
+/// From now on only one way is gone.
+pub fn only(way: Way) {
+    ONLY.set(way).expect("one way");
 }
 
 /// A mismatch, in words.
@@ -43,9 +73,34 @@ fn require_answer<T>(answer: u8, expected: &Result<T, u8>) -> Result<(), String>
     require(answer == number, &format!("answered {answer}, expected {number}"))
 }
 
+/// A safe function's answer by its number, its numbers handed to `keep`.
+fn numbered<T>(answer: Result<T, Refusal>, keep: impl FnOnce(T)) -> u8 {
+    answer.map(keep).map_or_else(Refusal::number, |()| 0)
+}
+
+/// Runs a call by each way.
+fn each_way(mut call: impl FnMut(Way) -> Result<(), String>) -> Result<(), String> {
+    let gone = WAYS.iter().filter(|(_, way)| ONLY.get().is_none_or(|only| only == way));
+    gone.into_iter().try_for_each(|(name, way)| call(*way).map_err(|what| format!("{what} ({name})")))
+}
+
 /// Reads a sheet and holds answer and memory to what is expected.
-#[rustfmt::skip] // pointer and length on one line
 pub fn read(random: &mut Random, sheet: &[u8], lengths: TableLengths, expected: &Result<Market, u8>) -> Result<(), String> {
+    each_way(|way| match way {
+        Way::C => read_lent(way, random, sheet, lengths, expected),
+        _ if lengths != GREATEST => Ok(()), // the types do not let it happen
+        Way::Slices => read_lent(way, random, sheet, lengths, expected),
+        Way::Owned => {
+            let read = bay_market::Market::read(sheet).map_err(Refusal::number);
+            require(read == expected.as_ref().map(own).map_err(|&number| number), "the owned market differs")
+        }
+    })
+}
+
+#[rustfmt::skip] // pointer and length on one line
+fn read_lent(
+    way: Way, random: &mut Random, sheet: &[u8], lengths: TableLengths, expected: &Result<Market, u8>,
+) -> Result<(), String> {
     let mut sheet: Lent<u8> = Lent::holding(random, sheet);
     let mut amounts: Lent<u16> = Lent::noise(random, lengths.amounts);
     let mut asks: Lent<u32> = Lent::noise(random, lengths.asks);
@@ -53,16 +108,31 @@ pub fn read(random: &mut Random, sheet: &[u8], lengths: TableLengths, expected: 
     let mut bids: Lent<u32> = Lent::noise(random, lengths.bids);
     let mut n: Lent<u16> = Lent::noise(random, 1);
     let mut m: Lent<u16> = Lent::noise(random, 1);
-    // SAFETY: each pointer and length is that of a lent part of a vector of its own.
-    let answer = unsafe {
-        bay_market_read(
-            sheet.pointer(), sheet.len(),
-            amounts.pointer(), amounts.len(),
-            asks.pointer(), asks.len(),
-            bays.pointer(), bays.len(),
-            bids.pointer(), bids.len(),
-            n.pointer(), m.pointer(),
-        )
+    let answer = match way {
+        // SAFETY: each pointer and length is that of a lent part of a vector of its own.
+        Way::C => unsafe {
+            bay_market_read(
+                sheet.pointer(), sheet.len(),
+                amounts.pointer(), amounts.len(),
+                asks.pointer(), asks.len(),
+                bays.pointer(), bays.len(),
+                bids.pointer(), bids.len(),
+                n.pointer(), m.pointer(),
+            )
+        },
+        _ => {
+            let size = "a table of the greatest size";
+            let mut tables = lent::Tables {
+                amounts: amounts.slice().try_into().expect(size),
+                asks: asks.slice().try_into().expect(size),
+                bays: bays.slice().try_into().expect(size),
+                bids: bids.slice().try_into().expect(size),
+            };
+            numbered(lent::read(sheet.slice(), &mut tables), |counts| {
+                *n.number() = counts.guests;
+                *m.number() = counts.stations;
+            })
+        }
     };
     require_answer(answer, expected)?;
     require(sheet.untouched(), "the sheet was written")?;
@@ -79,8 +149,21 @@ pub fn read(random: &mut Random, sheet: &[u8], lengths: TableLengths, expected: 
 }
 
 /// Clears a market and holds answer and memory to what is expected.
-#[rustfmt::skip] // pointer and length on one line
 pub fn clear(random: &mut Random, market: &Market, lists: ListLengths, expected: &Result<Outcome, u8>) -> Result<(), String> {
+    each_way(|way| match way {
+        Way::C | Way::Slices => clear_lent(way, random, market, lists, expected),
+        Way::Owned if market.width != market.stations() || lists != ListLengths::of(market) => Ok(()),
+        Way::Owned => {
+            let cleared = own(market).clear().map_err(Refusal::number);
+            require(cleared == expected.as_ref().map(own_outcome).map_err(|&number| number), "the owned clearing differs")
+        }
+    })
+}
+
+#[rustfmt::skip] // pointer and length on one line
+fn clear_lent(
+    way: Way, random: &mut Random, market: &Market, lists: ListLengths, expected: &Result<Outcome, u8>,
+) -> Result<(), String> {
     let mut tables = Tables::of(random, market);
     let mut stations: Lent<u16> = Lent::noise(random, lists.stations);
     let mut charges: Lent<u32> = Lent::noise(random, lists.charges);
@@ -88,20 +171,31 @@ pub fn clear(random: &mut Random, market: &Market, lists: ListLengths, expected:
     let mut paid: Lent<u64> = Lent::noise(random, lists.paid);
     let mut cut: Lent<u32> = Lent::noise(random, 1);
     let mut margin: Lent<u64> = Lent::noise(random, 1);
-    // SAFETY: as in `read`.
-    let answer = unsafe {
-        bay_market_clear(
-            tables.asks.pointer(), tables.asks.len(),
-            tables.bays.pointer(), tables.bays.len(),
-            tables.amounts.pointer(), tables.amounts.len(),
-            tables.bids.pointer(), tables.bids.len(),
-            market.width,
-            stations.pointer(), stations.len(),
-            charges.pointer(), charges.len(),
-            sold.pointer(), sold.len(),
-            paid.pointer(), paid.len(),
-            cut.pointer(), margin.pointer(),
-        )
+    let answer = match way {
+        // SAFETY: as in `read_lent`.
+        Way::C => unsafe {
+            bay_market_clear(
+                tables.asks.pointer(), tables.asks.len(),
+                tables.bays.pointer(), tables.bays.len(),
+                tables.amounts.pointer(), tables.amounts.len(),
+                tables.bids.pointer(), tables.bids.len(),
+                market.width,
+                stations.pointer(), stations.len(),
+                charges.pointer(), charges.len(),
+                sold.pointer(), sold.len(),
+                paid.pointer(), paid.len(),
+                cut.pointer(), margin.pointer(),
+            )
+        },
+        _ => {
+            let mut results = lent::Results {
+                stations: stations.slice(), charges: charges.slice(), sold: sold.slice(), paid: paid.slice(),
+            };
+            numbered(lent::clear(&tables.lend(market.width), &mut results), |cleared| {
+                *cut.number() = cleared.cut;
+                *margin.number() = cleared.margin;
+            })
+        }
     };
     require_answer(answer, expected)?;
     require(tables.untouched(), "the market was written")?;
@@ -117,30 +211,59 @@ pub fn clear(random: &mut Random, market: &Market, lists: ListLengths, expected:
     require(paid.holds(outcome.paid.iter().map(|&paid| narrow(paid))), "payments differ")
 }
 
-/// Posts a market to a ledger as it is before and holds answer and memory to the ledger as it is to be after.
+/// A posting to a ledger as it is before, and the ledger as it is to be after.
+pub struct Posting<'a> {
+    pub market: &'a Market,
+    pub round: u32,
+    pub before: &'a Ledger,
+    pub expected: Result<(), u8>,
+    pub after: &'a Ledger,
+}
+
+/// Posts a market and holds answer and memory to what is expected.
+pub fn post(random: &mut Random, posting: &Posting) -> Result<(), String> {
+    let Posting { market, round, before, expected, after } = *posting;
+    each_way(|way| match way {
+        Way::C | Way::Slices => post_lent(way, random, posting),
+        Way::Owned if market.width != market.stations() => Ok(()),
+        Way::Owned => {
+            let mut ledger = own_ledger(before);
+            let answer = ledger.post(&own(market), round).map_err(Refusal::number);
+            require(answer == expected && ledger == own_ledger(after), "the owned ledger differs")
+        }
+    })
+}
+
 #[rustfmt::skip] // pointer and length on one line
-pub fn post(
-    random: &mut Random, market: &Market, round: u32, before: &Ledger, expected: &Result<(), u8>, after: &Ledger,
-) -> Result<(), String> {
+fn post_lent(way: Way, random: &mut Random, posting: &Posting) -> Result<(), String> {
+    let Posting { market, round, before, expected, after } = *posting;
     let mut tables = Tables::of(random, market);
     let mut guests: Lent<u64> = Lent::holding(random, &guest_accounts(before));
     let mut stations: Lent<StationAccount> = Lent::holding(random, &station_accounts(before));
     let mut house: Lent<u64> = Lent::holding(random, &[narrow(before.house)]);
     let mut last: Lent<u32> = Lent::holding(random, &[narrow(before.last)]);
-    // SAFETY: as in `read`.
-    let answer = unsafe {
-        bay_market_post(
-            tables.asks.pointer(), tables.asks.len(),
-            tables.bays.pointer(), tables.bays.len(),
-            tables.amounts.pointer(), tables.amounts.len(),
-            tables.bids.pointer(), tables.bids.len(),
-            market.width, round,
-            guests.pointer(), guests.len(),
-            stations.pointer(), stations.len(),
-            house.pointer(), last.pointer(),
-        )
+    let answer = match way {
+        // SAFETY: as in `read_lent`.
+        Way::C => unsafe {
+            bay_market_post(
+                tables.asks.pointer(), tables.asks.len(),
+                tables.bays.pointer(), tables.bays.len(),
+                tables.amounts.pointer(), tables.amounts.len(),
+                tables.bids.pointer(), tables.bids.len(),
+                market.width, round,
+                guests.pointer(), guests.len(),
+                stations.pointer(), stations.len(),
+                house.pointer(), last.pointer(),
+            )
+        },
+        _ => {
+            let mut ledger = lent::Ledger {
+                guests: guests.slice(), stations: stations.slice(), house: house.number(), last: last.number(),
+            };
+            numbered(lent::post(&tables.lend(market.width), round, &mut ledger), |()| ())
+        }
     };
-    require_answer(answer, expected)?;
+    require_answer(answer, &expected)?;
     require(tables.untouched(), "the market was written")?;
     require(guests.holds(guest_accounts(after)), "guest accounts differ")?;
     require(stations.holds(station_accounts(after)), "station accounts differ")?;
@@ -154,6 +277,36 @@ fn guest_accounts(ledger: &Ledger) -> Vec<u64> {
 
 fn station_accounts(ledger: &Ledger) -> Vec<StationAccount> {
     ledger.stations.iter().map(|account| StationAccount { sold: narrow(account.sold), paid: narrow(account.paid) }).collect()
+}
+
+/// The reference's market, outcome and ledger as those that the engine's crate owns.
+fn own(market: &Market) -> bay_market::Market {
+    bay_market::Market {
+        asks: market.asks.clone(),
+        bays: market.bays.clone(),
+        amounts: market.amounts.clone(),
+        bids: market.bids.clone(),
+    }
+}
+
+fn own_outcome(outcome: &Outcome) -> bay_market::Clearing {
+    bay_market::Clearing {
+        cut: narrow(outcome.cut),
+        stations: outcome.stations.iter().map(|&station| station as u16).collect(),
+        charges: outcome.charges.iter().map(|&charge| narrow(charge)).collect(),
+        sold: outcome.sold.iter().map(|&sold| narrow(sold)).collect(),
+        paid: outcome.paid.iter().map(|&paid| narrow(paid)).collect(),
+        margin: narrow(outcome.margin),
+    }
+}
+
+fn own_ledger(ledger: &Ledger) -> bay_market::Ledger {
+    bay_market::Ledger {
+        guests: guest_accounts(ledger),
+        stations: station_accounts(ledger),
+        house: narrow(ledger.house),
+        last: narrow(ledger.last),
+    }
 }
 
 /// A number of the reference at the engine's width.

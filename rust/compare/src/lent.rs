@@ -1,7 +1,8 @@
-//! Memory lent to the engine, with what it held at entry.
+//! Memory lent to the engine, with what it held at entry. Its guards are looked at when it is dropped, whoever lent it.
 
 use bay_market::StationAccount;
 use reference::random::Random;
+use std::thread;
 
 /// A value of random bits.
 pub trait Noise {
@@ -41,9 +42,17 @@ impl Noise for StationAccount {
 /// Elements before and after the lent part that are watched too.
 const GUARD: usize = 4;
 
-pub struct Lent<T> {
+pub struct Lent<T: Copy + PartialEq> {
     entry: Vec<T>,
     now: Vec<T>,
+}
+
+impl<T: Copy + PartialEq> Drop for Lent<T> {
+    fn drop(&mut self) {
+        let end = self.now.len() - GUARD;
+        let kept = self.now[..GUARD] == self.entry[..GUARD] && self.now[end..] == self.entry[end..];
+        assert!(kept || thread::panicking(), "a call wrote beside lent memory");
+    }
 }
 
 impl<T: Noise + Copy + PartialEq> Lent<T> {
@@ -69,6 +78,17 @@ impl<T: Noise + Copy + PartialEq> Lent<T> {
         self.now[GUARD..].as_mut_ptr()
     }
 
+    pub fn slice(&mut self) -> &mut [T] {
+        let end = self.now.len() - GUARD;
+        &mut self.now[GUARD..end]
+    }
+
+    /// The one element of a number.
+    pub fn number(&mut self) -> &mut T {
+        let [number] = self.slice() else { panic!("a list, not a number") };
+        number
+    }
+
     pub fn untouched(&self) -> bool {
         self.now == self.entry
     }
@@ -87,7 +107,7 @@ impl<T: Noise + Copy + PartialEq> Lent<T> {
 mod tests {
     use super::*;
 
-    fn write<T>(lent: &mut Lent<T>, place: usize, element: T) {
+    fn write<T: Copy + PartialEq>(lent: &mut Lent<T>, place: usize, element: T) {
         lent.now[place] = element;
     }
 
@@ -100,6 +120,18 @@ mod tests {
             assert!(!lent.untouched());
             assert_eq!(lent.holds([9]), place == GUARD);
             assert_eq!(lent.holds([5, 6, 9]), place == GUARD + 2);
+            lent.now = lent.entry.clone();
+        }
+    }
+
+    #[test]
+    fn a_written_guard_is_seen_though_nobody_looks() {
+        for place in 0..3 + 2 * GUARD {
+            let dropped = std::panic::catch_unwind(|| {
+                let mut lent = Lent::holding(&mut Random::new(1), &[5u64, 6, 7]);
+                write(&mut lent, place, 9);
+            });
+            assert_eq!(dropped.is_ok(), (GUARD..GUARD + 3).contains(&place));
         }
     }
 

@@ -1,6 +1,6 @@
 //! Runs the static library and the clearing program against the reference on seeded random cases:
-//! `compare [SEED [PART]]`, where a part is read, clear, post, truth or print. A failing case prints itself and ends the
-//! run.
+//! `compare [SEED [PART [WAY]]]`, where a part is read, clear, post, truth or print, and the first three are called by
+//! all ways or by one: c, slices or owned. A failing case prints itself and ends the run with 1; wrong use ends it with 2.
 
 mod call;
 mod clearing;
@@ -11,6 +11,7 @@ mod printing;
 mod reading;
 mod truth;
 
+use call::{WAYS, Way};
 use reference::random::Random;
 use std::collections::BTreeMap;
 use std::process::ExitCode;
@@ -36,25 +37,54 @@ impl Tally {
     }
 }
 
-type Part = fn(&mut Random, &mut Tally, usize) -> Result<(), String>;
+#[derive(Clone, Copy)]
+struct Part {
+    name: &'static str,
+    run: fn(&mut Random, &mut Tally, usize) -> Result<(), String>,
+    cases: usize,
+}
 
-const PARTS: [(&str, Part, usize); 5] = [
-    ("read", reading::run, 6_000),
-    ("clear", clearing::run, 20_000),
-    ("post", posting::run, 4_000),
-    ("truth", truth::run, 3_000),
-    ("print", printing::run, 400),
+const PARTS: [Part; 5] = [
+    Part { name: "read", run: reading::run, cases: 6_000 },
+    Part { name: "clear", run: clearing::run, cases: 20_000 },
+    Part { name: "post", run: posting::run, cases: 4_000 },
+    Part { name: "truth", run: truth::run, cases: 3_000 },
+    Part { name: "print", run: printing::run, cases: 400 },
 ];
 
+/// What the arguments choose.
+struct Choice {
+    seed: u64,
+    parts: Vec<Part>,
+    way: Option<Way>,
+}
+
+fn choice(mut args: impl Iterator<Item = String>) -> Result<Choice, String> {
+    let seed = args.next().map_or(Ok(SEED), |seed| seed.parse().map_err(|_| format!("not a seed: {seed}")))?;
+    let part = args.next();
+    let parts: Vec<Part> = PARTS.into_iter().filter(|Part { name, .. }| part.as_ref().is_none_or(|part| part == name)).collect();
+    let named = args.next();
+    let way = named.as_ref().and_then(|named| WAYS.iter().find(|(name, _)| name == named)).map(|&(_, way)| way);
+    if parts.is_empty() || way.is_some() != named.is_some() || args.next().is_some() {
+        let parts = PARTS.map(|part| part.name).join(", ");
+        return Err(format!("compare [SEED [PART [WAY]]]: parts {parts}; ways {}", WAYS.map(|(name, _)| name).join(", ")));
+    }
+    Ok(Choice { seed, parts, way })
+}
+
 fn main() -> ExitCode {
-    let mut args = std::env::args().skip(1);
-    let seed = args.next().map_or(SEED, |seed| seed.parse().expect("a seed is a number"));
-    let only = args.next();
-    println!("seed {seed}");
-    for (name, run, cases) in PARTS {
-        if only.as_ref().is_some_and(|only| only != name) {
-            continue;
+    let Choice { seed, parts, way } = match choice(std::env::args().skip(1)) {
+        Ok(choice) => choice,
+        Err(usage) => {
+            eprintln!("{usage}");
+            return ExitCode::from(2);
         }
+    };
+    if let Some(way) = way {
+        call::only(way);
+    }
+    println!("seed {seed}");
+    for Part { name, run, cases } in parts {
         let start = Instant::now();
         let mut tally = Tally::default();
         let result = run(&mut Random::new(seed), &mut tally, cases);
@@ -72,6 +102,20 @@ fn main() -> ExitCode {
 #[cfg(test)]
 mod tests {
     use super::*;
+
+    #[test]
+    fn only_parts_and_ways_that_are_there_are_chosen() {
+        let chosen = |args: &[&str]| {
+            let choice = choice(args.iter().map(|arg| arg.to_string()));
+            choice.map(|Choice { seed, parts, way }| (seed, parts.iter().map(|part| part.name).collect::<Vec<_>>(), way))
+        };
+        assert_eq!(chosen(&[]), Ok((SEED, vec!["read", "clear", "post", "truth", "print"], None)));
+        assert_eq!(chosen(&["7", "post"]), Ok((7, vec!["post"], None)));
+        assert_eq!(chosen(&["7", "post", "slices"]), Ok((7, vec!["post"], Some(Way::Slices))));
+        for wrong in [&["x"][..], &["7", "posts"], &["7", "post", "read"], &["7", "post", "c", "c"]] {
+            assert!(chosen(wrong).is_err());
+        }
+    }
 
     #[test]
     fn an_answer_that_was_not_met_is_missed() {

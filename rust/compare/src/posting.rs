@@ -13,7 +13,8 @@ fn check(random: &mut Random, tally: &mut Tally, ledger: &mut Ledger, market: &M
     let before = ledger.clone();
     let expected = ledger.post(market, round);
     tally.count(&expected);
-    call::post(random, market, round, &before, &expected, ledger)
+    let posting = call::Posting { market, round, before: &before, expected, after: ledger };
+    call::post(random, &posting)
         .map_err(|what| format!("{what}\nround {round}\nledger {before:?}\nexpected {ledger:?}\n{}", show(market)))
 }
 
@@ -78,7 +79,8 @@ fn list(random: &mut Random, tally: &mut Tally, shapes: &[Shape], moved: bool) -
     if moved {
         ledger.last = *random.pick(&[0, 1, 65_535, 65_536, MAX_ROUND / 2, MAX_ROUND - 3, MAX_ROUND - 1, MAX_ROUND]);
     }
-    for _ in 0..random.within(1..=12) {
+    let postings = if random.chance(2) { 13..=80 } else { 1..=12 };
+    for _ in 0..random.within(postings) {
         let mut market = accepted(random, &shape);
         if random.chance(15) {
             let changes = changes(market.guests(), market.stations());

@@ -1,8 +1,10 @@
-//! The clearing program, target/bin/clear or the one that BAY_MARKET_PROGRAM names, against the reference's text.
+//! The clearing program, target/dist/clear or the one that BAY_MARKET_PROGRAM names, against the reference's text. It
+//! ends with 0 and writes nothing to standard error, whatever the sheet.
 
 use crate::Tally;
-use crate::markets::{accepted, hex, shapes};
+use crate::markets::{accepted, hex, shapes, small};
 use crate::reading::{any_sheet, damaged};
+use reference::faults::{MAX_AMOUNT, MAX_BAYS, MAX_PRICE};
 use reference::random::{Random, Shape};
 use reference::report::printed;
 use reference::sheet::write;
@@ -19,6 +21,7 @@ fn run_program(program: &Path, input: &[u8], first: usize) -> Result<String, Str
     let mut child = Command::new(program)
         .stdin(Stdio::piped())
         .stdout(Stdio::piped())
+        .stderr(Stdio::piped())
         .spawn()
         .map_err(|error| format!("{}: {error}", program.display()))?;
     let mut pipe = child.stdin.take().expect("a pipe");
@@ -32,12 +35,32 @@ fn run_program(program: &Path, input: &[u8], first: usize) -> Result<String, Str
     });
     let output = child.wait_with_output().map_err(|error| error.to_string())?;
     writer.join().expect("the writer");
+    if !output.status.success() || !output.stderr.is_empty() {
+        let said = String::from_utf8_lossy(&output.stderr);
+        return Err(format!("the program ended with {} and said {said:?}", output.status));
+    }
     String::from_utf8(output.stdout).map_err(|error| error.to_string())
+}
+
+/// A market with one value out of range.
+fn out_of_range(random: &mut Random, which: usize) -> Vec<u8> {
+    let mut market = Shape { guests: 1..=9, stations: 1..=9, bids: 1..=9, ..small() }.market(random);
+    let (guest, station) = (random.below(market.guests()), random.below(market.stations()));
+    match which {
+        13 => market.asks[station] = MAX_PRICE + 1,
+        17 => market.bays[station] = *random.pick(&[0, MAX_BAYS + 1]),
+        21 => market.amounts[guest] = *random.pick(&[0, MAX_AMOUNT + 1]),
+        _ => {
+            let bid = random.below(market.bids.len());
+            market.bids[bid] = MAX_PRICE + 1;
+        }
+    }
+    write(&market, |_, _| false)
 }
 
 pub fn run(random: &mut Random, tally: &mut Tally, cases: usize) -> Result<(), String> {
     let program = env::var_os("BAY_MARKET_PROGRAM")
-        .map_or_else(|| Path::new(env!("CARGO_MANIFEST_DIR")).join("../../target/bin/clear"), PathBuf::from);
+        .map_or_else(|| Path::new(env!("CARGO_MANIFEST_DIR")).join("../../target/dist/clear"), PathBuf::from);
     let shapes = shapes();
     for case in 0..cases {
         let mut sheet = match case % 4 {
@@ -53,6 +76,8 @@ pub fn run(random: &mut Random, tally: &mut Tally, cases: usize) -> Result<(), S
             5 => sheet = [write(&Shape::full().market(random), |_, _| true), vec![0]].concat(),
             // more than a pipe holds
             9 => sheet.resize(200_000, 0),
+            // an ask, bays, an amount or a bid out of range
+            13 | 17 | 21 | 25 => sheet = out_of_range(random, case % 40),
             _ => {}
         }
         let text = printed(&sheet);
@@ -64,5 +89,5 @@ pub fn run(random: &mut Random, tally: &mut Tally, cases: usize) -> Result<(), S
             return Err(format!("the text differs\nprinted\n{output}expected\n{text}sheet {}", hex(&sheet)));
         }
     }
-    tally.require(&[0, 1, 4, 6])
+    tally.require(&[0, 1, 2, 3, 4, 6, 7, 8, 9])
 }

@@ -2,43 +2,26 @@
 
 use crate::Tally;
 use crate::markets::show;
-use bay_market::Results;
+use bay_market::Clearing;
 use reference::market::Market;
 use reference::random::{Random, Shape};
 
-/// What the engine made of a market.
-struct Outcome {
-    stations: Vec<u16>,
-    charges: Vec<u32>,
-    sold: Vec<u32>,
-    paid: Vec<u64>,
-}
-
-fn clear(tally: &mut Tally, market: &Market) -> Result<Outcome, String> {
-    let (n, m) = (market.guests(), market.stations());
-    let mut outcome = Outcome { stations: vec![0; n], charges: vec![0; n], sold: vec![0; m], paid: vec![0; m] };
-    let lent = bay_market::Market {
-        asks: &market.asks,
-        bays: &market.bays,
-        amounts: &market.amounts,
-        bids: &market.bids,
-        width: market.width,
+fn clear(tally: &mut Tally, market: &Market) -> Result<Clearing, String> {
+    let own = bay_market::Market {
+        asks: market.asks.clone(),
+        bays: market.bays.clone(),
+        amounts: market.amounts.clone(),
+        bids: market.bids.clone(),
     };
-    let mut results = Results {
-        stations: &mut outcome.stations,
-        charges: &mut outcome.charges,
-        sold: &mut outcome.sold,
-        paid: &mut outcome.paid,
-    };
-    let answer = bay_market::clear(&lent, &mut results);
-    tally.count(&answer.map_err(|refusal| refusal.number()));
-    let cleared = answer.map_err(|refusal| format!("refused {}\n{}", refusal.number(), show(market)))?;
-    within_limits(market, &outcome, cleared.margin).map_err(|what| format!("{what}\n{}", show(market)))?;
-    Ok(outcome)
+    let answer = own.clear();
+    tally.count(&answer.as_ref().map_err(|refusal| refusal.number()));
+    let clearing = answer.map_err(|refusal| format!("refused {}\n{}", refusal.number(), show(market)))?;
+    within_limits(market, &clearing).map_err(|what| format!("{what}\n{}", show(market)))?;
+    Ok(clearing)
 }
 
 /// Demand 3's second sentence.
-fn within_limits(market: &Market, outcome: &Outcome, margin: u64) -> Result<(), String> {
+fn within_limits(market: &Market, outcome: &Clearing) -> Result<(), String> {
     let mut seated = vec![0; market.stations()];
     let mut kwh = vec![0; market.stations()];
     for guest in 1..=market.guests() {
@@ -63,13 +46,13 @@ fn within_limits(market: &Market, outcome: &Outcome, margin: u64) -> Result<(), 
         }
     }
     let charges: u64 = outcome.charges.iter().map(|&charge| u64::from(charge)).sum();
-    if charges != outcome.paid.iter().sum::<u64>() + margin {
+    if charges != outcome.paid.iter().sum::<u64>() + outcome.margin {
         return Err("charges are not payments and margin".to_string());
     }
     Ok(())
 }
 
-fn guest_gain(market: &Market, outcome: &Outcome, guest: usize, worths: &[u32]) -> i128 {
+fn guest_gain(market: &Market, outcome: &Clearing, guest: usize, worths: &[u32]) -> i128 {
     match usize::from(outcome.stations[guest - 1]) {
         0 => 0,
         station => {
@@ -78,7 +61,7 @@ fn guest_gain(market: &Market, outcome: &Outcome, guest: usize, worths: &[u32]) 
     }
 }
 
-fn station_gain(outcome: &Outcome, station: usize, cost: u32) -> i128 {
+fn station_gain(outcome: &Clearing, station: usize, cost: u32) -> i128 {
     i128::from(outcome.paid[station - 1]) - i128::from(cost) * i128::from(outcome.sold[station - 1])
 }
 

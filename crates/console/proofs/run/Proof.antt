@@ -37,4 +37,5 @@ run-spec =
     slice-aggregate-print-clearing
     (λ c. search needs) (λ c κs. search needs) (λ c. search needs)
     slice-aggregate-write-all-2
-    (λ c κs. search needs) (λ c. search needs) (λ c. search needs))
+    (λ c κs. search needs) (λ c. search needs) (λ c κs. search needs) (λ c. search needs) (λ c. search needs)
+    (λ c. search needs))

@@ -1,0 +1,139 @@
+//! The engine over memory that the caller lends: slices of any length and content, and nothing is allocated. A refused
+//! call has changed none of them.
+//!
+//! ```
+//! use bay_market::lent::{Cleared, Market, Results, clear};
+//!
+//! let market = Market { asks: &[2, 6], bays: &[1, 1], amounts: &[3, 3], bids: &[8, 0, 8, 0], width: 2 };
+//! let (mut stations, mut charges, mut sold, mut paid) = ([0; 2], [0; 2], [0; 2], [0; 2]);
+//! let mut results = Results { stations: &mut stations, charges: &mut charges, sold: &mut sold, paid: &mut paid };
+//! assert_eq!(clear(&market, &mut results), Ok(Cleared { cut: 6, margin: 6 }));
+//! assert_eq!((stations, charges, sold, paid), ([1, 0], [24, 0], [3, 0], [18, 0]));
+//! ```
+
+use crate::{MAX_BIDS, MAX_GUESTS, MAX_STATIONS, Refusal, StationAccount, c};
+
+/// A market: n amounts, m asks, m bays, n rows of m bids (0: no bid); `width` is the length of a row.
+#[derive(Clone, Copy, Debug)]
+pub struct Market<'a> {
+    pub asks: &'a [u32],
+    pub bays: &'a [u16],
+    pub amounts: &'a [u16],
+    pub bids: &'a [u32],
+    pub width: usize,
+}
+
+/// What a clearing fills: each guest's station (0: none) and charge, each station's kWh sold and payment.
+#[derive(Debug)]
+pub struct Results<'a> {
+    pub stations: &'a mut [u16],
+    pub charges: &'a mut [u32],
+    pub sold: &'a mut [u32],
+    pub paid: &'a mut [u64],
+}
+
+/// What a clearing answers besides its results.
+#[derive(Clone, Copy, Debug, PartialEq, Eq)]
+pub struct Cleared {
+    pub cut: u32,
+    pub margin: u64,
+}
+
+/// What the reader fills: the first places of tables of the greatest size.
+///
+/// Another size is no table:
+///
+/// ```compile_fail,E0308
+/// let (mut amounts, mut asks, mut bays, mut bids) = ([0; 199], [0; 40], [0; 40], [0; 8000]);
+/// bay_market::lent::Tables { amounts: &mut amounts, asks: &mut asks, bays: &mut bays, bids: &mut bids };
+/// ```
+#[derive(Debug)]
+pub struct Tables<'a> {
+    pub amounts: &'a mut [u16; MAX_GUESTS],
+    pub asks: &'a mut [u32; MAX_STATIONS],
+    pub bays: &'a mut [u16; MAX_STATIONS],
+    pub bids: &'a mut [u32; MAX_BIDS],
+}
+
+/// What the reader answers: how much of each table it filled.
+#[derive(Clone, Copy, Debug, PartialEq, Eq)]
+pub struct Counts {
+    pub guests: u16,
+    pub stations: u16,
+}
+
+/// The ledger (document 01: the book). An empty one is all zeros.
+#[derive(Debug)]
+pub struct Ledger<'a> {
+    pub guests: &'a mut [u64],
+    pub stations: &'a mut [StationAccount],
+    pub house: &'a mut u64,
+    pub last: &'a mut u32,
+}
+
+impl<'a> Tables<'a> {
+    /// The market that was read, whose values may be out of range.
+    pub fn market(&self, counts: Counts) -> Market<'_> {
+        let (n, m) = (usize::from(counts.guests), usize::from(counts.stations));
+        Market { asks: &self.asks[..m], bays: &self.bays[..m], amounts: &self.amounts[..n], bids: &self.bids[..n * m], width: m }
+    }
+}
+
+/// Reads a sheet into the first places of the tables.
+#[rustfmt::skip] // pointer and length on one line
+pub fn read(sheet: &[u8], tables: &mut Tables) -> Result<Counts, Refusal> {
+    let mut counts = Counts { guests: 0, stations: 0 };
+    // SAFETY: every pointer and length is that of a live slice or number, and borrows keep the written ones apart.
+    // The order is the reader's: amounts, asks, bays, bids.
+    let answer = unsafe {
+        c::bay_market_read(
+            sheet.as_ptr(), sheet.len(),
+            tables.amounts.as_mut_ptr(), tables.amounts.len(),
+            tables.asks.as_mut_ptr(), tables.asks.len(),
+            tables.bays.as_mut_ptr(), tables.bays.len(),
+            tables.bids.as_mut_ptr(), tables.bids.len(),
+            &mut counts.guests, &mut counts.stations,
+        )
+    };
+    Refusal::check(answer).map(|()| counts)
+}
+
+/// Clears a market.
+#[rustfmt::skip] // pointer and length on one line
+pub fn clear(market: &Market, results: &mut Results) -> Result<Cleared, Refusal> {
+    let mut cleared = Cleared { cut: 0, margin: 0 };
+    // SAFETY: as in `read`. The order is asks, bays, amounts, bids.
+    let answer = unsafe {
+        c::bay_market_clear(
+            market.asks.as_ptr(), market.asks.len(),
+            market.bays.as_ptr(), market.bays.len(),
+            market.amounts.as_ptr(), market.amounts.len(),
+            market.bids.as_ptr(), market.bids.len(),
+            market.width,
+            results.stations.as_mut_ptr(), results.stations.len(),
+            results.charges.as_mut_ptr(), results.charges.len(),
+            results.sold.as_mut_ptr(), results.sold.len(),
+            results.paid.as_mut_ptr(), results.paid.len(),
+            &mut cleared.cut, &mut cleared.margin,
+        )
+    };
+    Refusal::check(answer).map(|()| cleared)
+}
+
+/// Clears a market and posts it to the ledger as a round.
+#[rustfmt::skip] // pointer and length on one line
+pub fn post(market: &Market, round: u32, ledger: &mut Ledger) -> Result<(), Refusal> {
+    // SAFETY: as in `clear`; StationAccount has the header's layout.
+    Refusal::check(unsafe {
+        c::bay_market_post(
+            market.asks.as_ptr(), market.asks.len(),
+            market.bays.as_ptr(), market.bays.len(),
+            market.amounts.as_ptr(), market.amounts.len(),
+            market.bids.as_ptr(), market.bids.len(),
+            market.width, round,
+            ledger.guests.as_mut_ptr(), ledger.guests.len(),
+            ledger.stations.as_mut_ptr(), ledger.stations.len(),
+            ledger.house, ledger.last,
+        )
+    })
+}

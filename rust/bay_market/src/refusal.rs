@@ -1,0 +1,71 @@
+// scripts/refusals writes this file from refusals.txt.
+
+/// Why a call was refused, by its number in the header.
+#[derive(Clone, Copy, Debug, PartialEq, Eq, Hash)]
+#[repr(u8)]
+pub enum Refusal {
+    /// the sheet ends inside a field
+    SheetEnds = 1,
+    /// more than 200 guests, no station, or more than 40
+    CountsOutOfRange = 2,
+    /// a bit map has a bit beyond the last station
+    StrayBit = 3,
+    /// bytes follow the last row
+    TrailingBytes = 4,
+    /// bays, bids or row width do not fit the counts
+    LengthsDiffer = 5,
+    /// an ask is above 1,000,000
+    AskOutOfRange = 6,
+    /// a station has no bays or more than 200
+    BaysOutOfRange = 7,
+    /// an amount is 0 or above 1,000
+    AmountOutOfRange = 8,
+    /// a bid is above 1,000,000
+    BidOutOfRange = 9,
+    /// the reader's tables or a result list have another length
+    LentLengths = 10,
+    /// the round is not the last one plus 1, or no round is left
+    RoundOutOfTurn = 11,
+    /// an account is above 10^15, or would be
+    AccountOverLimit = 12,
+    /// the ledger has accounts beyond the limits, or fewer than the market needs
+    BookSize = 13,
+}
+
+impl Refusal {
+    /// All refusals, by rising number.
+    pub const ALL: [Refusal; 13] = [
+        Refusal::SheetEnds,
+        Refusal::CountsOutOfRange,
+        Refusal::StrayBit,
+        Refusal::TrailingBytes,
+        Refusal::LengthsDiffer,
+        Refusal::AskOutOfRange,
+        Refusal::BaysOutOfRange,
+        Refusal::AmountOutOfRange,
+        Refusal::BidOutOfRange,
+        Refusal::LentLengths,
+        Refusal::RoundOutOfTurn,
+        Refusal::AccountOverLimit,
+        Refusal::BookSize,
+    ];
+
+    /// What the refusal says.
+    pub const fn text(self) -> &'static str {
+        match self {
+            Refusal::SheetEnds => "the sheet ends inside a field",
+            Refusal::CountsOutOfRange => "more than 200 guests, no station, or more than 40",
+            Refusal::StrayBit => "a bit map has a bit beyond the last station",
+            Refusal::TrailingBytes => "bytes follow the last row",
+            Refusal::LengthsDiffer => "bays, bids or row width do not fit the counts",
+            Refusal::AskOutOfRange => "an ask is above 1,000,000",
+            Refusal::BaysOutOfRange => "a station has no bays or more than 200",
+            Refusal::AmountOutOfRange => "an amount is 0 or above 1,000",
+            Refusal::BidOutOfRange => "a bid is above 1,000,000",
+            Refusal::LentLengths => "the reader's tables or a result list have another length",
+            Refusal::RoundOutOfTurn => "the round is not the last one plus 1, or no round is left",
+            Refusal::AccountOverLimit => "an account is above 10^15, or would be",
+            Refusal::BookSize => "the ledger has accounts beyond the limits, or fewer than the market needs",
+        }
+    }
+}

@@ -1,0 +1,120 @@
+/* What a call takes of the stack, the largest market's too, is at most BAY_MARKET_MAX_STACK: each call runs on a
+ * stack of so many bytes above a page that cannot be touched, and what it touched is measured. */
+#define _GNU_SOURCE
+#include "bay_market.h"
+
+#include <stdio.h>
+#include <string.h>
+#include <sys/mman.h>
+#include <ucontext.h>
+
+#define GUARD 4096
+#define PAINT 0xA5
+
+static uint16_t amounts[BAY_MARKET_MAX_GUESTS], bays[BAY_MARKET_MAX_STATIONS], n, m;
+static uint32_t asks[BAY_MARKET_MAX_STATIONS], bids[BAY_MARKET_MAX_BIDS], cut, last;
+static uint8_t sheet[BAY_MARKET_MAX_SHEET];
+static size_t sheet_len;
+static uint16_t stations[BAY_MARKET_MAX_GUESTS];
+static uint32_t charges[BAY_MARKET_MAX_GUESTS], sold[BAY_MARKET_MAX_STATIONS];
+static uint64_t paid[BAY_MARKET_MAX_STATIONS], margin, guests[BAY_MARKET_MAX_GUESTS], house;
+static struct bay_market_station_account accounts[BAY_MARKET_MAX_STATIONS];
+static uint8_t answer;
+
+static void none(void)
+{
+}
+
+static void call_read(void)
+{
+    answer = bay_market_read(sheet, sheet_len, amounts, BAY_MARKET_MAX_GUESTS, asks, BAY_MARKET_MAX_STATIONS,
+                             bays, BAY_MARKET_MAX_STATIONS, bids, BAY_MARKET_MAX_BIDS, &n, &m);
+}
+
+static void call_clear(void)
+{
+    answer = bay_market_clear(asks, m, bays, m, amounts, n, bids, (size_t)n * m, m, stations, n, charges, n, sold, m,
+                              paid, m, &cut, &margin);
+}
+
+static void call_post(void)
+{
+    answer = bay_market_post(asks, m, bays, m, amounts, n, bids, (size_t)n * m, m, last + 1, guests, n, accounts, m,
+                             &house, &last);
+}
+
+/* How many bytes of the stack a call touches. */
+static size_t depth(void (*call)(void))
+{
+    static ucontext_t here, there;
+    uint8_t *memory = mmap(NULL, GUARD + BAY_MARKET_MAX_STACK, PROT_READ | PROT_WRITE, MAP_PRIVATE | MAP_ANONYMOUS, -1, 0);
+    uint8_t *stack = memory + GUARD;
+    size_t untouched = 0;
+
+    if (memory == MAP_FAILED || mprotect(memory, GUARD, PROT_NONE) != 0) {
+        perror("stack");
+        return SIZE_MAX;
+    }
+    memset(stack, PAINT, BAY_MARKET_MAX_STACK);
+    getcontext(&there);
+    there.uc_stack.ss_sp = stack;
+    there.uc_stack.ss_size = BAY_MARKET_MAX_STACK;
+    there.uc_link = &here;
+    makecontext(&there, call, 0);
+    swapcontext(&here, &there);
+    while (untouched < BAY_MARKET_MAX_STACK && stack[untouched] == PAINT) {
+        untouched++;
+    }
+    munmap(memory, GUARD + BAY_MARKET_MAX_STACK);
+    return BAY_MARKET_MAX_STACK - untouched;
+}
+
+/* The largest sheet, full of candidates; `spread` moves the bids apart. */
+static void write_sheet(uint32_t spread)
+{
+    uint8_t *at = sheet;
+    uint32_t value = 1;
+
+    *at++ = BAY_MARKET_MAX_GUESTS, *at++ = 0, *at++ = BAY_MARKET_MAX_STATIONS, *at++ = 0;
+    for (int station = 0; station < BAY_MARKET_MAX_STATIONS; station++) {
+        *at++ = (uint8_t)station, *at++ = 0, *at++ = 0, *at++ = 0;
+        *at++ = (uint8_t)(1 + station * 4), *at++ = 0;
+    }
+    for (int guest = 0; guest < BAY_MARKET_MAX_GUESTS; guest++) {
+        *at++ = (uint8_t)(1 + guest), *at++ = 0;
+        memset(at, 0xFF, BAY_MARKET_MAX_STATIONS / 8);
+        at += BAY_MARKET_MAX_STATIONS / 8;
+        for (int station = 0; station < BAY_MARKET_MAX_STATIONS; station++) {
+            value = value * 1103515245u + 12345u;
+            uint32_t bid = 20 + (value >> 8) % spread;
+            *at++ = (uint8_t)bid, *at++ = (uint8_t)(bid >> 8), *at++ = (uint8_t)(bid >> 16), *at++ = 0;
+        }
+    }
+    sheet_len = (size_t)(at - sheet);
+}
+
+int main(void)
+{
+    static const struct {
+        const char *name;
+        void (*call)(void);
+    } calls[] = {{"read", call_read}, {"clear", call_clear}, {"post", call_post}};
+    size_t most = 0, base = depth(none);
+
+    for (uint32_t spread = 1; spread <= 900000; spread *= 30) {
+        write_sheet(spread);
+        for (size_t i = 0; i < sizeof calls / sizeof *calls; i++) {
+            answer = 255;
+            size_t taken = depth(calls[i].call) - base;
+            if (answer != BAY_MARKET_ACCEPTED) {
+                fprintf(stderr, "%s: refused %d\n", calls[i].name, answer);
+                return 1;
+            }
+            if (taken > most) {
+                most = taken;
+            }
+        }
+    }
+    printf("stack test: a call took at most %zu bytes of %d\n", most, BAY_MARKET_MAX_STACK);
+    return 0;
+}

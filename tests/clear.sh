@@ -1,0 +1,124 @@
+#!/usr/bin/env bash
+# The exit codes and messages of ./clear, and the texts of the samples.
+set -euo pipefail
+cd -- "$(dirname -- "$(readlink -f -- "$0")")/.."
+
+root=$PWD
+work=$(mktemp -d)
+trap 'chmod -R u+w "$work"; rm -rf "$work"' EXIT
+tests=0
+
+# expect STATUS STDOUT STDERR COMMAND..: the command, in bash, ends so and writes these, where a text may be a pattern
+expect() {
+    local status=0 out err
+    timeout 20 bash -c "$4" >"$work/out" 2>"$work/err" </dev/null || status=$?
+    out=$(cat "$work/out") err=$(cat "$work/err")
+    tests=$((tests + 1))
+    # shellcheck disable=SC2053  # patterns
+    if [ "$status" != "$1" ] || [[ $out != $2 ]] || [[ $err != $3 ]] || [ "$(wc -l <"$work/err")" -gt 1 ]; then
+        printf 'failed: %s\n  status %s, expected %s\n  out %q\n  expected %q\n  err %q\n  expected %q\n' \
+            "$4" "$status" "$1" "$out" "$2" "$err" "$3" >&2
+        exit 1
+    fi
+}
+
+# the samples, by name and through standard input
+for sheet in examples/*.sheet; do
+    text=$(cat "${sheet%.sheet}.txt")
+    status=0
+    [[ $text != refused* ]] || status=1
+    expect $status "$text" '' "./clear $sheet"
+    expect $status "$text" '' "./clear <$sheet"
+    expect $status "$text" '' "cat $sheet | ./clear -"
+    expect $status "$text" '' "./clear - <$sheet"
+done
+
+# the largest sheet, a byte more, and no byte
+{
+    printf '\310\0\050\0'
+    printf '\1\0\0\0\1\0%.0s' {1..40}
+    for _ in {1..200}; do
+        printf '\1\0\377\377\377\377\377'
+        printf '\2\0\0\0%.0s' {1..40}
+    done
+} >"$work/largest"
+[ "$(wc -c <"$work/largest")" = 33644 ]
+expect 0 $'cut 1\n*' '' "./clear $work/largest"
+expect 1 'refused 4' '' "{ cat $work/largest; printf x; } | ./clear"
+expect 1 'refused 1' '' './clear </dev/null'
+
+# help, wrong use, no such file
+expect 0 'usage: ./clear*' '' './clear --help'
+expect 0 'usage: ./clear*' '' './clear -h'
+expect 2 '' 'clear: no such option: -x*' './clear -x'
+expect 2 '' 'clear: more than one FILE*' './clear a b'
+expect 2 '' 'clear: no such file: nofile' './clear nofile'
+expect 2 '' 'clear: no such file: ' "./clear ''"
+expect 2 '' 'clear: no such file: -x' './clear -- -x'
+expect 2 '' 'clear: a folder, not a file: examples' './clear examples'
+
+# input and output that fail
+expect 3 '' 'clear: cannot read standard input' './clear </'
+expect 3 '' 'clear: cannot read standard input' './clear <&-'
+expect 3 '' 'clear: cannot read /proc/self/mem' './clear /proc/self/mem'
+expect 3 '' 'clear: cannot write standard output' './clear examples/full.sheet >/dev/full'
+expect 3 '' 'clear: cannot write standard output' './clear examples/case_e.sheet >&-'
+expect 3 '' 'clear: cannot write standard output' './clear examples/refused.sheet >/dev/full'
+expect 3 '' 'clear: cannot write standard output' './clear --help >/dev/full'
+expect 0 "$(cat examples/case_e.txt)" '' './clear examples/case_e.sheet 2>&-'
+expect 2 '' '' './clear nofile 2>&-'
+expect 0 "$(cat examples/case_e.txt)" '' './clear examples/case_e.sheet <&-'
+expect 3 '' 'clear: cannot write standard output' "$(scripts/current)/clear <examples/case_e.sheet >/dev/full; exit 3"
+if [ "$(id -u)" != 0 ]; then
+    : >"$work/secret"
+    chmod 0 "$work/secret"
+    expect 3 '' "clear: cannot read $work/secret" "./clear $work/secret"
+fi
+
+# from other folders: through a link, with CDPATH, and with spaces in names
+case_e=$(cat examples/case_e.txt)
+ln -s "$root/clear" "$work/link"
+cp examples/case_e.sheet "$work/a sheet"
+expect 0 "$case_e" '' "cd / && $work/link $root/examples/case_e.sheet"
+expect 0 "$case_e" '' "cd $work && CDPATH=/:$root ./link 'a sheet'"
+expect 0 "$case_e" '' "cd .. && CDPATH=$root $(basename "$root")/clear $root/examples/case_e.sheet"
+
+# a terminal on standard input: the sample
+if command -v script >/dev/null; then
+    expect 0 "$(cat examples/table_i.txt)" '' "script -qec ./clear /dev/null </dev/null | tr -d '\r'"
+fi
+
+# copies with other sources: stale files are not run, and a build that cannot be is told in a line
+copy=$work/copy
+mkdir "$copy"
+cp -r clear scripts crates crates.txt examples "$copy"
+mkdir -p "$copy/prebuilt"
+cp -r "$(scripts/current)" "$copy/prebuilt/x86_64-linux"
+expect 0 "$case_e" '' "PATH=/usr/bin:/bin $copy/clear $copy/examples/case_e.sheet"
+chmod -R a-w "$copy"
+expect 0 "$case_e" '' "$copy/clear $copy/examples/case_e.sheet"
+chmod -R u+w "$copy"
+# a program that fails
+for program in 'kill -9 $$' 'exit 1' 'echo oops >&2'; do
+    printf '#!/bin/sh\n%s\n' "$program" >"$copy/prebuilt/x86_64-linux/clear"
+    expect 3 '' 'clear: the program failed: *' "$copy/clear $copy/examples/case_e.sheet"
+done
+echo '// another text' >>"$copy/crates/console/src/lib.rt"
+no_kit='PATH=/usr/bin:/bin'
+if ! PATH=/usr/bin:/bin command -v rt >/dev/null; then
+    expect 3 '' 'clear: the sources are not those of prebuilt/*' "$no_kit $copy/clear $copy/examples/case_e.sheet"
+fi
+expect 2 '' 'clear: no such file: nofile' "$copy/clear nofile"
+# a kit whose build fails, and one that builds
+mkdir "$work/kit"
+printf '#!/bin/sh\necho refused >&2\nexit 1\n' >"$work/kit/rt"
+chmod +x "$work/kit/rt"
+status=0
+PATH=$work/kit:$PATH "$copy/clear" "$copy/examples/case_e.sheet" >"$work/out" 2>"$work/err" || status=$?
+[ "$status" = 3 ] && [ ! -s "$work/out" ] && [ "$(wc -l <"$work/err")" = 2 ]
+grep -q '^clear: building the engine' "$work/err"
+grep -q '^clear: the build failed; log in' "$work/err"
+grep -q refused "$copy/target/build.log"
+tests=$((tests + 1))
+
+echo "./clear: $tests tests, all as expected"

@@ -1,0 +1,98 @@
+#!/usr/bin/env bash
+# The test of the tests: compare must find every fault of wrong_engine.c and of wrong_program, and none without a fault.
+# Takes the folder with the real library and program.
+set -euo pipefail
+cd -- "$(dirname -- "$(readlink -f -- "$0")")/.."
+
+real=$(readlink -f -- "$1")
+wrong=$PWD/target/wrong
+seed=20261115
+rm -rf "$wrong"
+mkdir -p "$wrong"
+(cd "$wrong" && ar x "$real/libbay_market.a")
+for function in read clear post; do
+    objcopy --redefine-sym "bay_market_$function=real_bay_market_$function" "$wrong/bay_market.o"
+done
+gcc -std=c11 -O1 -Wall -Wextra -Werror -fPIC -Iinclude -c tests/wrong_engine.c -o "$wrong/wrong_engine.o"
+ar rcs "$wrong/libbay_market.a" "$wrong/wrong_engine.o" "$wrong/bay_market.o"
+BAY_MARKET_LIB_DIR=$wrong cargo build --offline --locked --quiet --release --manifest-path rust/Cargo.toml \
+    --target-dir "$wrong/cargo" -p compare
+compare=$wrong/cargo/release/compare
+
+found=0
+# finds FAULT WORDS PART [WAY]: the part, by the way, tells of the fault in these words, or of a written guard
+finds() {
+    local fault=$1 words=$2 status=0
+    shift 2
+    BAY_MARKET_FAULT=$fault timeout 60 "$compare" $seed "$@" >"$wrong/said" 2>&1 || status=$?
+    if { [ $status != 1 ] && [ $status != 101 ]; } || ! grep -Eq "$words|wrote beside lent memory" "$wrong/said"; then
+        echo "the fault '$fault' is not found by $*: status $status" >&2
+        tail -n 3 "$wrong/said" >&2
+        exit 1
+    fi
+    found=$((found + 1))
+}
+
+for part in read clear post truth; do
+    BAY_MARKET_FAULT='' "$compare" $seed $part >/dev/null
+done
+
+# what a function only reads, what it fills, the numbers that it gives
+lists() {
+    case $1 in
+    read) echo sheet ;;
+    clear | post) echo asks bays amounts bids ;;
+    esac
+}
+filled() {
+    case $1 in
+    read) echo amounts asks bays bids ;;
+    clear) echo stations charges sold paid ;;
+    post) echo guests stations ;;
+    esac
+}
+numbers() {
+    case $1 in
+    read) echo n m ;;
+    clear) echo cut margin ;;
+    post) echo house last ;;
+    esac
+}
+for function in read clear post; do
+    for way in c slices owned; do
+        finds "$function answer" 'differs' $function $way
+        finds "$function number" 'differs' $function $way
+        for part in $(filled $function) $(numbers $function); do
+            finds "$function $part first accepted" 'differ' $function $way
+        done
+    done
+    for part in $(lists $function) $(filled $function); do
+        for place in first last before after; do
+            for answer in accepted refused; do
+                finds "$function $part $place $answer" 'differ|written|wrote' $function c
+                finds "$function $part $place $answer" 'differ|written|wrote' $function slices
+            done
+        done
+    done
+    for part in $(numbers $function); do
+        for place in first before after; do
+            finds "$function $part $place refused" 'differ|wrote' $function c
+        done
+        finds "$function $part before accepted" 'differ' $function c
+        finds "$function $part after accepted" 'differ' $function c
+    done
+done
+finds 'clear bid' 'guest [0-9]+ gains by' truth
+finds 'clear ask' 'station [0-9]+ gains by' truth
+finds 'clear charges first accepted' 'charge' truth
+finds 'clear sold first accepted' 'sold other kWh' truth
+
+export BAY_MARKET_PROGRAM=$PWD/tests/wrong_program BAY_MARKET_REAL=$real/clear
+BAY_MARKET_FAULT='' "$compare" $seed print >/dev/null
+for fault in text refusal stderr line status; do
+    finds $fault 'differs' print
+done
+status=0
+"$compare" $seed nothing >/dev/null 2>&1 || status=$?
+[ $status = 2 ]
+echo "wrong engine and program: $found faults, all found"

@@ -1,0 +1,146 @@
+/*
+ * A wrong engine: the real one, of which BAY_MARKET_FAULT spoils one thing. The tests must find every fault.
+ *
+ *   FUNCTION PART PLACE ANSWER   after an accepted or refused call a bit of a lent part is turned over: of its first or
+ *                                last element, or of the byte before or after it
+ *   FUNCTION answer              an accepted call answers 5, a refused one 0
+ *   FUNCTION number              a refused call answers another number
+ *   clear bid                    guests are charged what they bid
+ *   clear ask                    stations are paid what they ask
+ */
+#include "bay_market.h"
+
+#include <stdio.h>
+#include <stdlib.h>
+#include <string.h>
+
+/* The real functions, renamed in the object file. */
+#define REAL(name) real_##name
+uint8_t REAL(bay_market_read)(const uint8_t *, size_t, uint16_t *, size_t, uint32_t *, size_t, uint16_t *, size_t,
+                              uint32_t *, size_t, uint16_t *, uint16_t *);
+uint8_t REAL(bay_market_clear)(const uint32_t *, size_t, const uint16_t *, size_t, const uint16_t *, size_t,
+                               const uint32_t *, size_t, size_t, uint16_t *, size_t, uint32_t *, size_t, uint32_t *,
+                               size_t, uint64_t *, size_t, uint32_t *, uint64_t *);
+uint8_t REAL(bay_market_post)(const uint32_t *, size_t, const uint16_t *, size_t, const uint16_t *, size_t,
+                              const uint32_t *, size_t, size_t, uint32_t, uint64_t *, size_t,
+                              struct bay_market_station_account *, size_t, uint64_t *, uint32_t *);
+
+struct part {
+    const char *name;
+    const void *pointer;
+    size_t bytes, size;
+};
+
+#define LIST(list) {#list, list, list##_len * sizeof *list, sizeof *list}
+#define NUMBER(number) {#number, number, sizeof *number, sizeof *number}
+
+/* The fault's words; the first is this function's name, or there is none. */
+static int fault(const char *function, char words[4][16])
+{
+    const char *text = getenv("BAY_MARKET_FAULT");
+    memset(words, 0, 4 * 16);
+    return text != NULL && sscanf(text, "%15s %15s %15s %15s", words[0], words[1], words[2], words[3]) >= 2
+           && strcmp(words[0], function) == 0;
+}
+
+static void turn(const struct part *part, const char *place)
+{
+    uint8_t *bytes = (uint8_t *)(uintptr_t)part->pointer;
+
+    if (strcmp(place, "before") == 0) {
+        bytes[-1] ^= 1;
+    } else if (strcmp(place, "after") == 0) {
+        bytes[part->bytes] ^= 1;
+    } else if (part->bytes > 0) {
+        bytes[strcmp(place, "first") == 0 ? 0 : part->bytes - part->size] ^= 1;
+    }
+}
+
+static uint8_t spoil(const char *function, uint8_t answer, const struct part *parts, size_t count)
+{
+    char words[4][16];
+
+    if (!fault(function, words)) {
+        return answer;
+    }
+    if (strcmp(words[1], "answer") == 0) {
+        return answer == 0 ? 5 : 0;
+    }
+    if (strcmp(words[1], "number") == 0) {
+        return answer == 0 ? 0 : (uint8_t)(answer % 13 + 1);
+    }
+    for (size_t i = 0; i < count; i++) {
+        if (strcmp(words[1], parts[i].name) == 0 && strcmp(words[3], answer == 0 ? "accepted" : "refused") == 0) {
+            turn(&parts[i], words[2]);
+        }
+    }
+    return answer;
+}
+
+#define SPOIL(function, answer, parts) spoil(function, answer, parts, sizeof parts / sizeof *parts)
+
+uint8_t bay_market_read(const uint8_t *sheet, size_t sheet_len, uint16_t *amounts, size_t amounts_len,
+                        uint32_t *asks, size_t asks_len, uint16_t *bays, size_t bays_len,
+                        uint32_t *bids, size_t bids_len, uint16_t *n, uint16_t *m)
+{
+    const struct part parts[] = {LIST(sheet), LIST(amounts), LIST(asks), LIST(bays), LIST(bids), NUMBER(n), NUMBER(m)};
+
+    return SPOIL("read", REAL(bay_market_read)(sheet, sheet_len, amounts, amounts_len, asks, asks_len, bays, bays_len,
+                                               bids, bids_len, n, m), parts);
+}
+
+/* Lets each guest pay its own bid, or each station get its own ask; what it makes goes to the house. */
+static void own_price(const char *whose, const uint32_t *asks, size_t asks_len, const uint16_t *amounts,
+                      size_t amounts_len, const uint32_t *bids, const uint16_t *stations, uint32_t *charges,
+                      const uint32_t *sold, uint64_t *paid, uint64_t *margin)
+{
+    if (strcmp(whose, "bid") == 0) {
+        for (size_t i = 0; i < amounts_len; i++) {
+            if (stations[i] != 0) {
+                uint32_t bid = bids[i * asks_len + stations[i] - 1] * amounts[i];
+                *margin += bid - charges[i];
+                charges[i] = bid;
+            }
+        }
+    }
+    if (strcmp(whose, "ask") == 0) {
+        for (size_t j = 0; j < asks_len; j++) {
+            uint64_t ask = (uint64_t)asks[j] * sold[j];
+            *margin += paid[j] - ask;
+            paid[j] = ask;
+        }
+    }
+}
+
+uint8_t bay_market_clear(const uint32_t *asks, size_t asks_len, const uint16_t *bays, size_t bays_len,
+                         const uint16_t *amounts, size_t amounts_len, const uint32_t *bids, size_t bids_len,
+                         size_t width, uint16_t *stations, size_t stations_len, uint32_t *charges, size_t charges_len,
+                         uint32_t *sold, size_t sold_len, uint64_t *paid, size_t paid_len,
+                         uint32_t *cut, uint64_t *margin)
+{
+    const struct part parts[] = {LIST(asks), LIST(bays), LIST(amounts), LIST(bids), LIST(stations), LIST(charges),
+                                 LIST(sold), LIST(paid), NUMBER(cut), NUMBER(margin)};
+    char words[4][16];
+    uint8_t answer = REAL(bay_market_clear)(asks, asks_len, bays, bays_len, amounts, amounts_len, bids, bids_len, width,
+                                            stations, stations_len, charges, charges_len, sold, sold_len, paid,
+                                            paid_len, cut, margin);
+
+    if (answer == 0 && fault("clear", words)) {
+        own_price(words[1], asks, asks_len, amounts, amounts_len, bids, stations, charges, sold, paid, margin);
+    }
+    return SPOIL("clear", answer, parts);
+}
+
+uint8_t bay_market_post(const uint32_t *asks, size_t asks_len, const uint16_t *bays, size_t bays_len,
+                        const uint16_t *amounts, size_t amounts_len, const uint32_t *bids, size_t bids_len,
+                        size_t width, uint32_t round, uint64_t *guests, size_t guests_len,
+                        struct bay_market_station_account *stations, size_t stations_len,
+                        uint64_t *house, uint32_t *last)
+{
+    const struct part parts[] = {LIST(asks), LIST(bays), LIST(amounts), LIST(bids), LIST(guests), LIST(stations),
+                                 NUMBER(house), NUMBER(last)};
+
+    return SPOIL("post", REAL(bay_market_post)(asks, asks_len, bays, bays_len, amounts, amounts_len, bids, bids_len,
+                                               width, round, guests, guests_len, stations, stations_len, house, last),
+                 parts);
+}
