@@ -8,8 +8,8 @@ use Rattle.model.specs.Limits.{maxStations, maxPrice}
 use Rattle.model.specs.Counting.{_<?_, only, list}
 use Rattle.model.specs.market.Market.{Tables, market, cut, Screened, queue, provisional, critical}
 use Rattle.model.specs.market.Mechanism.{at, best, surplus}
-use Rattle.model.specs.market.Outcome.{seen}
-use Rattle.model.specs.claims.Readings.{WithinLimits}
+use Rattle.model.specs.market.Outcome.{screened}
+use Rattle.model.specs.claims.Meaning.{WithinLimits}
 use Rattle.allocation.specs.Totals.{maxTotal, totalAt}
 use Rattle.pricing.specs.Charges.{leastAt}
 
@@ -41,7 +41,7 @@ pub record After (S : Screened) (n j : ℕ) (chosen gains criticals : List ℕ) 
 
 -- of a market's guests
 abbrev pub AfterIn : Tables → (j : ℕ) (chosen gains criticals : List ℕ) → Type 0
-AfterIn t j chosen gains criticals = After (seen t) (length (t .amounts)) j chosen gains criticals
+AfterIn t j chosen gains criticals = After (screened t) (length (t .amounts)) j chosen gains criticals
 
 -- the table of totals after a turn: those gathered where the station is open, else as it was; and after the first j
 unfoldable pub gatheredIf : Bool → (gathered entry : List ℕ) → List ℕ

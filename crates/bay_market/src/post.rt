@@ -3,10 +3,10 @@ use model::account::StationAccount;
 use model::answers::Verdict;
 ghost use mathlib.Core.Path.{_≡_};
 ghost use Rattle.model.specs.market.Market.{tables};
-ghost use Rattle.model.specs.Refusals.{numberOf};
+ghost use Rattle.model.specs.Verdicts.{numberOf};
 ghost use Rattle.model.specs.Numbers.{answerOfVerdict};
 ghost use Rattle.model.specs.book.Posting.{posting};
-ghost use Rattle.model.specs.book.LentBook.{book};
+ghost use Rattle.model.specs.book.Book.{book};
 ghost use Rattle.model.specs.contracts.PostsOut.{PostsOut};
 
 fn reply_number(reply: Verdict) -> u8

@@ -9,16 +9,16 @@ use Rattle.model.specs.Limits.{maxStations, maxPrice}
 use Rattle.model.specs.declared.refusal.Refusal.{Refusal}
 use Rattle.model.specs.Counting.{_=?_, only, sum, list}
 use Rattle.model.specs.Numbers.{answerOfClearing, answerOfVerdict}
-use Rattle.model.specs.Refusals.{Answer, accepted, firstFault}
-use Rattle.model.proofs.Refusals.{giving-accepted, giving-refused, updated-accepted, updated-refused}
+use Rattle.model.specs.Verdicts.{Answer, accepted, firstFault}
+use Rattle.model.proofs.Verdicts.{giving-accepted, giving-refused, updated-accepted, updated-refused}
 use Rattle.model.specs.declared.answers.Verdict.{Verdict}
 use Rattle.model.specs.declared.money.UnitPrice.{UnitPrice}
 use Rattle.model.specs.declared.money.Mills.{Mills}
 use Rattle.model.specs.market.Market.{Tables, marketBy, market, cut, screen, tables, regular}
 use Rattle.model.specs.market.Mechanism.{at, charge, charged, sold, paid, margin}
-use Rattle.model.specs.market.Outcome.{Results, Outcome, settle, seen, decided, outcome, results}
+use Rattle.model.specs.market.Outcome.{Results, Outcome, outcomeBy, screened, decision, outcome, results}
 use Rattle.model.specs.market.Faults.{clearingFaults}
-use Rattle.model.specs.claims.Readings.{WithinLimits}
+use Rattle.model.specs.claims.Meaning.{WithinLimits}
 use Rattle.model.proofs.Tests.{only-le}
 use Rattle.model.proofs.Counting.{sum-cong, greatest-le}
 use Rattle.model.proofs.Loops.{long, element, relist}
@@ -30,7 +30,7 @@ use Rattle.allocation.specs.Stages.{AtCut}
 use Rattle.allocation.specs.Assignment.{Assigned}
 use Rattle.allocation.proofs.assignment.Assignment.{numbered}
 use Rattle.model.specs.contracts.Clears.{Clears}
-use Rattle.clearing.specs.Settles.{Settles}
+use Rattle.clearing.specs.ClearsAccepted.{ClearsAccepted}
 use Rattle.model.specs.declared.answers.Clearing.{Clearing}
 use Rattle.model.specs.declared.answers.Clearing.the-variants as clearings
 use Rattle.model.proofs.contracts.Accepts.{Accepts, accepts}
@@ -56,54 +56,54 @@ pub least-at-cut :
 least-at-cut t A = A .least-are ∙ ap (λ c. list (length (t .amounts)) (leastAt (t .amounts) c)) (A .is-cut)
 
 module _ (t : Tables) {stations charges : List ℕ} (a : Assigned t stations charges) where
-  station-is : (k : ℕ) → k < length (t .amounts) → getD stations k 0 ≡ (decided t) .assigned k
-  unfolding outcome settle seen screen market marketBy
+  station-is : (k : ℕ) → k < length (t .amounts) → getD stations k 0 ≡ (decision t) .assigned k
+  unfolding outcome outcomeBy screened screen market marketBy
   station-is k l = element _ _ (a .stations-are) k l
 
-  charge-is : (k : ℕ) → k < length (t .amounts) → getD charges k 0 ≡ charged (seen t) (decided t) k
-  unfolding outcome settle seen screen market marketBy
+  charge-is : (k : ℕ) → k < length (t .amounts) → getD charges k 0 ≡ charged (screened t) (decision t) k
+  unfolding outcome outcomeBy screened screen market marketBy
   charge-is k l = element _ _ (a .charges-are) k l
 
   pub stations-count : length stations ≡ length (t .amounts)
-  unfolding outcome settle seen screen market marketBy
+  unfolding outcome outcomeBy screened screen market marketBy
   stations-count = long _ _ (a .stations-are)
 
   pub charges-count : length charges ≡ length (t .amounts)
-  unfolding outcome settle seen screen market marketBy
+  unfolding outcome outcomeBy screened screen market marketBy
   charges-count = long _ _ (a .charges-are)
 
   pub stations-low : WithinLimits t → (k : ℕ) → k < length (t .amounts) → getD stations k 0 ≤ maxStations
   stations-low w k l = numbered t w k _ (sym (station-is k l))
 
-  kwh-is : (j : ℕ) → kwhAt stations (t .amounts) (j + 1) ≡ sold (seen t) (decided t) j
-  unfolding kwhAt sold seen screen market marketBy
+  kwh-is : (j : ℕ) → kwhAt stations (t .amounts) (j + 1) ≡ sold (screened t) (decision t) j
+  unfolding kwhAt sold screened screen market marketBy
   kwh-is j =
       sum-cong (length (t .amounts)) _ _
       (λ k l. ap₂ (λ x y. only (x =? y) (getD (t .amounts) k 0)) (station-is k l) (add-one j))
 
   module _ {c : ℕ} {least : List ℕ} (A : AtCut t c least) where
     -- whoever is not assigned is charged nothing, and adds nothing
-    margin-is : sum (length (t .amounts)) (λ i. getD charges i 0 - getD least i 0) ≡ margin (seen t) (decided t)
-    unfolding margin charged at seen screen market marketBy
+    margin-is : sum (length (t .amounts)) (λ i. getD charges i 0 - getD least i 0) ≡ margin (screened t) (decision t)
+    unfolding margin charged at screened screen market marketBy
     margin-is =
         sum-cong (length (t .amounts)) _ _ (λ k l. ap₂ _-_ (charge-is k l)
         (element _ _ (A .least-are) k l ∙ ap (λ x. x * getD (t .amounts) k 0) (A .is-cut))
-        ∙ go k ((decided t) .assigned k))
+        ∙ go k ((decision t) .assigned k))
       where
         go :
             (k r : ℕ)
-            → at (charge (seen t) (decided t) k) r - cut (market t) * getD (t .amounts) k 0
-            ≡ at (λ j. charge (seen t) (decided t) k j - cut (market t) * getD (t .amounts) k 0) r
+            → at (charge (screened t) (decision t) k) r - cut (market t) * getD (t .amounts) k 0
+            ≡ at (λ j. charge (screened t) (decision t) k j - cut (market t) * getD (t .amounts) k 0) r
         go k zero = omega arith
         go k (suc j) = refl
 
-    pub settles :
+    pub clears-accepted :
         (p : UnitPrice) (x : Mills) {m : ℕ} {sales payments : List ℕ} → p .0 ≡ c → m ≡ length (t .asks)
         → PaidOut (kwhAt stations (t .amounts)) c m sales payments
         → x .0 ≡ sum (length charges) (λ i. getD charges i 0 - getD least i 0)
-        → Settles t (clearings.Cleared p x) (results stations charges sales payments)
-    unfolding answerOfClearing outcome settle paid seen screen market marketBy
-    settles price x ec em p e = record {
+        → ClearsAccepted t (clearings.Cleared p x) (results stations charges sales payments)
+    unfolding answerOfClearing outcome outcomeBy paid screened screen market marketBy
+    clears-accepted price x ec em p e = record {
       answered = ap₂ {C = Answer (ℕ × ℕ)} (λ a b. accepted (a, b)) (ec ∙ A .is-cut)
           (e ∙ ap (λ n. sum n (λ i. getD charges i 0 - getD least i 0)) charges-count ∙ margin-is);
       left = λ i. record {
@@ -150,11 +150,11 @@ clear-accepts asks bays amounts bids width r e =
 abbrev figures : Outcome → Answer (ℕ × ℕ)
 figures o = accepted (o .cut, o .margin)
 
-pub clear-settled :
+pub clear-accepted-clears :
     (asks bays amounts bids : List ℕ) (width : ℕ) (r : Results) {answer : Clearing} {exit : Results}
     → let t = tables asks bays amounts bids width in
-    Judged t r verdicts.Accepted → Settles (regular asks bays amounts bids) answer exit → Clears t r answer exit
-clear-settled asks bays amounts bids width r e s =
+    Judged t r verdicts.Accepted → ClearsAccepted (regular asks bays amounts bids) answer exit → Clears t r answer exit
+clear-accepted-clears asks bays amounts bids width r e s =
     let t = tables asks bays amounts bids width in
     let v = is-accepted t r e in
     let o = ap outcome (sym (width-of asks bays amounts bids width (accepts t r v .within))) in

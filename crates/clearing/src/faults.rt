@@ -3,7 +3,7 @@ use crate::scans;
 use model::answers::Verdict;
 use model::limits;
 use model::limits::MAX_AMOUNT;
-use model::limits::MAX_CAPACITY;
+use model::limits::MAX_BAYS;
 use model::limits::MAX_PRICE;
 use model::refusal::Refusal;
 ghost use Prim.Native.Nat.{_*_, _<_, _≤_};
@@ -12,19 +12,26 @@ ghost use mathlib.Core.Path.{_≡_};
 ghost use Rattle.model.specs.Limits.{maxGuests, maxStations};
 ghost use Rattle.model.specs.Counting.{_=?_, _or_};
 ghost use Rattle.model.specs.Numbers.{answerOfVerdict};
-ghost use Rattle.model.specs.Refusals.{firstFault};
+ghost use Rattle.model.specs.Verdicts.{firstFault};
 ghost use Rattle.model.specs.market.Faults.{values, clearingFaults};
 ghost use Rattle.model.specs.market.Market.{regular, tables};
 ghost use Rattle.model.specs.market.Outcome.{results};
 
-fn bad_lengths(n: usize, m: usize, bays: usize, bids: usize, width: usize) -> bool
+fn lengths_differ(n: usize, m: usize, bays: usize, bids: usize, width: usize) -> bool
     requires { ⌜ (n ≤ maxGuests) × (m ≤ maxStations) ⌝ }
     ensures { λ r. ⌜ r ≡ (not (bays =? m) or not (bids =? n * m) or not (width =? m)) ⌝ }
 {
     (bays != m) | (bids != n * m) | (width != m)
 }
 
-fn bad_lent(n: usize, m: usize, stations: usize, charges: usize, sold: usize, paid: usize) -> bool
+fn list_lengths_differ(
+    n: usize,
+    m: usize,
+    stations: usize,
+    charges: usize,
+    sold: usize,
+    paid: usize,
+) -> bool
     ensures { λ r. ⌜ r ≡ (not (stations =? n) or not (charges =? n) or not (sold =? m) or not (paid =? m)) ⌝ }
 {
     (stations != n) | (charges != n) | (sold != m) | (paid != m)
@@ -38,7 +45,7 @@ fn value_fault(asks: &[u32], bays: &[u16], amounts: &[u16], bids: &[u32]) -> Ver
     if scans::any_outside32(asks, 0, MAX_PRICE) {
         return Verdict::Refused(Refusal::AskOutOfRange);
     }
-    if scans::any_outside16(bays, 1, MAX_CAPACITY) {
+    if scans::any_outside16(bays, 1, MAX_BAYS) {
         return Verdict::Refused(Refusal::BaysOutOfRange);
     }
     if scans::any_outside16(amounts, 1, MAX_AMOUNT) {
@@ -71,10 +78,10 @@ pub fn first_fault(
     if limits::counts_out_of_range(n, m) {
         return Verdict::Refused(Refusal::CountsOutOfRange);
     }
-    if bad_lengths(n, m, bays.len(), bids.len(), width) {
+    if lengths_differ(n, m, bays.len(), bids.len(), width) {
         return Verdict::Refused(Refusal::LengthsDiffer);
     }
-    if bad_lent(n, m, stations.len(), charges.len(), sold.len(), paid.len()) {
+    if list_lengths_differ(n, m, stations.len(), charges.len(), sold.len(), paid.len()) {
         return Verdict::Refused(Refusal::LentLengths);
     }
     value_fault(asks, bays, amounts, bids)

@@ -14,13 +14,13 @@ use pricing::margin;
 use pricing::sales;
 ghost use mathlib.Core.Path.{_≡_};
 ghost use lib.ListN.{length};
-ghost use Rattle.model.specs.claims.Readings.{WithinLimits, RightLengths};
+ghost use Rattle.model.specs.claims.Meaning.{WithinLimits, RightLengths};
 ghost use Rattle.model.specs.Counting.{list};
 ghost use Rattle.model.specs.market.Market.{market, cut, regular, tables};
 ghost use Rattle.model.specs.market.Outcome.{results};
 ghost use Rattle.model.specs.contracts.Clears.{Clears};
 ghost use Rattle.pricing.specs.Charges.{leastAt};
-ghost use Rattle.clearing.specs.Settles.{Settles};
+ghost use Rattle.clearing.specs.ClearsAccepted.{ClearsAccepted};
 
 // The clearing of an accepted market, with room for each guest's least charge.
 fn clear_with_room(
@@ -40,7 +40,7 @@ fn clear_with_room(
     requires { ⌜ length (now least) ≡ length (now amounts) ⌝ }
     ensures { λ r. ⌜ (let t =
         regular (now (asks .entry)) (now (bays .entry)) (now (amounts .entry)) (now (bids .entry)) in
-        Settles t r (results (now (stations .exit)) (now (charges .exit)) (now (sold .exit)) (now (paid .exit)))
+        ClearsAccepted t r (results (now (stations .exit)) (now (charges .exit)) (now (sold .exit)) (now (paid .exit)))
         × (now (least .exit) ≡ list (length (t .amounts)) (leastAt (t .amounts) (cut (market t))))) ⌝ }
 {
     let cut = cut::cut(asks);
@@ -64,7 +64,7 @@ fn clear_accepted(
     requires { ⌜ WithinLimits (regular (now asks) (now bays) (now amounts) (now bids)) ⌝ }
     requires { ⌜ RightLengths (regular (now asks) (now bays) (now amounts) (now bids))
         (results (now stations) (now charges) (now sold) (now paid)) ⌝ }
-    ensures { λ r. ⌜ Settles
+    ensures { λ r. ⌜ ClearsAccepted
         (regular (now (asks .entry)) (now (bays .entry)) (now (amounts .entry)) (now (bids .entry))) r
         (results (now (stations .exit)) (now (charges .exit)) (now (sold .exit)) (now (paid .exit))) ⌝ }
 {

@@ -30,7 +30,7 @@ fn read_input(buffer: &mut [u8]) -> Input
     Input::Bytes(n)
 }
 
-// Reads at most one byte more than the largest sheet has, so that every fault is seen. What the system reads and writes
+// Reads at most one byte more than the largest sheet has, so that every fault is screened. What the system reads and writes
 // no contract can say. Where standard error fails too, nobody is left to tell.
 pub fn run() {
     let mut sheet = [0u8; 33645];

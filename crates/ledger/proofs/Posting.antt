@@ -10,16 +10,16 @@ use Rattle.model.specs.Limits.{maxGuests, maxStations, maxAccount}
 use Rattle.model.specs.Counting.{_<?_, _or_, only, any, list}
 use Rattle.model.specs.market.Market.{Tables}
 use Rattle.model.specs.market.Mechanism.{charged, sold, paid, margin}
-use Rattle.model.specs.market.Outcome.{seen, decided}
-use Rattle.model.specs.Refusals.{Row, _gives_, Verdict, accepted, refused, firstFault, updated}
-use Rattle.model.specs.book.Book.{Book, raised, entered}
-use Rattle.model.specs.book.Faults.{overLimit, bookSize, outOfTurn, postingFaults}
+use Rattle.model.specs.market.Outcome.{screened, decision}
+use Rattle.model.specs.Verdicts.{Row, _gives_, Verdict, accepted, refused, firstFault, updated}
+use Rattle.model.specs.book.PlainBook.{PlainBook, raised, entered, overLimit, bookSize, outOfTurn, postingFaults}
+use Rattle.model.specs.book.PlainBook.{answer, after}
 use Rattle.model.specs.market.Faults.{outside, marketFaults, verdict}
-use Rattle.model.proofs.Tests.{same-test, or-cases, or-left, or-right, or-no, lt-yes, is-lt, not-lt, lt-or-le}
-use Rattle.model.proofs.Tests.{only-yes, only-no}
+use Rattle.model.proofs.Tests.{same-test, or-cases, or-left, or-right, or-no, lt-yes, is-lt, not-lt, lt-or-le, only-yes}
+use Rattle.model.proofs.Tests.{only-no}
 use Rattle.model.proofs.Counting.{some-cong, some-mono, getD-list, list-cong}
 use Rattle.model.proofs.market.Acceptance.{inside}
-use Rattle.model.proofs.Refusals.{fault-here, no-fault, no-faults, fault-first, fault-second}
+use Rattle.model.proofs.Verdicts.{fault-here, no-fault, no-faults, fault-first, fault-second}
 use Rattle.model.specs.Numbers.{answerOfVerdict}
 use Rattle.model.specs.declared.answers.Verdict as declared
 use Rattle.model.specs.declared.answers.Verdict.the-variants as verdicts
@@ -29,15 +29,13 @@ use Rattle.ledger.specs.declared.settling.Ruling.{Ruling}
 use Rattle.ledger.specs.Accounts.{plus}
 use Rattle.ledger.specs.Room.{exceeding}
 use Rattle.ledger.specs.Settling.{followed, noRoom, ruled, Settled}
-use Rattle.model.specs.book.Records.{soldOf, paidOf}
+use Rattle.model.specs.book.Book.{soldOf, paidOf, Book, book, plain}
 use Rattle.ledger.specs.Stations.{soldTo, paidTo, exceedingTo, creditedTo}
 use Rattle.model.specs.declared.account.StationAccount.{StationAccount}
 use Rattle.model.proofs.book.Records.{length-sold, length-paid}
 use Rattle.ledger.proofs.stations.Stations.{exceeding-is, sold-credited, paid-credited}
 use Rattle.model.specs.book.Posting.{Posting, posting, toGuest, toSold, toPaid, toHouse}
-use Rattle.model.specs.book.PlainBook.{answer, after}
-use Rattle.model.specs.book.LentBook.{LentBook, book, plain}
-use Rattle.model.specs.contracts.Posted.{Posted}
+use Rattle.model.specs.contracts.Posts.{Posts}
 use Rattle.model.proofs.book.Accounts.{length-raised, getD-raised}
 use Rattle.ledger.specs.Plans.{adding, roundBy, Planned}
 
@@ -73,7 +71,7 @@ over-raised n f xs e =
 
 -- only what is above the limit after counts
 over-after :
-    (p : Posting) (B : Book)
+    (p : Posting) (B : PlainBook)
     → (overLimit B or overLimit (entered (p .tables) (p .round) B)) ≡ overLimit (entered (p .tables) (p .round) B)
 unfolding overLimit entered
 over-after p B = same-test _ _
@@ -136,15 +134,15 @@ none-past m k f h = ⊎-elim
 module _ (p : Posting) where
   no-sales : (k : ℕ) → length (p .tables .asks) ≤ k → soldTo (adding p) k ≡ 0
   unfolding soldTo adding posted toSold
-  no-sales k h = none-past (length (p .tables .asks)) k (sold (seen (p .tables)) (decided (p .tables))) h
+  no-sales k h = none-past (length (p .tables .asks)) k (sold (screened (p .tables)) (decision (p .tables))) h
 
   no-payments : (k : ℕ) → length (p .tables .asks) ≤ k → paidTo (adding p) k ≡ 0
   unfolding paidTo adding posted toPaid
-  no-payments k h = none-past (length (p .tables .asks)) k (paid (seen (p .tables)) (decided (p .tables))) h
+  no-payments k h = none-past (length (p .tables .asks)) k (paid (screened (p .tables)) (decision (p .tables))) h
 
 -- a posting p to the lent book L
-module _ (p : Posting) (L : LentBook) where
-  abbrev B : Book
+module _ (p : Posting) (L : Book) where
+  abbrev B : PlainBook
   B = plain L
 
   abbrev m : ℕ
@@ -153,19 +151,19 @@ module _ (p : Posting) (L : LentBook) where
   abbrev early : List Row
   early = marketFaults (p .tables)
 
-  wrong-size : Bool
-  wrong-size =
+  book-size-differs : Bool
+  book-size-differs =
       outside (length (p .tables .amounts)) maxGuests (length (L .guests))
       or outside m maxStations (length (L .stations))
 
   late : Bool → List Row
-  late over = (wrong-size gives 13) ∷ outOfTurn (p .round) (L .last) ∷ (over gives 12) ∷ []
+  late over = (book-size-differs gives 13) ∷ outOfTurn (p .round) (L .last) ∷ (over gives 12) ∷ []
 
   after-limit : Bool
   after-limit = overLimit B or overLimit (entered (p .tables) (p .round) B)
 
   in-turn : postingFaults (p .tables) (p .round) B ≡ early ++ late after-limit
-  unfolding postingFaults bookSize late wrong-size after-limit plain
+  unfolding postingFaults bookSize late book-size-differs after-limit plain
   in-turn = rw length-sold refl
 
   answer-is : answer B p ≡ followed (firstFault early) (late after-limit)
@@ -180,8 +178,8 @@ module _ (p : Posting) (L : LentBook) where
   abbrev Sized : Type 0
   Sized = (length (L .guests) ≤ maxGuests) × (m ≤ length (L .stations)) × (length (L .stations) ≤ maxStations)
 
-  sizes : wrong-size ≡ false → Sized
-  unfolding wrong-size
+  sizes : book-size-differs ≡ false → Sized
+  unfolding book-size-differs
   sizes e =
       let (guest-size, station-size) = or-no _ _ e in
       (inside _ _ _ guest-size .1, inside _ _ _ station-size .0, inside _ _ _ station-size .1)
@@ -189,16 +187,16 @@ module _ (p : Posting) (L : LentBook) where
   -- the last test counts only where the size is right
   late-cong : (a b : Bool) → (Sized → a ≡ b) → firstFault (late a) ≡ firstFault (late b)
   unfolding late firstFault
-  late-cong a b h = go wrong-size refl
+  late-cong a b h = go book-size-differs refl
     where
       go :
-          (w : Bool) → wrong-size ≡ w
-          → firstFault ((wrong-size gives 13) ∷ outOfTurn (p .round) (L .last) ∷ (a gives 12) ∷ [])
-          ≡ firstFault ((wrong-size gives 13) ∷ outOfTurn (p .round) (L .last) ∷ (b gives 12) ∷ [])
+          (w : Bool) → book-size-differs ≡ w
+          → firstFault ((book-size-differs gives 13) ∷ outOfTurn (p .round) (L .last) ∷ (a gives 12) ∷ [])
+          ≡ firstFault ((book-size-differs gives 13) ∷ outOfTurn (p .round) (L .last) ∷ (b gives 12) ∷ [])
       go true e = fault-here (outOfTurn (p .round) (L .last) ∷ (a gives 12) ∷ []) e
           ∙ sym (fault-here (outOfTurn (p .round) (L .last) ∷ (b gives 12) ∷ []) e)
       go false e =
-          ap (λ x. firstFault ((wrong-size gives 13) ∷ outOfTurn (p .round) (L .last)
+          ap (λ x. firstFault ((book-size-differs gives 13) ∷ outOfTurn (p .round) (L .last)
           ∷ (x gives 12) ∷ [])) (h (sizes e))
 
   module _ (z : Sized) where
@@ -215,9 +213,9 @@ module _ (p : Posting) (L : LentBook) where
     unfolding noRoom adding posted toGuest toSold toPaid toHouse overLimit entered after-limit plain
     room-is = rw (
       exceeding-is (adding p) (L .stations) (z .2),
-      exceeding-raised m (sold (seen (p .tables)) (decided (p .tables))) (soldOf (L .stations)) maxStations sold-size,
-      exceeding-raised m (paid (seen (p .tables)) (decided (p .tables))) (paidOf (L .stations)) maxStations paid-size,
-      exceeding-raised (length (p .tables .amounts)) (charged (seen (p .tables)) (decided (p .tables)))
+      exceeding-raised m (sold (screened (p .tables)) (decision (p .tables))) (soldOf (L .stations)) maxStations sold-size,
+      exceeding-raised m (paid (screened (p .tables)) (decision (p .tables))) (paidOf (L .stations)) maxStations paid-size,
+      exceeding-raised (length (p .tables .amounts)) (charged (screened (p .tables)) (decision (p .tables)))
           (L .guests) maxGuests (z .0),
     )
         (or-rotate _ _ _ _ ∙ sym (over-after p B))
@@ -260,7 +258,7 @@ module _ (p : Posting) (L : LentBook) where
     verdict-on = ruled r full (length (L .stations)) (p .round) (L .guests) (L .house) (L .last)
 
     ruled-is : verdict-on ≡ answer B p
-    unfolding verdict ruled answerOfVerdict followed late wrong-size bookSize adding posted
+    unfolding verdict ruled answerOfVerdict followed late book-size-differs bookSize adding posted
     ruled-is = go (firstFault early) refl
       where
         go : (v : Verdict) → firstFault early ≡ v → verdict-on ≡ answer B p
@@ -278,7 +276,7 @@ module _ (p : Posting) (L : LentBook) where
     module _ (s : Ruling) (guests′ : List ℕ) (stations′ : List StationAccount) (house′ last′ : ℕ)
         (t : Settled verdict-on r (p .round) (L .guests) (L .house) (L .last) s guests′ house′ last′)
         (es : stations′ ≡ creditedTo r (min (length (L .stations)) (s .credits)) (L .stations)) where
-      abbrev exit : LentBook
+      abbrev exit : Book
       exit = book guests′ stations′ house′ last′
 
       -- the book at exit, by the verdict
@@ -312,7 +310,7 @@ module _ (p : Posting) (L : LentBook) where
             last = h .last-is y;
           }
 
-      pub posts : Posted L p (answerOfVerdict (s .reply)) exit
+      pub posts : Posts L p (answerOfVerdict (s .reply)) exit
       unfolding after
       posts =
           let h = subst (λ v. Settled v r (p .round) (L .guests) (L .house) (L .last) s guests′ house′ last′) ruled-is t in

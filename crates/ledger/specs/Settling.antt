@@ -8,8 +8,8 @@ use Rattle.model.specs.Limits.{maxAccount}
 use Rattle.model.specs.declared.refusal.Refusal.{Refusal}
 use Rattle.model.specs.declared.answers.Verdict.the-variants as verdict
 use Rattle.model.specs.Counting.{_<?_, _or_}
-use Rattle.model.specs.Refusals.{Row, _gives_, Verdict, accepted, refused, firstFault, updated}
-use Rattle.model.specs.book.Faults.{bookSize, outOfTurn}
+use Rattle.model.specs.Verdicts.{Row, _gives_, Verdict, accepted, refused, firstFault, updated}
+use Rattle.model.specs.book.PlainBook.{bookSize, outOfTurn}
 use Rattle.model.specs.Numbers.{answerOfVerdict}
 use Rattle.ledger.specs.declared.round.Round.{Round}
 use Rattle.ledger.specs.declared.settling.Ruling.{Ruling}

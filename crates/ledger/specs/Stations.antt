@@ -6,7 +6,7 @@ use lib.ListN.{getD, set}
 use Rattle.model.specs.Limits.{maxStations, maxAccount}
 use Rattle.model.specs.Counting.{_<?_, _or_, only, some}
 use Rattle.ledger.specs.declared.round.Round.{Round}
-use Rattle.model.specs.book.Records.{account, accountAt}
+use Rattle.model.specs.book.Book.{account, accountAt}
 use Rattle.model.specs.declared.account.StationAccount.{StationAccount}
 
 -- what the round adds to station j's account

@@ -7,8 +7,8 @@ use model::limits;
 use model::money::Mills;
 use model::refusal::Refusal;
 ghost use mathlib.Core.Path.{_≡_};
-ghost use Rattle.model.specs.Refusals.{_gives_};
-ghost use Rattle.model.specs.book.Faults.{bookSize, outOfTurn};
+ghost use Rattle.model.specs.Verdicts.{_gives_};
+ghost use Rattle.model.specs.book.PlainBook.{bookSize, outOfTurn};
 ghost use Rattle.ledger.specs.Settling.{refusal as refusalOf, ruled, Settled};
 
 // The reply to a posting, and how many stations' accounts it adds to.
@@ -17,14 +17,14 @@ pub struct Ruling {
     pub credits: usize,
 }
 
-fn wrong_size(n: usize, m: usize, guests: usize, stations: usize) -> bool
+fn book_size_differs(n: usize, m: usize, guests: usize, stations: usize) -> bool
     ensures { λ r. ⌜ (r gives 13) ≡ bookSize n m guests stations ⌝ }
 {
     ((guests < n) | (limits::MAX_GUESTS < guests))
         | ((stations < m) | (limits::MAX_STATIONS < stations))
 }
 
-fn out_of_turn(round: u32, last: u32) -> bool
+fn round_out_of_turn(round: u32, last: u32) -> bool
     ensures { λ r. ⌜ (r gives 11) ≡ outOfTurn round last ⌝ }
 {
     if limits::MAX_ROUND <= last {
@@ -61,10 +61,10 @@ pub fn settle(
     match reply {
         Verdict::Refused(refusal) => refusing(refusal),
         Verdict::Accepted => {
-            if wrong_size(r.guests, r.stations, guests.len(), stations) {
+            if book_size_differs(r.guests, r.stations, guests.len(), stations) {
                 return refusing(Refusal::BookSize);
             }
-            if out_of_turn(round, *last) {
+            if round_out_of_turn(round, *last) {
                 return refusing(Refusal::RoundOutOfTurn);
             }
             let crowded = room::any_exceeds(guests, &r.charges);

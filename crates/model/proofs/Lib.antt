@@ -1,7 +1,7 @@
 pub mod Counting
 pub mod Loops
-pub mod Refusals
 pub mod Tests
+pub mod Verdicts
 pub mod book
 pub mod cases
 pub mod claims

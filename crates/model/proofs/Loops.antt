@@ -13,8 +13,8 @@ use lib.Seq.{getD-set-same, getD-set-other, ext-getD, getD-take}
 use borrow.Author.Count.{below-none, below-more}
 use Rattle.model.specs.Counting.{_<?_, _or_, sum, greatest, count, some, any, list}
 use Rattle.model.specs.market.Faults.{outside}
-use Rattle.model.proofs.Counting.{sum-most, count-yes, count-not, count-start, count-most}
-use Rattle.model.proofs.Counting.{greatest-le, length-list, getD-list, list-cong}
+use Rattle.model.proofs.Counting.{sum-most, count-yes, count-not, count-start, count-most, greatest-le}
+use Rattle.model.proofs.Counting.{length-list, getD-list, list-cong}
 
 -- ---- loops that fold `sum`, `count`, `greatest` or `some`: within the first n, and r is that of the first i
 

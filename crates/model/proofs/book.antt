@@ -1,3 +1,3 @@
 pub mod Accounts
-pub mod LentBook
+pub mod Book
 pub mod Records

@@ -1,5 +1,5 @@
 pub mod Calls
 pub mod Existence
-pub mod Ledger
+pub mod Postings
 pub mod Sheets
 pub mod Truth

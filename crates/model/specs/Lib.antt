@@ -1,7 +1,7 @@
 pub mod Counting
 pub mod Limits
 pub mod Numbers
-pub mod Refusals
+pub mod Verdicts
 pub mod book
 pub mod cases
 pub mod claims

@@ -18,8 +18,8 @@ abbrev pub maxAmount : ℕ
 maxAmount = 1_000
 
 -- of a station, in bays
-abbrev pub maxCapacity : ℕ
-maxCapacity = 200
+abbrev pub maxBays : ℕ
+maxBays = 200
 
 -- of any account or kWh sum of the book
 abbrev pub maxAccount : ℕ
@@ -35,7 +35,7 @@ limits = record {
   stations = maxStations;
   price = maxPrice;
   amount = maxAmount;
-  capacity = maxCapacity;
+  bays = maxBays;
   account = maxAccount;
   round = maxRound;
 }

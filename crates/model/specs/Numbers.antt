@@ -1,6 +1,6 @@
 -- Document 01's number and values for each case of the enums that calls answer with.
 use Prim.Native.Nat.{ℕ}
-use Rattle.model.specs.Refusals.{Answer, accepted, refused}
+use Rattle.model.specs.Verdicts.{Answer, accepted, refused}
 use Rattle.model.specs.declared.answers.Reading.{Reading}
 use Rattle.model.specs.declared.answers.Reading.the-variants as reading
 use Rattle.model.specs.declared.answers.Clearing.{Clearing}

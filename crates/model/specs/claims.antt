@@ -1,5 +1,5 @@
 pub mod Calls
-pub mod Ledger
-pub mod Readings
+pub mod Meaning
+pub mod Postings
 pub mod Sheets
 pub mod Truth

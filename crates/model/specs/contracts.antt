@@ -1,6 +1,6 @@
 pub mod Clears
 pub mod ClearsOut
-pub mod Posted
+pub mod Posts
 pub mod PostsOut
 pub mod Prints
 pub mod Reads

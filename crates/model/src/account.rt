@@ -1,4 +1,4 @@
-// The accounts of a ledger, as they are lent.
+// The accounts of a ledger, as they are listLengths.
 
 // A station's account: kWh sold and money paid.
 #[repr(C)]

@@ -11,7 +11,7 @@ pub const MAX_PRICE: u32 = 1_000_000;
 
 pub const MAX_AMOUNT: u16 = 1_000;
 
-pub const MAX_CAPACITY: u16 = 200;
+pub const MAX_BAYS: u16 = 200;
 
 pub const MAX_ACCOUNT: u64 = 1_000_000_000_000_000;
 
@@ -22,7 +22,7 @@ pub struct Limits {
     pub stations: usize,
     pub price: u32,
     pub amount: u16,
-    pub capacity: u16,
+    pub bays: u16,
     pub account: u64,
     pub round: u32,
 }
@@ -36,7 +36,7 @@ pub fn stated_limits() -> Limits
         stations: MAX_STATIONS,
         price: MAX_PRICE,
         amount: MAX_AMOUNT,
-        capacity: MAX_CAPACITY,
+        bays: MAX_BAYS,
         account: MAX_ACCOUNT,
         round: MAX_ROUND,
     }

@@ -4,7 +4,7 @@ use mathlib.Core.List.{List}
 use mathlib.Core.Path.{_≡_, sym, ap, _∙_}
 use native.Mathlib.Omega.{arith}
 use lib.ListN.{length, take, length-take}
-use Rattle.model.specs.Refusals.{accepted, refused}
+use Rattle.model.specs.Verdicts.{accepted, refused}
 use Rattle.model.specs.market.Market.{Tables, tables}
 use Rattle.report.specs.Wrote.{Wrote}
 use Rattle.model.specs.text.Text.{refusalText}

@@ -1,7 +1,7 @@
 -- What a pass over rows promises. Nothing that `sheet::read` promises depends on this file.
 use Prim.Native.Nat.{ℕ}
 use Rattle.model.specs.Numbers.{number}
-use Rattle.model.specs.Refusals.{Answer, accepted, refused}
+use Rattle.model.specs.Verdicts.{Answer, accepted, refused}
 use Rattle.sheet.specs.declared.passes.Step.the-variants.{Next, Fault}
 use Rattle.sheet.specs.declared.passes.Step.{Step}
 

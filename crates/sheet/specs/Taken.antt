@@ -2,13 +2,13 @@
 use Prim.Native.Nat.{ℕ, _+_}
 use mathlib.Core.List.{List}
 use mathlib.Core.Path.{_≡_}
-use Rattle.model.specs.sheet.Fields.{number}
+use Rattle.model.specs.sheet.Fields.{littleEndian}
 use Rattle.model.specs.sheet.Content.{guests, stations}
 use Rattle.sheet.specs.declared.fields.Cursor.{Cursor}
 
 -- the field of k bytes at p is x, and `to` is the place after it
 pub record Taken (s : List ℕ) (p k x : ℕ) (to : Cursor) : Type 0 where
-  pub value : x ≡ number s p k
+  pub value : x ≡ littleEndian s p k
   pub place : to .at ≡ p + k
 
 -- the counts of a sheet, and the place after them

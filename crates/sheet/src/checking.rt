@@ -7,7 +7,7 @@ use model::limits;
 use model::refusal::Refusal;
 ghost use mathlib.Core.Path.{_≡_};
 ghost use Rattle.model.specs.Numbers.{answerOfReading};
-ghost use Rattle.model.specs.Refusals.{firstFault, giving};
+ghost use Rattle.model.specs.Verdicts.{firstFault, giving};
 ghost use Rattle.model.specs.sheet.Content.{guests as guestsOf, stations as stationsOf, sheetFaults};
 
 pub fn check(s: &[u8]) -> Reading

@@ -5,7 +5,7 @@ ghost use mathlib.Core.Path.{_≡_};
 ghost use lib.ListN.{length};
 ghost use Rattle.model.specs.Limits.{maxStations};
 ghost use Rattle.model.specs.Counting.{_<?_, count};
-ghost use Rattle.model.specs.sheet.Fields.{number, mapWidth, hasBit};
+ghost use Rattle.model.specs.sheet.Fields.{littleEndian, mapWidth, hasBit};
 ghost use Rattle.sheet.specs.Taken.{Taken, HeaderTaken};
 
 // The place reached in a sheet. One is made at the sheet's start; all others come from it, by what is taken.
@@ -42,10 +42,10 @@ fn wide(x: u8) -> u64
     x as u64
 }
 
-// The number that the k bytes from at hold, lowest byte first.
+// The littleEndian that the k bytes from at hold, lowest byte first.
 fn number(s: &[u8], at: usize, k: usize) -> u64
     requires { ⌜ (k ≤ 5) × (at + k ≤ length (now s)) ⌝ }
-    ensures { λ r. ⌜ r ≡ number (now (s .entry)) at k ⌝ }
+    ensures { λ r. ⌜ r ≡ littleEndian (now (s .entry)) at k ⌝ }
 {
     let mut x: u64 = 0;
     let mut left = k;

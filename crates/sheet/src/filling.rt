@@ -7,8 +7,8 @@ ghost use mathlib.Core.Path.{_≡_};
 ghost use lib.ListN.{length};
 ghost use Rattle.model.specs.Limits.{maxStations};
 ghost use Rattle.model.specs.Counting.{count};
-ghost use Rattle.model.specs.Refusals.{accepted, firstFault};
-ghost use Rattle.model.specs.sheet.Fields.{number, hasBit};
+ghost use Rattle.model.specs.Verdicts.{accepted, firstFault};
+ghost use Rattle.model.specs.sheet.Fields.{littleEndian, hasBit};
 ghost use Rattle.model.specs.sheet.Rows.{rowAt, bidBy, rowsFaults};
 ghost use Rattle.sheet.specs.Filling.{placed, StationsFilled, RowFilled, RowsFilled};
 
@@ -81,7 +81,7 @@ fn fill_some(
 // The same where the bits of all stations are set.
 fn fill_all(s: &[u8], c: Cursor, stations: usize, base: usize, bids: &mut [u32]) -> Cursor
     requires { ⌜ (c .at + 4 * stations ≤ length (now s)) × (base + stations ≤ length (now bids)) ⌝ }
-    ensures { λ r. ⌜ RowFilled (c .at + 4 * stations) base stations (λ j. number (now (s .entry)) (c .at + 4 * j) 4)
+    ensures { λ r. ⌜ RowFilled (c .at + 4 * stations) base stations (λ j. littleEndian (now (s .entry)) (c .at + 4 * j) 4)
         (now (bids .entry)) r (now (bids .exit)) ⌝ }
 {
     let mut d = c;

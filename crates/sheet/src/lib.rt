@@ -10,10 +10,10 @@ use model::limits::MAX_GUESTS;
 use model::limits::MAX_STATIONS;
 use model::refusal::Refusal;
 ghost use mathlib.Core.Path.{_≡_};
-ghost use Rattle.model.specs.Refusals.{_gives_};
+ghost use Rattle.model.specs.Verdicts.{_gives_};
 ghost use Rattle.model.specs.contracts.Reads.{lentTables, tableLengths, Reads};
 
-fn mislent(amounts: usize, asks: usize, bays: usize, bids: usize) -> bool
+fn table_lengths_differ(amounts: usize, asks: usize, bays: usize, bids: usize) -> bool
     ensures { λ r. ⌜ tableLengths amounts asks bays bids ≡ (r gives 10) ⌝ }
 {
     (amounts != MAX_GUESTS)
@@ -35,7 +35,7 @@ pub fn read(
         r
         (lentTables (now (amounts .exit)) (now (asks .exit)) (now (bays .exit)) (now (bids .exit))) ⌝ }
 {
-    if mislent(amounts.len(), asks.len(), bays.len(), bids.len()) {
+    if table_lengths_differ(amounts.len(), asks.len(), bays.len(), bids.len()) {
         return Reading::Refused(Refusal::LentLengths);
     }
     match checking::check(sheet) {

@@ -6,7 +6,7 @@ ghost use Prim.Native.Nat.{_≤_};
 ghost use mathlib.Core.Path.{_≡_};
 ghost use lib.ListN.{length};
 ghost use Rattle.model.specs.Limits.{maxStations};
-ghost use Rattle.model.specs.Refusals.{firstFault, giving};
+ghost use Rattle.model.specs.Verdicts.{firstFault, giving};
 ghost use Rattle.model.specs.sheet.Rows.{nextAt, rowAt, rowFaults, rowsFaults};
 ghost use Rattle.sheet.specs.Passes.{answerOfStep};
 

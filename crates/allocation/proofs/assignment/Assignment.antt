@@ -10,10 +10,10 @@ use Rattle.model.specs.Limits.{maxGuests, maxStations}
 use Rattle.model.specs.Counting.{_<?_, only}
 use Rattle.model.specs.market.Market.{Tables, marketBy, market, cut, Screened, screen, critical}
 use Rattle.model.specs.market.Mechanism.{at, charge, best, truthful, charged}
-use Rattle.model.specs.market.Outcome.{seen, decided, outcome, settle}
-use Rattle.model.specs.claims.Readings.{WithinLimits}
+use Rattle.model.specs.market.Outcome.{screened, decision, outcome, outcomeBy}
+use Rattle.model.specs.claims.Meaning.{WithinLimits}
 use Rattle.model.proofs.Tests.{only-yes, only-no, is-lt, not-lt}
-use Rattle.model.proofs.market.Truthful.{assignment-reads}
+use Rattle.model.proofs.market.Truthful.{assigned-at-best-place}
 use Rattle.model.proofs.Counting.{list-cong}
 use Rattle.model.proofs.Loops.{long, element, relist, zeros, zeros-are}
 use Rattle.pricing.specs.Charges.{Chargeable, chargedAt, Charged}
@@ -68,21 +68,21 @@ after-none {S} {n} h = record {
     critical-none (suc k) = only-no _ _ (not-lt _ _ (omega arith))
 
 -- the choice after the last station is the assignment
-last-choice : (t : Tables) (i : ℕ) → stationBy (seen t) (length (t .asks)) i ≡ (decided t) .assigned i
-unfolding stationBy decided truthful seen screen market marketBy
+last-choice : (t : Tables) (i : ℕ) → stationBy (screened t) (length (t .asks)) i ≡ (decision t) .assigned i
+unfolding stationBy decision truthful screened screen market marketBy
 last-choice t i = refl
 
-within : (t : Tables) (i j : ℕ) → (decided t) .assigned i ≡ suc j → j < length (t .asks)
-unfolding seen screen market marketBy
-within t i j e = assignment-reads t i .somewhere j e .0
+within : (t : Tables) (i j : ℕ) → (decision t) .assigned i ≡ suc j → j < length (t .asks)
+unfolding screened screen market marketBy
+within t i j e = assigned-at-best-place t i .somewhere j e .0
 
-pub numbered : (t : Tables) → WithinLimits t → (i s : ℕ) → (decided t) .assigned i ≡ s → s ≤ maxStations
+pub numbered : (t : Tables) → WithinLimits t → (i s : ℕ) → (decision t) .assigned i ≡ s → s ≤ maxStations
 numbered t w i zero e = omega arith
 numbered t w i (suc j) e = omega (arith, within t i j e, w .shape .stations-most)
 
 module _ (t : Tables) {c : ℕ} {least chosen gains criticals : List ℕ} (A : AtCut t c least)
-    (a : After (seen t) (length (t .amounts)) (length (t .asks)) chosen gains criticals) where
-  choice : (k : ℕ) → k < length (t .amounts) → getD chosen k 0 ≡ (decided t) .assigned k
+    (a : After (screened t) (length (t .amounts)) (length (t .asks)) chosen gains criticals) where
+  choice : (k : ℕ) → k < length (t .amounts) → getD chosen k 0 ≡ (decision t) .assigned k
   choice k l = element _ _ (a .chosen-are) k l ∙ last-choice t k
 
   -- what charging asks of the choices, and what it leaves
@@ -99,31 +99,31 @@ module _ (t : Tables) {c : ℕ} {least chosen gains criticals : List ℕ} (A : A
         criticals-long = omega (arith, long _ _ (a .criticals-are));
       }
 
-  least-here : (k : ℕ) → k < length (t .amounts) → getD least k 0 ≡ (seen t) .cut * (seen t) .amount k
-  unfolding seen screen market marketBy
+  least-here : (k : ℕ) → k < length (t .amounts) → getD least k 0 ≡ (screened t) .cut * (screened t) .amount k
+  unfolding screened screen market marketBy
   least-here k l = element _ _ (A .least-are) k l ∙ ap (λ x. x * getD (t .amounts) k 0) (A .is-cut)
 
-  critical-at : (j : ℕ) → j < length (t .asks) → getD criticals (suc j) 0 ≡ (decided t) .critical j
-  unfolding decided truthful criticalBy
+  critical-at : (j : ℕ) → j < length (t .asks) → getD criticals (suc j) 0 ≡ (decision t) .critical j
+  unfolding decision truthful criticalBy
   critical-at j l =
       element _ _ (a .criticals-are) (suc j) (omega (arith, A .within .shape .stations-most))
       ∙ only-yes _ _ (is-lt _ _ l)
 
   charged-by :
-      (k s : ℕ) → k < length (t .amounts) → (decided t) .assigned k ≡ s
-      → only (0 <? s) (max (getD least k 0) (getD criticals s 0)) ≡ at (charge (seen t) (decided t) k) s
+      (k s : ℕ) → k < length (t .amounts) → (decision t) .assigned k ≡ s
+      → only (0 <? s) (max (getD least k 0) (getD criticals s 0)) ≡ at (charge (screened t) (decision t) k) s
   unfolding at charge
   charged-by k zero l e = only-no _ _ (not-lt 0 0 (le-refl 0))
   charged-by k (suc j) l e =
       only-yes _ _ (is-lt 0 (suc j) (omega arith)) ∙ ap₂ max (least-here k l) (critical-at j (within t k j e))
 
-  charged-here : (k : ℕ) → k < length (t .amounts) → chargedAt chosen least criticals k ≡ charged (seen t) (decided t) k
+  charged-here : (k : ℕ) → k < length (t .amounts) → chargedAt chosen least criticals k ≡ charged (screened t) (decision t) k
   unfolding chargedAt charged
   charged-here k l = rw (choice k l) (charged-by k _ l refl)
 
   pub assigned :
       {stations charges : List ℕ} → Charged chosen least criticals stations charges → Assigned t stations charges
-  unfolding outcome settle seen screen market marketBy
+  unfolding outcome outcomeBy screened screen market marketBy
   assigned h = record {
     stations-are = h .stations-are ∙ relist _ _ _ _ (a .chosen-are) refl (λ k _. last-choice t k);
     charges-are = relist _ _ _ _ (h .charges-are) (long _ _ (a .chosen-are)) charged-here;

@@ -14,9 +14,9 @@ use Rattle.model.specs.Counting.{_<?_, _≤?_, _and_, only, list}
 use Rattle.model.specs.market.Market.{Tables, bidAt, Market, marketBy, byNumber, market, cut, opens, Screened, screen}
 use Rattle.model.specs.market.Market.{Queue, queue, provisional, critical}
 use Rattle.model.specs.market.Mechanism.{at, better, best, surplus}
-use Rattle.model.specs.market.Outcome.{seen}
-use Rattle.model.proofs.Tests.{clash, first, and-no, only-yes, only-no, only-le, le-yes, le-no, is-lt, not-lt}
-use Rattle.model.proofs.Tests.{lt-or-le, eq-or-ne, only-cong}
+use Rattle.model.specs.market.Outcome.{screened}
+use Rattle.model.proofs.Tests.{clash, first, and-no, only-yes, only-no, only-le, le-yes, le-no, is-lt, not-lt, lt-or-le}
+use Rattle.model.proofs.Tests.{eq-or-ne, only-cong}
 use Rattle.model.proofs.Counting.{greatest-le, list-cong}
 use Rattle.model.proofs.market.Queues.{provisional-candidate}
 use Rattle.model.proofs.Loops.{long, element, is-list, relist, in-table}
@@ -156,7 +156,7 @@ closed-critical : (M : Market) (j : ℕ) → cut M ≤ M .ask j → 0 ≡ critic
 unfolding critical queue screen opens
 closed-critical M j h =
     le-antisymm (omega arith)
-    (greatest-le (M .guests) _ 0 (λ k _. only-le _ _ _ (λ p. absurd (clash (first _ _ p) (and-no _ _ (not-lt _ _ h))))))
+    (greatest-le (M .guestCount) _ 0 (λ k _. only-le _ _ _ (λ p. absurd (clash (first _ _ p) (and-no _ _ (not-lt _ _ h))))))
 
 pub after-closed :
     (M : Market) (n j : ℕ) {chosen gains criticals : List ℕ} → cut M ≤ M .ask j
@@ -178,16 +178,16 @@ after-closed M n j h a = record {
 module _ (t : Tables) (c : ℕ) (least : List ℕ) (A : AtCut t c least) (j : ℕ) (lj : j < length (t .asks))
     (op : getD (t .asks) j 0 < c) where
   abbrev Q : Queue
-  Q = queue (seen t) j
+  Q = queue (screened t) j
 
   candidate-is : (k : ℕ) → Q .candidate k ≡ (c ≤? bidAt t k j)
-  unfolding queue seen screen market marketBy opens _and_
+  unfolding queue screened screen market marketBy opens _and_
   candidate-is k = rw (← A .is-cut, is-lt _ _ op) refl
 
   module _ (totals : List ℕ)
       (gathered : totals ≡ list (length (t .amounts)) (totalAt (t .bids) (t .amounts) (length (t .asks)) j c)) where
     shows : Shows Q totals
-    unfolding queue seen screen market marketBy bidAt byNumber
+    unfolding queue screened screen market marketBy bidAt byNumber
     shows = record {
       long = long _ _ gathered;
       some = λ k lk q. element _ _ gathered k lk ∙ sym (total-yes _ _ c (le-yes _ _ (sym (candidate-is k) ∙ q)));
@@ -210,52 +210,52 @@ module _ (t : Tables) (c : ℕ) (least : List ℕ) (A : AtCut t c least) (j : �
 
     module _ (f b e : ℕ) (eb : b ≡ getD (t .bays) j 0) (few : LeastFew totals b f)
         (tied : TieBound totals f (above totals f) b e) where
-      capacity-is : Q .capacity ≡ b
-      unfolding queue seen screen market marketBy
+      capacity-is : Q .bays ≡ b
+      unfolding queue screened screen market marketBy
       capacity-is = sym eb
 
       critical-here : f ≡ critical Q
       critical-here = critical-is Q totals shows f (rw capacity-is few)
 
       won-here : (k : ℕ) → k < length (t .amounts) → wonBy (getD totals k 0) f k e ≡ provisional Q k
-      unfolding queue seen screen market marketBy
+      unfolding queue screened screen market marketBy
       won-here k lk = provisional-is Q totals shows k f e lk (rw capacity-is few) (rw capacity-is tied)
 
       charge-here :
-          (k : ℕ) → k < length (t .amounts) → chargeAt least f k ≡ max ((seen t) .cut * (seen t) .amount k) (critical Q)
-      unfolding chargeAt seen screen market marketBy
+          (k : ℕ) → k < length (t .amounts) → chargeAt least f k ≡ max ((screened t) .cut * (screened t) .amount k) (critical Q)
+      unfolding chargeAt screened screen market marketBy
       charge-here k lk =
           ap₂ max (element _ _ (A .least-are) k lk ∙ ap (λ x. x * getD (t .amounts) k 0) (A .is-cut)) critical-here
 
-      total-here : (k : ℕ) → k < length (t .amounts) → provisional Q k ≡ true → getD totals k 0 ≡ (seen t) .total k j
-      unfolding queue seen screen market marketBy
+      total-here : (k : ℕ) → k < length (t .amounts) → provisional Q k ≡ true → getD totals k 0 ≡ (screened t) .total k j
+      unfolding queue screened screen market marketBy
       total-here k lk p = shows .some k lk (provisional-candidate Q k p)
 
       surplus-here :
           (k : ℕ) → k < length (t .amounts) → provisional Q k ≡ true
-          → getD totals k 0 - chargeAt least f k ≡ surplus (seen t) k j
+          → getD totals k 0 - chargeAt least f k ≡ surplus (screened t) k j
       unfolding surplus
       surplus-here k lk p = ap₂ _-_ (total-here k lk p) (charge-here k lk)
 
       gain-here :
           (k : ℕ) → k < length (t .amounts)
-          → gainAt totals least f e k ≡ only (provisional Q k) (surplus (seen t) k j + 1)
+          → gainAt totals least f e k ≡ only (provisional Q k) (surplus (screened t) k j + 1)
       unfolding gainAt gainFor
       gain-here k lk = rw (won-here k lk) (only-cong _ _ _ (λ p. ap (λ x. x + 1) (surplus-here k lk p)))
 
       pub turned : (s : ℕ) {chosen₀ gains₀ criticals chosen gains : List ℕ} → s ≡ j + 1
-          → After (seen t) (length (t .amounts)) j chosen₀ gains₀ criticals
+          → After (screened t) (length (t .amounts)) j chosen₀ gains₀ criticals
           → Offered totals least f e s chosen₀ gains₀ chosen gains
-          → After (seen t) (length (t .amounts)) (j + 1) chosen gains (set criticals s f)
+          → After (screened t) (length (t .amounts)) (j + 1) chosen gains (set criticals s f)
       turned s es h o =
-          after-offers (seen t) (length (t .amounts)) j totals least f e s _ _ _ (long _ _ gathered) es
+          after-offers (screened t) (length (t .amounts)) j totals least f e s _ _ _ (long _ _ gathered) es
           (omega (arith, A .within .shape .stations-most)) gain-here critical-here all-low h o
 
 -- the turn of a station that is not open
 pub shut : (t : Tables) (c j : ℕ) {least chosen gains criticals : List ℕ} → AtCut t c least → c ≤ getD (t .asks) j 0
-    → After (seen t) (length (t .amounts)) j chosen gains criticals
-    → After (seen t) (length (t .amounts)) (j + 1) chosen gains criticals
-unfolding seen market marketBy
+    → After (screened t) (length (t .amounts)) j chosen gains criticals
+    → After (screened t) (length (t .amounts)) (j + 1) chosen gains criticals
+unfolding screened market marketBy
 shut t c j A h a = after-closed (market t) (length (t .amounts)) j (omega (arith, A .is-cut)) a
 
 -- what `offer` asks of its lists
@@ -270,7 +270,7 @@ pub offerable :
     (A : AtCut t c least) → j < length (t .asks)
     → totals ≡ list (length (t .amounts)) (totalAt (t .bids) (t .amounts) (length (t .asks)) j c) → Totals totals
     → f ≤ maxTotal → TieBound totals f a b e
-    → After (seen t) (length (t .amounts)) j chosen gains criticals → Offerable totals least f e chosen gains
+    → After (screened t) (length (t .amounts)) j chosen gains criticals → Offerable totals least f e chosen gains
 offerable t c j {least = least} {totals} A lj g low fl tied a =
     let n : length totals ≡ length (t .amounts) = long _ _ g in
     let m : length least ≡ length (t .amounts) = long _ _ (A .least-are) in

@@ -10,7 +10,7 @@ use native.Mathlib.Omega.{arith}
 use lib.ListN.{getD, length}
 use Rattle.model.specs.Counting.{_<?_, _=?_, _and_, _or_, only, count}
 use Rattle.model.specs.market.Market.{Queue, before, rank, provisional, critical}
-use Rattle.model.specs.claims.Readings.{CriticalIsFirstOut}
+use Rattle.model.specs.claims.Meaning.{CriticalIsFirstOut}
 use Rattle.model.proofs.Tests.{decide, both, first, second, and-false, lt-yes, is-lt, not-lt, is-eq, not-eq, lt-or-le}
 use Rattle.model.proofs.Tests.{eq-or-ne}
 use Rattle.model.proofs.Counting.{sum-cong, sum-add, count-mono, count-strict, count-first}
@@ -22,10 +22,10 @@ use Rattle.allocation.specs.Offers.{wonBy}
 -- xs are the queue's totals, 0 for whoever is no candidate; a candidate's total is above 0; keys
 -- are the guests' numbers
 pub record Shows (Q : Queue) (xs : List ℕ) : Type 0 where
-  pub long : length xs ≡ Q .guests
-  pub some : (k : ℕ) → k < Q .guests → Q .candidate k ≡ true → getD xs k 0 ≡ Q .total k
-  pub none : (k : ℕ) → k < Q .guests → Q .candidate k ≡ false → getD xs k 0 ≡ 0
-  pub real : (k : ℕ) → k < Q .guests → Q .candidate k ≡ true → 0 < Q .total k
+  pub long : length xs ≡ Q .guestCount
+  pub some : (k : ℕ) → k < Q .guestCount → Q .candidate k ≡ true → getD xs k 0 ≡ Q .total k
+  pub none : (k : ℕ) → k < Q .guestCount → Q .candidate k ≡ false → getD xs k 0 ≡ 0
+  pub real : (k : ℕ) → k < Q .guestCount → Q .candidate k ≡ true → 0 < Q .total k
   pub number : (k : ℕ) → Q .key k ≡ k
 
 -- one guest k against i, whose total is t: it stands before i by its total, or by its number
@@ -45,18 +45,18 @@ module _ (Q : Queue) (xs : List ℕ) (S : Shows Q xs) where
   distinct : Distinct Q
   distinct k i lk li e = sym (S .number k) ∙ e ∙ S .number i
 
-  is-candidate : (k : ℕ) → k < Q .guests → 0 < getD xs k 0 → Q .candidate k ≡ true
+  is-candidate : (k : ℕ) → k < Q .guestCount → 0 < getD xs k 0 → Q .candidate k ≡ true
   is-candidate k lk p =
       ⊎-elim (λ e. e) (λ (e : Q .candidate k ≡ false). absurd (omega (arith, S .none k lk e))) (decide (Q .candidate k))
 
-  counted : (u : ℕ) → above xs u ≡ count (Q .guests) (λ k. u <? getD xs k 0)
+  counted : (u : ℕ) → above xs u ≡ count (Q .guestCount) (λ k. u <? getD xs k 0)
   unfolding above
   counted u = ap (λ n. count n (λ k. u <? getD xs k 0)) (S .long)
 
   -- fewer stand before i than there are above whatever is below its total
-  over-rank : (i u : ℕ) → i < Q .guests → Q .candidate i ≡ true → u < Q .total i → rank Q i < above xs u
+  over-rank : (i u : ℕ) → i < Q .guestCount → Q .candidate i ≡ true → u < Q .total i → rank Q i < above xs u
   unfolding rank
-  over-rank i u li c l = rw (counted u) (count-strict (Q .guests) _ _
+  over-rank i u li c l = rw (counted u) (count-strict (Q .guestCount) _ _
       (λ k lk p. is-lt _ _ (omega (arith, before-le Q k i (second _ _ p), S .some k lk (first _ _ p))))
       i li (ap (λ x. Q .candidate i and x) (before-self Q i) ∙ and-false (Q .candidate i))
       (is-lt _ _ (omega (arith, S .some i li c))))
@@ -64,31 +64,31 @@ module _ (Q : Queue) (xs : List ℕ) (S : Shows Q xs) where
   -- whoever is above i's total stands before i
   under-rank : (i : ℕ) → above xs (Q .total i) ≤ rank Q i
   unfolding rank
-  under-rank i = rw (counted (Q .total i)) (count-mono (Q .guests) _ _ (λ k lk p.
+  under-rank i = rw (counted (Q .total i)) (count-mono (Q .guestCount) _ _ (λ k lk p.
       let q : Q .total i < getD xs k 0 = lt-yes _ _ p in
       let c = is-candidate k lk (omega arith) in
       both c (is-before Q k i (inl (omega (arith, S .some k lk c))))))
 
-  candidates : above xs 0 ≡ count (Q .guests) (Q .candidate)
+  candidates : above xs 0 ≡ count (Q .guestCount) (Q .candidate)
   candidates = le-antisymm
-      (rw (counted 0) (count-mono (Q .guests) _ _ (λ k lk p. is-candidate k lk (lt-yes _ _ p))))
+      (rw (counted 0) (count-mono (Q .guestCount) _ _ (λ k lk p. is-candidate k lk (lt-yes _ _ p))))
       (rw (counted 0)
-      (count-mono (Q .guests) _ _ (λ k lk c. is-lt _ _ (omega (arith, S .some k lk c, S .real k lk c)))))
+      (count-mono (Q .guestCount) _ _ (λ k lk c. is-lt _ _ (omega (arith, S .some k lk c, S .real k lk c)))))
 
-  -- the critical total is the least number with no more totals above it than the capacity
-  pub critical-is : (t : ℕ) → LeastFew xs (Q .capacity) t → t ≡ critical Q
+  -- the critical total is the least number with no more totals above it than the bays
+  pub critical-is : (t : ℕ) → LeastFew xs (Q .bays) t → t ≡ critical Q
   critical-is t few = ⊎-elim
-      (λ (m : Q .capacity < count (Q .guests) (Q .candidate)). go (rank-taken Q distinct (Q .capacity) m))
-      (λ (m : count (Q .guests) (Q .candidate) ≤ Q .capacity). ⊎-elim
+      (λ (m : Q .bays < count (Q .guestCount) (Q .candidate)). go (rank-taken Q distinct (Q .bays) m))
+      (λ (m : count (Q .guestCount) (Q .candidate) ≤ Q .bays). ⊎-elim
       (λ (p : 0 < t). absurd (omega (arith, few .least 0 p, candidates)))
       (λ (p : t ≤ 0). omega (arith, reads .zero-if-none m))
       (lt-or-le 0 t))
-      (lt-or-le (Q .capacity) (count (Q .guests) (Q .candidate)))
+      (lt-or-le (Q .bays) (count (Q .guestCount) (Q .candidate)))
     where
       reads : CriticalIsFirstOut Q
       reads = critical-is-first-out Q distinct (S .real)
 
-      go : ((k : ℕ) × (k < Q .guests) × (Q .candidate k ≡ true) × (rank Q k ≡ Q .capacity)) → t ≡ critical Q
+      go : ((k : ℕ) × (k < Q .guestCount) × (Q .candidate k ≡ true) × (rank Q k ≡ Q .bays)) → t ≡ critical Q
       go (k, lk, c, r) = le-antisymm
           (⊎-elim (λ (l : Q .total k < t). absurd (omega (arith, few .least (Q .total k) l, under-rank k))) (λ l. l)
           (lt-or-le (Q .total k) t))
@@ -97,25 +97,25 @@ module _ (Q : Queue) (xs : List ℕ) (S : Shows Q xs) where
           ∙ sym (reads .first-out k lk c r)
 
   -- at t above 0, the rank is the count above t and the count of those at t with a lower number
-  rank-tied : (i t : ℕ) → i < Q .guests → 0 < t → Q .total i ≡ t → rank Q i ≡ above xs t + ties xs t i
+  rank-tied : (i t : ℕ) → i < Q .guestCount → 0 < t → Q .total i ≡ t → rank Q i ≡ above xs t + ties xs t i
   unfolding rank before ties count
   rank-tied i t li p e = rw (counted t, e)
-      (sum-cong (Q .guests) _ (λ k. only (t <? getD xs k 0) 1 + only (getD xs k 0 =? t and k <? i) 1)
+      (sum-cong (Q .guestCount) _ (λ k. only (t <? getD xs k 0) 1 + only (getD xs k 0 =? t and k <? i) 1)
       (λ k lk. rw (S .number k, S .number i)
       (one (Q .candidate k) (getD xs k 0) (Q .total k) t k i p (S .some k lk) (S .none k lk)))
-      ∙ sum-add (Q .guests) _ _
-      ∙ ap (λ x. count (Q .guests) (λ k. t <? getD xs k 0) + x)
-      (count-first (λ k. getD xs k 0 =? t) (Q .guests) i (omega arith)))
+      ∙ sum-add (Q .guestCount) _ _
+      ∙ ap (λ x. count (Q .guestCount) (λ k. t <? getD xs k 0) + x)
+      (count-first (λ k. getD xs k 0 =? t) (Q .guestCount) i (omega arith)))
 
   -- who wins, by the critical total and a bound on the numbers of those at it
   pub provisional-is :
-      (i t e : ℕ) → i < Q .guests → LeastFew xs (Q .capacity) t → TieBound xs t (above xs t) (Q .capacity) e
+      (i t e : ℕ) → i < Q .guestCount → LeastFew xs (Q .bays) t → TieBound xs t (above xs t) (Q .bays) e
       → wonBy (getD xs i 0) t i e ≡ provisional Q i
   unfolding provisional wonBy _and_ _or_
   provisional-is i t e li few tied = ⊎-elim
       (λ (c : Q .candidate i ≡ true). rw (S .some i li c, c) (⊎-elim
       (λ (l : t < Q .total i). rw
-      (is-lt t (Q .total i) l, is-lt (rank Q i) (Q .capacity) (omega (arith, few .few, over-rank i t li c l))) refl)
+      (is-lt t (Q .total i) l, is-lt (rank Q i) (Q .bays) (omega (arith, few .few, over-rank i t li c l))) refl)
       (λ (l : Q .total i ≤ t). ⊎-elim
       (λ (q : Q .total i ≡ t).
       let p : 0 < t = omega (arith, S .real i li c) in
@@ -124,7 +124,7 @@ module _ (Q : Queue) (xs : List ℕ) (S : Shows Q xs) where
       (λ (q : Q .total i < t). rw (
         not-lt t (Q .total i) l,
         not-eq (Q .total i) t (omega arith),
-        not-lt (rank Q i) (Q .capacity) (omega (arith, few .least (Q .total i) q, under-rank i)),
+        not-lt (rank Q i) (Q .bays) (omega (arith, few .least (Q .total i) q, under-rank i)),
       ) refl)
       (eq-or-lt-of-le l))
       (lt-or-le t (Q .total i))))

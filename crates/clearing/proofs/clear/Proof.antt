@@ -1,5 +1,5 @@
 use borrow.Author.Needs.{needs}
-use Rattle.clearing.proofs.Answers.{told, refused-clears, clear-accepts, clear-settled}
+use Rattle.clearing.proofs.Answers.{told, refused-clears, clear-accepts, clear-accepted-clears}
 use Rattle.clearing.proofs.clear.Statement.{statement}
 use Rattle.clearing.proofs.clear.Tie as tie
 
@@ -20,7 +20,7 @@ returns-2 c =
     let at-clear-accepted = c .before .before .before .before .before .before .before .before in
     let at-enum-told = at-clear-accepted .before .before .before .before .before in
     let at-first-fault = at-enum-told .before .before in
-    clear-settled _ _ _ _ _ _ (told (at-enum-told .enum-told .given .1) (at-first-fault .first-fault .ensures))
+    clear-accepted-clears _ _ _ _ _ _ (told (at-enum-told .enum-told .given .1) (at-first-fault .first-fault .ensures))
     (at-clear-accepted .clear-accepted .ensures)
 
 pub clear-spec : {M : Type 1} → statement M

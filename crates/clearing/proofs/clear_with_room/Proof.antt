@@ -4,7 +4,7 @@ use borrow.Author.Needs.{needs}
 use Rattle.model.specs.market.Market.{regular}
 use Rattle.model.proofs.Loops.{long}
 use Rattle.clearing.proofs.Answers.{cut-low, at-cut, least-at-cut, stations-count, charges-count, stations-low}
-use Rattle.clearing.proofs.Answers.{settles}
+use Rattle.clearing.proofs.Answers.{clears-accepted}
 use Rattle.clearing.proofs.clear_with_room.Statement.{statement}
 use Rattle.clearing.proofs.clear_with_room.Tie as tie
 
@@ -65,7 +65,7 @@ returns c =
     let entry = entry-before-cut at-cut′ in
     let A = at-cut (regular _ _ _ _) (entry .pre .0) (at-cut′ .cut .ensures) (at-least-charges .least-charges .ensures)
     in (
-      settles (regular _ _ _ _) (at-assign-all .assign-all .ensures) A
+      clears-accepted (regular _ _ _ _) (at-assign-all .assign-all .ensures) A
           _ _ refl (entry .pre .1 .0 .sold-long) (at-sell .sell .ensures) (c .margin .ensures),
       least-at-cut _ A,
     )

@@ -13,13 +13,13 @@ use Rattle.model.specs.declared.refusal.Refusal.{Refusal}
 use Rattle.model.specs.declared.refusal.Refusal.the-variants.{CountsOutOfRange}
 use Rattle.model.specs.Counting.{_<?_, _=?_, _or_, only, list}
 use Rattle.model.specs.Numbers.{number, answerOfVerdict}
-use Rattle.model.specs.Refusals.{accepted, refused, firstFault}
-use Rattle.model.proofs.Refusals.{fault-here}
+use Rattle.model.specs.Verdicts.{accepted, refused, firstFault}
+use Rattle.model.proofs.Verdicts.{fault-here}
 use Rattle.model.specs.market.Market.{Tables, market, marketBy, screen, tables}
 use Rattle.model.specs.market.Mechanism.{charged, sold, paid}
-use Rattle.model.specs.market.Outcome.{Results, settle, seen, decided, outcome, results}
+use Rattle.model.specs.market.Outcome.{Results, outcomeBy, screened, decision, outcome, results}
 use Rattle.model.specs.market.Faults.{counts, marketFaults, verdict}
-use Rattle.model.specs.claims.Readings.{RightLengths}
+use Rattle.model.specs.claims.Meaning.{RightLengths}
 use Rattle.model.proofs.Tests.{is-lt, lt-or-le, only-yes, only-no, not-lt}
 use Rattle.model.proofs.Counting.{length-list, getD-list}
 use Rattle.model.proofs.Loops.{is-list}
@@ -89,14 +89,14 @@ module _ (asks bays amounts bids : List ℕ) (width : ℕ) where
       → posted (length amounts) (length asks) (charges ++ drop (length amounts) (replicate maxGuests 0))
       (sold ++ drop (length asks) (replicate maxStations 0)) (paid ++ drop (length asks) (replicate maxStations 0))
       m ≡ adding (posting t 0)
-  unfolding outcome settle posted adding toGuest toSold toPaid toHouse seen market marketBy screen
+  unfolding outcome outcomeBy posted adding toGuest toSold toPaid toHouse screened market marketBy screen
   full-round charges sold′ paid′ m n s em ec es ep = λ i. record {
     charges = (ap (λ l. l ++ drop (length amounts) (replicate maxGuests 0)) ec
-        ∙ filled maxGuests (length amounts) (charged (seen t) (decided t)) n) i;
+        ∙ filled maxGuests (length amounts) (charged (screened t) (decision t)) n) i;
     sold = (ap (λ l. l ++ drop (length asks) (replicate maxStations 0)) es
-        ∙ filled maxStations (length asks) (sold (seen t) (decided t)) s) i;
+        ∙ filled maxStations (length asks) (sold (screened t) (decision t)) s) i;
     paid = (ap (λ l. l ++ drop (length asks) (replicate maxStations 0)) ep
-        ∙ filled maxStations (length asks) (paid (seen t) (decided t)) s) i;
+        ∙ filled maxStations (length asks) (paid (screened t) (decision t)) s) i;
     margin = record { 0 = em i };
     guests = length amounts;
     stations = length asks;

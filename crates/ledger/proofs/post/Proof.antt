@@ -78,7 +78,7 @@ use Rattle.ledger.proofs.stations.add_sales.Met as add-thm
 use Rattle.ledger.proofs.stations.stations_exceed.Symbol.{name as #ledger·stations·stations-exceed}
 use Rattle.ledger.proofs.stations.add_sales.Symbol.{name as #ledger·stations·add-sales}
 use Rattle.model.specs.book.Posting.{posting}
-use Rattle.model.specs.book.LentBook.{LentBook, book}
+use Rattle.model.specs.book.Book.{Book, book}
 use Rattle.ledger.specs.Plans.{Planned}
 use Rattle.ledger.proofs.planning.plan as plan
 use Rattle.ledger.proofs.planning.plan.Symbol as plan-def
@@ -392,7 +392,7 @@ module _ {M : Type 1} (𝓤 : URA M) (H : Heap 𝓤) (A : Atoms 𝓤) (W : Given
       Settled (ruled d (exceedingTo d n ys) n round (now guests) (now house) (now last)) d round (now guests)
       (now house) (now last) c guests′ house′ last′
 
-  abbrev entry : LentBook
+  abbrev entry : Book
   entry = book (now guests) ys (now house) (now last)
 
   abbrev Had : List ℕ → List StationAccount → ℕ → ℕ → List (Item 𝓤)

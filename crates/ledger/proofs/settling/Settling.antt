@@ -10,10 +10,10 @@ use Rattle.model.specs.declared.refusal.Refusal.{Refusal}
 use Rattle.model.specs.declared.refusal.Refusal.the-variants.{AccountOverLimit, BookSize, RoundOutOfTurn}
 use Rattle.model.specs.Counting.{_<?_, _or_}
 use Rattle.model.specs.Numbers.{number, answerOfVerdict}
-use Rattle.model.proofs.Refusals.{updated-accepted, updated-refused}
-use Rattle.model.specs.Refusals.{Row, _gives_, Verdict, accepted, refused, firstFault}
+use Rattle.model.proofs.Verdicts.{updated-accepted, updated-refused}
+use Rattle.model.specs.Verdicts.{Row, _gives_, Verdict, accepted, refused, firstFault}
 use Rattle.model.specs.market.Faults.{outside}
-use Rattle.model.specs.book.Faults.{bookSize, outOfTurn}
+use Rattle.model.specs.book.PlainBook.{bookSize, outOfTurn}
 use Rattle.model.proofs.Tests.{lt-no, or-no}
 use Rattle.model.proofs.Counting.{some-no}
 use Rattle.model.proofs.Loops.{or-is}

@@ -19,7 +19,7 @@ use Rattle.model.proofs.Loops.{or-is, is-list}
 use Rattle.ledger.specs.declared.round.Round.{Round}
 use Rattle.ledger.specs.Accounts.{plus}
 use Rattle.ledger.specs.Room.{exceeding}
-use Rattle.model.specs.book.Records.{account, accountAt, soldOf, paidOf}
+use Rattle.model.specs.book.Book.{account, accountAt, soldOf, paidOf}
 use Rattle.ledger.specs.Stations.{soldTo, paidTo, exceedsWith, exceedingTo, creditedBy, credited, creditedTo}
 use Rattle.model.specs.declared.account.StationAccount.{StationAccount}
 use Rattle.model.proofs.book.Records.{length-sold, length-paid, getD-sold, getD-paid}

@@ -6,10 +6,9 @@ use mathlib.Core.Path.{_≡_, ap, _∙_}
 use native.Mathlib.Omega.{arith}
 use lib.ListN.{getD, length, replicate, length-replicate, getD-replicate}
 use Rattle.model.specs.Counting.{_<?_, only, sum}
-use Rattle.model.specs.book.Book.{raised}
+use Rattle.model.specs.book.PlainBook.{raised, sumAll}
 use Rattle.model.proofs.Tests.{is-lt, not-lt, lt-or-le, only-yes, only-no}
 use Rattle.model.proofs.Counting.{up, sum-cong, sum-add, sum-zero, length-list, getD-list}
-use Rattle.model.specs.book.PlainBook.{together}
 
 pub length-raised : (n : ℕ) (f : ℕ → ℕ) (xs : List ℕ) → length (raised n f xs) ≡ length xs
 unfolding raised
@@ -36,14 +35,14 @@ sum-below n (suc m) f l = ⊎-elim
     (λ (h : n ≤ m). omega (arith, sum-below n m f h, only-no (m <? n) (f m) (not-lt m n h)))
     (lt-or-le m n)
 
-pub together-raised :
-    (n : ℕ) (f : ℕ → ℕ) (xs : List ℕ) → n ≤ length xs → together (raised n f xs) ≡ together xs + sum n f
-unfolding together
-together-raised n f xs l =
+pub sum-all-raised :
+    (n : ℕ) (f : ℕ → ℕ) (xs : List ℕ) → n ≤ length xs → sumAll (raised n f xs) ≡ sumAll xs + sum n f
+unfolding sumAll
+sum-all-raised n f xs l =
     rw length-raised (sum-cong (length xs) _ (λ k. getD xs k 0 + only (k <? n) (f k)) (λ k q. getD-raised n f xs k q)
     ∙ sum-add (length xs) (λ k. getD xs k 0) (λ k. only (k <? n) (f k))
     ∙ ap (λ x. sum (length xs) (λ k. getD xs k 0) + x) (sum-below n (length xs) f l))
 
-pub together-zeros : (n : ℕ) → together (replicate n 0) ≡ 0
-unfolding together
-together-zeros n = rw length-replicate (sum-zero n _ (λ k l. getD-replicate n k 0 0 l))
+pub sum-all-zeros : (n : ℕ) → sumAll (replicate n 0) ≡ 0
+unfolding sumAll
+sum-all-zeros n = rw length-replicate (sum-zero n _ (λ k l. getD-replicate n k 0 0 l))

@@ -3,7 +3,7 @@ use Prim.Native.Nat.{ℕ}
 use mathlib.Core.List.{List}
 use mathlib.Core.Path.{_≡_}
 use lib.ListN.{getD, length, length-map, List·getD-map}
-use Rattle.model.specs.book.Records.{account, accountAt, soldOf, paidOf}
+use Rattle.model.specs.book.Book.{account, accountAt, soldOf, paidOf}
 use Rattle.model.specs.declared.account.StationAccount.{StationAccount}
 
 pub length-sold : (l : List StationAccount) → length (soldOf l) ≡ length l

@@ -5,12 +5,12 @@ use native.Mathlib.Omega.{arith}
 use lib.IntN.{pos, negsuc}
 use lib.ListN.{getD}
 use Rattle.model.specs.Counting.{_<?_, _≤?_, _=?_, _and_, _or_, only, sum, greatest, count, some, any}
-use Rattle.model.specs.Refusals.{firstFault}
+use Rattle.model.specs.Verdicts.{firstFault}
 use Rattle.model.specs.market.Market.{bidAt, marketBy, median, byNumber, market, cut, opens, screen, queue}
 use Rattle.model.specs.market.Market.{before, rank, provisional, critical}
 use Rattle.model.specs.market.Mechanism.{at, charge, charged, obtained, sold, paid, margin, better, best, surplus}
 use Rattle.model.specs.market.Mechanism.{truthful}
-use Rattle.model.specs.market.Outcome.{seen, decided}
+use Rattle.model.specs.market.Outcome.{screened, decision}
 use Rattle.model.specs.market.Faults.{outside, counts, lengths, values, marketFaults, verdict, Accepted}
 use Rattle.model.specs.market.Gains.{guestGain, stationGain}
 use Rattle.model.specs.claims.Truth.{AlikeButForGuest, AlikeButForStation}
@@ -28,20 +28,20 @@ pub record Numbers : Type 0 where
   pub accepted-costly : Accepted costly
   pub accepted-underasked : Accepted underasked
   pub accepted-E : Accepted caseE
-  pub G-gains : guestGain (seen caseG) (decided caseG) (bidAt caseG 1) 1 ≡ pos 0
-  pub overbid-gains : guestGain (seen overbid) (decided overbid) (bidAt caseG 1) 1 ≡ negsuc 6
-  pub costly-gains : stationGain (seen costly) (decided costly) 5 0 ≡ pos 0
-  pub underasked-gains : stationGain (seen underasked) (decided underasked) 5 0 ≡ negsuc 1
+  pub G-gains : guestGain (screened caseG) (decision caseG) (bidAt caseG 1) 1 ≡ pos 0
+  pub overbid-gains : guestGain (screened overbid) (decision overbid) (bidAt caseG 1) 1 ≡ negsuc 6
+  pub costly-gains : stationGain (screened costly) (decision costly) 5 0 ≡ pos 0
+  pub underasked-gains : stationGain (screened underasked) (decision underasked) 5 0 ≡ negsuc 1
   pub bar-is : (menu (market caseG) 1) .bar 0 ≡ 28
   pub price-is : (menu (market caseG) 1) .price 0 ≡ 27
-  pub charges-are : sum 2 (charged (seen caseE) (decided caseE)) ≡ 24
-  pub payments-are : sum 2 (paid (seen caseE) (decided caseE)) ≡ 18
-  pub margin-is : margin (seen caseE) (decided caseE) ≡ 6
+  pub charges-are : sum 2 (charged (screened caseE) (decision caseE)) ≡ 24
+  pub payments-are : sum 2 (paid (screened caseE) (decision caseE)) ≡ 18
+  pub margin-is : margin (screened caseE) (decision caseE) ≡ 6
 
 numbers : Numbers
 unfolding _<?_ _≤?_ _=?_ _and_ _or_ only sum greatest count some any firstFault bidAt marketBy median byNumber market
     cut opens screen queue before rank provisional critical at charge charged obtained sold paid margin better best
-    surplus truthful seen decided outside counts lengths values marketFaults verdict guestGain stationGain pair caseE
+    surplus truthful screened decision outside counts lengths values marketFaults verdict guestGain stationGain pair caseE
     caseG overbid costly underasked without left-out pivot past bar menu
 numbers = record {
   accepted-G = refl;
@@ -83,7 +83,7 @@ second-of-two : 1 < 2
 second-of-two = omega arith
 
 pub guest-instance : GuestInstance
-unfolding seen decided market pair caseG
+unfolding screened decision market pair caseG
 guest-instance = record {
   accepted = numbers .accepted-G;
   accepted′ = numbers .accepted-overbid;
@@ -95,7 +95,7 @@ guest-instance = record {
 }
 
 pub station-instance : StationInstance
-unfolding seen decided market costly
+unfolding screened decision market costly
 station-instance = record {
   accepted = numbers .accepted-costly;
   accepted′ = numbers .accepted-underasked;

@@ -1,18 +1,16 @@
--- There is a lent book for every step of the plain book, and so a list of calls for every list of postings.
+-- There is a listLengths book for every step of the plain book, and so a list of calls for every list of postings.
 use Prim.Native.Nat.{ℕ}
 use mathlib.Core.List.{List, [], _∷_}
 use mathlib.Core.Path.{_≡_, refl, sym, ap, _∙_}
 use native.Mathlib.Omega.{arith}
 use lib.ListN.{length}
-use Rattle.model.specs.Refusals.{Verdict, accepted, refused, updated}
-use Rattle.model.specs.book.Book.{Book, entered}
-use Rattle.model.specs.book.Records.{account, soldOf, paidOf}
+use Rattle.model.specs.Verdicts.{Verdict, accepted, refused, updated}
+use Rattle.model.specs.book.PlainBook.{PlainBook, entered, answer, after}
+use Rattle.model.specs.book.Book.{account, soldOf, paidOf, Book, book, emptyBook, plain}
 use Rattle.model.specs.declared.account.StationAccount.{StationAccount}
 use Rattle.model.proofs.book.Records.{length-sold, length-paid}
 use Rattle.model.specs.book.Posting.{Posting}
-use Rattle.model.specs.book.PlainBook.{answer, after}
-use Rattle.model.specs.book.LentBook.{LentBook, book, blank, plain}
-use Rattle.model.specs.claims.Ledger.{Calls, none, call, CallsExist}
+use Rattle.model.specs.claims.Postings.{PostedInTurn, none, call, PostedInTurnExists}
 use Rattle.model.proofs.book.Accounts.{length-raised}
 
 records : (sold paid : List ℕ) → List StationAccount
@@ -33,12 +31,12 @@ records-paid [] (y ∷ ys) e = absurd (omega arith)
 records-paid (x ∷ xs) [] e = absurd (omega arith)
 records-paid (x ∷ xs) (y ∷ ys) e = ap (λ l. y ∷ l) (records-paid xs ys (omega arith))
 
--- a lent book with a plain book's numbers
-lent : Book → LentBook
-lent b = book (b .guests) (records (b .sold) (b .paid)) (b .house) (b .last)
+-- a listLengths book with a plain book's numbers
+listLengths : PlainBook → Book
+listLengths b = book (b .guests) (records (b .sold) (b .paid)) (b .house) (b .last)
 
-plain-lent : (b : Book) → length (b .sold) ≡ length (b .paid) → plain (lent b) ≡ b
-unfolding plain lent
+plain-lent : (b : PlainBook) → length (b .sold) ≡ length (b .paid) → plain (listLengths b) ≡ b
+unfolding plain listLengths
 plain-lent b e =
     λ x. record {
       guests = b .guests;
@@ -49,31 +47,31 @@ plain-lent b e =
     }
 
 -- the two lists of stations are of one length, and stay so
-even-plain : (B : LentBook) → length (plain B .sold) ≡ length (plain B .paid)
+even-plain : (B : Book) → length (plain B .sold) ≡ length (plain B .paid)
 unfolding plain
 even-plain B = length-sold (B .stations) ∙ sym (length-paid (B .stations))
 
 by-verdict :
-    (b : Book) (p : Posting) → length (b .sold) ≡ length (b .paid) → (v : Verdict)
+    (b : PlainBook) (p : Posting) → length (b .sold) ≡ length (b .paid) → (v : Verdict)
     → let c = updated v (entered (p .tables) (p .round) b) b in length (c .sold) ≡ length (c .paid)
 unfolding updated entered
 by-verdict b p e (accepted _) = length-raised _ _ _ ∙ e ∙ sym (length-raised _ _ _)
 by-verdict b p e (refused r) = e
 
 even-after :
-    (b : Book) (p : Posting) → length (b .sold) ≡ length (b .paid) → length (after b p .sold) ≡ length (after b p .paid)
+    (b : PlainBook) (p : Posting) → length (b .sold) ≡ length (b .paid) → length (after b p .sold) ≡ length (after b p .paid)
 unfolding after
 even-after b p e = by-verdict b p e (answer b p)
 
-calls-from : (B : LentBook) (ps : List Posting) → (vs : List Verdict) × (C : LentBook) × Calls B ps vs C
+calls-from : (B : Book) (ps : List Posting) → (vs : List Verdict) × (C : Book) × PostedInTurn B ps vs C
 calls-from B [] = ([], B, none)
 calls-from B (p ∷ ps) =
-    let (vs, C, c) = calls-from (lent (after (plain B) p)) ps in (
+    let (vs, C, c) = calls-from (listLengths (after (plain B) p)) ps in (
       answer (plain B) p ∷ vs,
       C,
       call (record { answered = refl; left = plain-lent (after (plain B) p) (even-after (plain B) p (even-plain B)) })
           c,
     )
 
-pub calls-exist : CallsExist
-calls-exist g s ps = calls-from (blank g s) ps
+pub posted-in-turn-exists : PostedInTurnExists
+posted-in-turn-exists g s ps = calls-from (emptyBook g s) ps

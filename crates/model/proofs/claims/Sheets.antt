@@ -3,7 +3,7 @@ use Prim.Native.Nat.{ℕ, _*_}
 use mathlib.Core.List.{List, _∷_}
 use mathlib.Core.Path.{_≡_, sym, ap, ap₂, _∙_, refl}
 use lib.ListN.{length}
-use Rattle.model.specs.Refusals.{accepted, firstFault, giving}
+use Rattle.model.specs.Verdicts.{accepted, firstFault, giving}
 use Rattle.model.specs.Numbers.{answerOfReading}
 use Rattle.model.specs.market.Market.{Tables}
 use Rattle.model.specs.sheet.Content.{guests, stations, tablesOf, sheetFaults, readSheet}
@@ -11,9 +11,9 @@ use Rattle.model.specs.contracts.Reads.{LentTables, filled, readVerdict,
 use Rattle.model.specs.claims.Sheets.{RightSizes, ReadAs, StatedIsRead, ReadIsStated}
 use Rattle.model.specs.declared.answers.Reading.{Reading}
 use Rattle.model.proofs.Counting.{length-list}
-use Rattle.model.proofs.Refusals.{fault-later, no-fault, giving-accepted, gave-accepted, updated-accepted}
+use Rattle.model.proofs.Verdicts.{fault-later, no-fault, giving-accepted, gave-accepted, updated-accepted}
 use Rattle.model.proofs.contracts.Reads.{lent-good}
-use Rattle.model.proofs.sheet.Truth.{reads-exactly, states-read}
+use Rattle.model.proofs.sheet.Truth.{reads-exactly-what-is-stated, states-read}
 
 module _ (s : List ℕ) (entry exit : LentTables) (answer : Reading) (c : Reads s entry answer exit)
     (v : readVerdict entry s ≡ accepted tt) where
@@ -42,6 +42,6 @@ unfolding readSheet readVerdict tableLengths
 read-is-stated s entry exit answer n m y c e =
     let v = gave-accepted _ _ _ (sym (c .answered) ∙ e) .0 in (
       tablesOf s,
-      reads-exactly s (tablesOf s) y .0 (giving-accepted _ (no-fault _ _ _ v .1)),
+      reads-exactly-what-is-stated s (tablesOf s) y .0 (giving-accepted _ (no-fault _ _ _ v .1)),
       read-as s entry exit answer c v,
     )

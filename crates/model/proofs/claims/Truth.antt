@@ -12,13 +12,13 @@ use borrow.Author.Tests.{ltb-true, ltb-false}
 use Rattle.model.specs.Counting.{sum}
 use Rattle.model.specs.market.Market.{Tables, bidAt, Market, marketBy, median, byNumber, market, screen}
 use Rattle.model.specs.market.Mechanism.{at, charged, obtained, sold, paid, margin, truthful}
-use Rattle.model.specs.market.Outcome.{seen, decided}
+use Rattle.model.specs.market.Outcome.{screened, decision}
 use Rattle.model.specs.market.Faults.{Accepted}
 use Rattle.model.specs.market.Gains.{guestGain, stationGain}
 use Rattle.model.specs.claims.Truth.{AlikeButForGuest, AlikeButForStation, GuestTruthful, StationTruthful}
-use Rattle.model.specs.claims.Truth.{SignedReads, choice, MenuOf, GuestMenu, ClearingLimits}
+use Rattle.model.specs.claims.Truth.{SignedIffUnsigned, choice, MenuOf, GuestMenu, ClearingLimits}
 use Rattle.model.proofs.Tests.{lt-or-le}
-use Rattle.model.proofs.market.Acceptance.{accepted-reads}
+use Rattle.model.proofs.market.Acceptance.{accepted-iff-within-limits}
 use Rattle.model.proofs.market.Decisions.{charged-within-bid, payment-covers-ask, balance}
 use Rattle.model.proofs.market.Truthful.{numbers-differ, truthful-candidates, truthful-fair}
 use Rattle.model.proofs.market.Menus.{choice-truth, menu, menu-below, menu-near, rebid, menu-assigned}
@@ -48,8 +48,8 @@ unsigned a b c d h = go (ltb a b) refl (ltb c d) refl
     go false p true q = absurd (omega (arith, ltb-false a b p, ltb-true c d q))
     go false p false q = le→leb (a - b) (c - d) (omega (arith, ltb-false a b p, ltb-false c d q))
 
-pub signed-reads : SignedReads
-signed-reads a b c d = (λ h. signed a b c d (h .le), λ h. record { le = unsigned a b c d h })
+pub signed-iff-unsigned : SignedIffUnsigned
+signed-iff-unsigned a b c d = (λ h. signed a b c d (h .le), λ h. record { le = unsigned a b c d h })
 
 -- ---- guests
 
@@ -57,11 +57,11 @@ module _ (t t′ : Tables) (i : ℕ) (A : AlikeButForGuest t t′ i) where
   rebid-market : (rule key : ℕ → ℕ) → rebid (marketBy rule key t) (bidAt t′) ≡ marketBy rule key t′
   unfolding marketBy
   rebid-market rule key = λ x. record {
-    guests = length (sym (A .same-amounts) x);
-    stations = length (sym (A .same-asks) x);
+    guestCount = length (sym (A .same-amounts) x);
+    stationCount = length (sym (A .same-asks) x);
     position = rule (length (sym (A .same-asks) x));
     ask = λ j. getD (sym (A .same-asks) x) j 0;
-    capacity = λ j. getD (sym (A .same-bays) x) j 0;
+    bays = λ j. getD (sym (A .same-bays) x) j 0;
     amount = λ i. getD (sym (A .same-amounts) x) i 0;
     bid = bidAt t′;
     key = key;
@@ -82,7 +82,7 @@ module _ (rule : ℕ → ℕ) (t : Tables) (i : ℕ) (a : Accepted t) (li : i < 
       → ByMenu (rebid M b)
   unfolding marketBy
   rebid-by-menu b alike =
-      let w = accepted-reads t .0 a in (
+      let w = accepted-iff-within-limits t .0 a in (
         menu-assigned M (numbers-differ _) i li (w .amount-least i li) (w .bays-least) b alike,
         menu-charged M (numbers-differ _) i li (w .amount-least i li) (w .bays-least) b alike,
       )
@@ -121,10 +121,10 @@ module _ (rule : ℕ → ℕ) (t : Tables) (i : ℕ) (a : Accepted t) (li : i < 
 
 pub guest-truthful : GuestTruthful
 unfolding guestGain
-guest-truthful rule t t′ i a a′ li A = signed-reads _ _ _ _ .1 (gains-no-more rule t i a li t′ A)
+guest-truthful rule t t′ i a a′ li A = signed-iff-unsigned _ _ _ _ .1 (gains-no-more rule t i a li t′ A)
 
 pub menu-of : (t : Tables) (i : ℕ) → Accepted t → i < length (t .amounts) → MenuOf t i (menu (market t) i)
-unfolding seen decided market menu
+unfolding screened decision market menu
 menu-of t i a li = record {
   opens-offer = λ j lj. refl;
   priced-below = menu-below (market t) i;
@@ -142,11 +142,11 @@ module _ (t t′ : Tables) (j : ℕ) (A : AlikeButForStation t t′ j) where
   reask-market : (rule key : ℕ → ℕ) → reask (marketBy rule key t) (λ k. getD (t′ .asks) k 0) ≡ marketBy rule key t′
   unfolding marketBy bidAt
   reask-market rule key = λ x. record {
-    guests = length (sym (A .same-amounts) x);
-    stations = sym (A .same-count) x;
+    guestCount = length (sym (A .same-amounts) x);
+    stationCount = sym (A .same-count) x;
     position = rule (sym (A .same-count) x);
     ask = λ k. getD (t′ .asks) k 0;
-    capacity = λ k. getD (sym (A .same-bays) x) k 0;
+    bays = λ k. getD (sym (A .same-bays) x) k 0;
     amount = λ i. getD (sym (A .same-amounts) x) i 0;
     bid = λ i k. getD (sym (A .same-bids) x) (i * sym (A .same-count) x + k) 0;
     key = key;
@@ -176,7 +176,7 @@ module _ (rule : ℕ → ℕ) (t : Tables) (j : ℕ) where
 
 pub station-truthful : StationTruthful
 unfolding stationGain
-station-truthful rule t t′ j a a′ lj A = signed-reads _ _ _ _ .1
+station-truthful rule t t′ j a a′ lj A = signed-iff-unsigned _ _ _ _ .1
     (subst (NoMore rule t j) (reask-market t t′ j A rule byNumber)
     (reask-no-more rule t j (λ k. getD (t′ .asks) k 0) (asks-same t t′ j A)))
 
@@ -185,19 +185,19 @@ station-truthful rule t t′ j a a′ lj A = signed-reads _ _ _ _ .1
 -- accepted or not, the charges are the payments and the margin
 pub balanced :
     (t : Tables)
-    → sum (length (t .amounts)) (charged (seen t) (decided t))
-    ≡ sum (length (t .asks)) (paid (seen t) (decided t)) + margin (seen t) (decided t)
-unfolding seen decided market marketBy screen
-balanced t = balance (seen t) (decided t) (truthful-candidates (seen t))
+    → sum (length (t .amounts)) (charged (screened t) (decision t))
+    ≡ sum (length (t .asks)) (paid (screened t) (decision t)) + margin (screened t) (decision t)
+unfolding screened decision market marketBy screen
+balanced t = balance (screened t) (decision t) (truthful-candidates (screened t))
 
 pub clearing-limits : ClearingLimits
-unfolding seen decided market marketBy screen charged sold at
+unfolding screened decision market marketBy screen charged sold at
 clearing-limits t a =
     let F = truthful-fair (screen (market t)) (numbers-differ _) in
     record {
-      charge-within-bid = charged-within-bid (market t) (decided t) F;
+      charge-within-bid = charged-within-bid (market t) (decision t) F;
       unassigned-free = λ i e. rw e;
-      payment-covers-ask = payment-covers-ask (market t) (decided t) (F .candidates);
+      payment-covers-ask = payment-covers-ask (market t) (decision t) (F .candidates);
       sold-as-assigned = λ j. refl;
       within-bays = F .fits;
       balanced = balanced t;

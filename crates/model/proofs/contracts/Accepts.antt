@@ -1,11 +1,11 @@
 -- What an accepted call of `clear` gives.
 use mathlib.Core.Path.{_≡_}
-use Rattle.model.specs.Refusals.{accepted, firstFault}
+use Rattle.model.specs.Verdicts.{accepted, firstFault}
 use Rattle.model.specs.market.Market.{Tables}
 use Rattle.model.specs.market.Outcome.{Results}
 use Rattle.model.specs.market.Faults.{clearingFaults}
-use Rattle.model.specs.claims.Readings.{WithinLimits, RightLengths}
-use Rattle.model.proofs.market.Acceptance.{accepted-reads, call-accepted-reads}
+use Rattle.model.specs.claims.Meaning.{WithinLimits, RightLengths}
+use Rattle.model.proofs.market.Acceptance.{accepted-iff-within-limits, call-accepted-iff-within-limits}
 
 -- no fault: a market within the limits, and result lists of the right lengths
 pub record Accepts (t : Tables) (r : Results) : Type 0 where
@@ -14,5 +14,5 @@ pub record Accepts (t : Tables) (r : Results) : Type 0 where
 
 pub accepts : (t : Tables) (r : Results) → firstFault (clearingFaults t r) ≡ accepted tt → Accepts t r
 accepts t r e =
-    let w = call-accepted-reads t r .0 e in
-    record { within = accepted-reads t .0 (w .market-accepted); fits = w .lists-fit }
+    let w = call-accepted-iff-within-limits t r .0 e in
+    record { within = accepted-iff-within-limits t .0 (w .market-accepted); fits = w .lists-fit }

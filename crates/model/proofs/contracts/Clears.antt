@@ -8,15 +8,15 @@ use lib.ListN.{length, take, replicate}
 use Rattle.model.specs.Limits.{maxGuests, maxStations}
 use Rattle.model.specs.Counting.{_=?_}
 use Rattle.model.specs.Numbers.{number, answerOfClearing}
-use Rattle.model.specs.Refusals.{Row, _gives_, accepted, refused, firstFault, giving, updated}
-use Rattle.model.proofs.Refusals.{updated-accepted, gave-accepted, gave-refused}
+use Rattle.model.specs.Verdicts.{Row, _gives_, accepted, refused, firstFault, giving, updated}
+use Rattle.model.proofs.Verdicts.{updated-accepted, gave-accepted, gave-refused}
 use Rattle.model.specs.declared.refusal.Refusal.{Refusal}
 use Rattle.model.specs.declared.money.UnitPrice.{UnitPrice}
 use Rattle.model.specs.declared.money.Mills.{Mills}
 use Rattle.model.specs.market.Market.{Tables}
 use Rattle.model.specs.market.Outcome.{Results, outcome, results}
-use Rattle.model.specs.market.Faults.{lent, marketFaults, verdict, clearingFaults}
-use Rattle.model.specs.claims.Readings.{RightLengths}
+use Rattle.model.specs.market.Faults.{listLengths, marketFaults, verdict, clearingFaults}
+use Rattle.model.specs.claims.Meaning.{RightLengths}
 use Rattle.model.proofs.Tests.{neither, is-eq}
 use Rattle.model.proofs.Loops.{zeros-long}
 use Rattle.model.specs.contracts.Clears.{Clears}
@@ -44,7 +44,7 @@ lengths t n m = record {
 }
 
 same-verdict : (t : Tables) (r : Results) → RightLengths t r → firstFault (clearingFaults t r) ≡ verdict t
-unfolding clearingFaults verdict marketFaults lent
+unfolding clearingFaults verdict marketFaults listLengths
 same-verdict t r l = without-third _ _ _ _ _
     (neither (neither (neither (same _ _ (l .stations-long)) (same _ _ (l .charges-long))) (same _ _ (l .sold-long)))
     (same _ _ (l .paid-long)))

@@ -5,8 +5,8 @@ use Rattle.model.specs.Numbers.{number, answerOfClearing}
 use Rattle.model.specs.declared.refusal.Refusal.{Refusal}
 use Rattle.model.specs.declared.money.UnitPrice.{UnitPrice}
 use Rattle.model.specs.declared.money.Mills.{Mills}
-use Rattle.model.proofs.Refusals.{gave-accepted, gave-refused, number-accepted, number-refused, updated-accepted}
-use Rattle.model.proofs.Refusals.{updated-refused}
+use Rattle.model.proofs.Verdicts.{gave-accepted, gave-refused, number-accepted, number-refused, updated-accepted}
+use Rattle.model.proofs.Verdicts.{updated-refused}
 use Rattle.model.specs.market.Market.{Tables}
 use Rattle.model.specs.market.Outcome.{Results, outcome}
 use Rattle.model.specs.contracts.Clears.{Clears}

@@ -11,11 +11,11 @@ use Rattle.model.specs.Limits.{maxGuests, maxStations}
 use Rattle.model.specs.Counting.{_=?_, _or_}
 use Rattle.model.specs.market.Shape.{Shaped}
 use Rattle.model.specs.Numbers.{number}
-use Rattle.model.specs.Refusals.{accepted, refused}
+use Rattle.model.specs.Verdicts.{accepted, refused}
 use Rattle.model.specs.declared.refusal.Refusal.{Refusal}
 use Rattle.model.proofs.Counting.{length-list}
 use Rattle.model.proofs.Tests.{is-eq, neither}
-use Rattle.model.proofs.Refusals.{fault-later, no-fault, giving-accepted, giving-refused, updated-accepted}
+use Rattle.model.proofs.Verdicts.{fault-later, no-fault, giving-accepted, giving-refused, updated-accepted}
 use Rattle.model.specs.sheet.Rows.{bidOf}
 use Rattle.model.proofs.sheet.Joined.{joined-length}
 use Rattle.model.specs.sheet.Content.{stations, tablesOf, sheetFaults, readSheet}

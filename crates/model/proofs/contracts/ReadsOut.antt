@@ -4,7 +4,7 @@ use mathlib.Core.List.{List}
 use mathlib.Core.Path.{_≡_, sym, _∙_}
 use Rattle.model.specs.Numbers.{number}
 use Rattle.model.specs.declared.refusal.Refusal.{Refusal}
-use Rattle.model.proofs.Refusals.{number-accepted, number-refused, updated-accepted, updated-refused}
+use Rattle.model.proofs.Verdicts.{number-accepted, number-refused, updated-accepted, updated-refused}
 use Rattle.model.proofs.sheet.Answers.{told-read, told-refused}
 use Rattle.model.specs.declared.answers.Reading.{Reading}
 use Rattle.model.specs.declared.answers.Reading.the-variants as reading

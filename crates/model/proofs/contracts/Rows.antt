@@ -8,7 +8,7 @@ use lib.ListN.{getD, length, take, drop, length-take, length-drop}
 use lib.Seq.{getD-take, getD-drop}
 use Rattle.model.specs.market.Market.{bidAt}
 use Rattle.model.proofs.Tests.{both, is-le}
-use Rattle.model.proofs.market.Acceptance.{accepted-reads}
+use Rattle.model.proofs.market.Acceptance.{accepted-iff-within-limits}
 use Rattle.model.specs.contracts.Rows.{shown, rowOf, RowsShowBids}
 
 -- a row that lies in the table
@@ -31,7 +31,7 @@ row-shows xs m i j l h =
 pub rows-show-bids : RowsShowBids
 unfolding bidAt
 rows-show-bids t a i l =
-    let w = accepted-reads t .0 a in
+    let w = accepted-iff-within-limits t .0 a in
     let whole : (i + 1) * length (t .asks) ≤ length (t .bids)
     = omega (arith, w .shape .bids-length, mul-le-mul-right (length (t .asks)) l) in
     rw (w .shape .width-is)

@@ -9,18 +9,18 @@ use lib.ListN.{getD, length}
 use borrow.Author.Tests.{not-false}
 use Rattle.model.specs.Limits.{maxGuests, maxStations, maxPrice}
 use Rattle.model.specs.Counting.{_<?_, _=?_, _or_, any}
-use Rattle.model.specs.Refusals.{accepted, firstFault}
+use Rattle.model.specs.Verdicts.{accepted, firstFault}
 use Rattle.model.specs.market.Market.{Tables}
-use Rattle.model.specs.market.Faults.{outside, counts, lengths, lent, values, marketFaults, verdict, Accepted}
-use Rattle.model.specs.market.Faults.{clearingFaults}
-use Rattle.model.specs.book.Book.{Book, entered}
-use Rattle.model.specs.book.Faults.{overLimit, bookSize, outOfTurn, postingFaults}
+use Rattle.model.specs.market.Faults.{outside, counts, lengths, listLengths, values, marketFaults, verdict}
+use Rattle.model.specs.market.Faults.{Accepted, clearingFaults}
+use Rattle.model.specs.book.PlainBook.{PlainBook, entered, overLimit, bookSize, outOfTurn, postingFaults}
 use Rattle.model.specs.market.Outcome.{Results}
-use Rattle.model.specs.claims.Readings.{WithinLimits, AcceptedReads, CallWithinLimits, CallAcceptedReads}
-use Rattle.model.specs.claims.Readings.{AccountsWithin, PostingWithinLimits, PostingAcceptedReads}
+use Rattle.model.specs.claims.Meaning.{WithinLimits, AcceptedIffWithinLimits, CallWithinLimits}
+use Rattle.model.specs.claims.Meaning.{CallAcceptedIffWithinLimits, AccountsWithin, PostingWithinLimits}
+use Rattle.model.specs.claims.Meaning.{PostingAcceptedIffWithinLimits}
 use Rattle.model.proofs.Tests.{or-no, neither, lt-no, not-lt, le-no, not-le, eq-yes, eq-no, is-eq, not-eq}
 use Rattle.model.proofs.Counting.{any-no, none-any}
-use Rattle.model.proofs.Refusals.{fault-none, no-fault, no-faults, fault-second, fault-free}
+use Rattle.model.proofs.Verdicts.{fault-none, no-fault, no-faults, fault-second, fault-free}
 
 -- counts within the limits
 pub counted :
@@ -96,11 +96,11 @@ accept t w =
     (fault-free _ _ (none-any (t .bids) _ (λ q lq. not-outside 0 maxPrice _ (omega arith) (w .bid-most q lq)))
     fault-none)))))
 
-pub accepted-reads : AcceptedReads
-accepted-reads t = (within t, accept t)
+pub accepted-iff-within-limits : AcceptedIffWithinLimits
+accepted-iff-within-limits t = (within t, accept t)
 
 call-within : (t : Tables) (r : Results) → firstFault (clearingFaults t r) ≡ accepted tt → CallWithinLimits t r
-unfolding verdict marketFaults clearingFaults counts lengths lent
+unfolding verdict marketFaults clearingFaults counts lengths listLengths
 call-within t r e =
     let (c, e1) = no-fault _ _ _ e in
     let (l, e2) = no-fault _ _ _ e1 in
@@ -119,7 +119,7 @@ call-within t r e =
     }
 
 call-accept : (t : Tables) (r : Results) → CallWithinLimits t r → firstFault (clearingFaults t r) ≡ accepted tt
-unfolding verdict marketFaults clearingFaults counts lengths lent
+unfolding verdict marketFaults clearingFaults counts lengths listLengths
 call-accept t r w =
     let (c, e1) = no-fault _ _ _ (w .market-accepted) in
     let (l, e2) = no-fault _ _ _ e1 in
@@ -129,10 +129,10 @@ call-accept t r w =
     (not-unequal _ _ (w .lists-fit .sold-long))) (not-unequal _ _ (w .lists-fit .paid-long)))
     e2))
 
-pub call-accepted-reads : CallAcceptedReads
-call-accepted-reads t r = (call-within t r, call-accept t r)
+pub call-accepted-iff-within-limits : CallAcceptedIffWithinLimits
+call-accepted-iff-within-limits t r = (call-within t r, call-accept t r)
 
-pub under-limit : (B : Book) → overLimit B ≡ false → AccountsWithin B
+pub under-limit : (B : PlainBook) → overLimit B ≡ false → AccountsWithin B
 unfolding overLimit
 under-limit B e =
     let (lists, house) = or-no _ _ e in
@@ -145,7 +145,7 @@ under-limit B e =
       house-most = lt-no _ _ house;
     }
 
-pub not-over : (B : Book) → AccountsWithin B → overLimit B ≡ false
+pub not-over : (B : PlainBook) → AccountsWithin B → overLimit B ≡ false
 unfolding overLimit
 not-over B w =
     neither (neither (neither (none-any (B .guests) _ (λ i l. not-lt _ _ (w .guest-most i l)))
@@ -154,7 +154,7 @@ not-over B w =
     (not-lt _ _ (w .house-most))
 
 posting-within :
-    (t : Tables) (round : ℕ) (B : Book) → firstFault (postingFaults t round B) ≡ accepted tt
+    (t : Tables) (round : ℕ) (B : PlainBook) → firstFault (postingFaults t round B) ≡ accepted tt
     → PostingWithinLimits t round B
 unfolding verdict postingFaults bookSize outOfTurn
 posting-within t round B e =
@@ -178,7 +178,7 @@ posting-within t round B e =
     }
 
 posting-accept :
-    (t : Tables) (round : ℕ) (B : Book) → PostingWithinLimits t round B
+    (t : Tables) (round : ℕ) (B : PlainBook) → PostingWithinLimits t round B
     → firstFault (postingFaults t round B) ≡ accepted tt
 unfolding verdict postingFaults bookSize outOfTurn
 posting-accept t round B w =
@@ -189,5 +189,5 @@ posting-accept t round B w =
     (fault-free _ _ (neither (not-over B (w .within-before)) (not-over _ (w .within-after)))
     fault-none)))
 
-pub posting-accepted-reads : PostingAcceptedReads
-posting-accepted-reads t round B = (posting-within t round B, posting-accept t round B)
+pub posting-accepted-iff-within-limits : PostingAcceptedIffWithinLimits
+posting-accepted-iff-within-limits t round B = (posting-within t round B, posting-accept t round B)

@@ -9,7 +9,8 @@ use native.Mathlib.Omega.{arith}
 use lib.ListN.{getD, length}
 use Rattle.model.specs.Counting.{_<?_, _≤?_, _=?_, only, sum, count}
 use Rattle.model.specs.market.Market.{Market, marketBy, median, cut}
-use Rattle.model.specs.claims.Readings.{Rising, Rearranged, RisingOrderExists, CutReads, MedianReads}
+use Rattle.model.specs.claims.Meaning.{Rising, Rearranged, RisingOrderExists, CutIsAskAtPosition}
+use Rattle.model.specs.claims.Meaning.{MedianIsLeastPosition}
 use Rattle.model.proofs.Tests.{decide, clash, lt-yes, is-lt, not-lt, le-yes, le-no, eq-yes, is-eq, not-eq}
 use Rattle.model.proofs.Tests.{lt-or-le, only-le, le-only, only-yes, only-no}
 use Rattle.model.proofs.Counting.{sum-cong, sum-swap, sum-single, sum-zero, sum-front, count-mono, count-none}
@@ -123,12 +124,12 @@ rising-order-exists l = (
 
 -- an ask that fewer than `position` asks lie below is at most the cut
 pub le-cut :
-    (M : Market) (j : ℕ) → j < M .stations
-    → count (M .stations) (λ k. M .ask k <? M .ask j) < M .position → M .ask j ≤ cut M
+    (M : Market) (j : ℕ) → j < M .stationCount
+    → count (M .stationCount) (λ k. M .ask k <? M .ask j) < M .position → M .ask j ≤ cut M
 unfolding cut
 le-cut M j lj h = le-trans (le-only _ _ (is-lt _ _ h))
-    (le-greatest (M .stations)
-    (λ j. only (count (M .stations) (λ k. M .ask k <? M .ask j) <? M .position) (M .ask j)) j lj)
+    (le-greatest (M .stationCount)
+    (λ j. only (count (M .stationCount) (λ k. M .ask k <? M .ask j) <? M .position) (M .ask j)) j lj)
 
 -- those below v, by how often each number below v occurs
 below-often :
@@ -147,13 +148,13 @@ below-often l v =
         ∙ sym (sum-zero v _ (λ u lu. only-no _ 1 (not-eq x u (λ e. omega arith)))))
         (lt-or-le x v)
 
-module _ (M : Market) (l s : List ℕ) (rs : Rising s) (rl : Rearranged s l) (sm : M .stations ≡ length l)
+module _ (M : Market) (l s : List ℕ) (rs : Rising s) (rl : Rearranged s l) (sm : M .stationCount ≡ length l)
     (sa : M .ask ≡ (λ j. getD l j 0))
     (p : ℕ) (sp : M .position ≡ suc p) (lp : p < length l) where
   lps : p < length s
   lps = omega (arith, rl .as-long)
 
-  counted : (a : ℕ) → count (M .stations) (λ k. M .ask k <? a) ≡ count (length s) (λ k. getD s k 0 <? a)
+  counted : (a : ℕ) → count (M .stationCount) (λ k. M .ask k <? a) ≡ count (length s) (λ k. getD s k 0 <? a)
   counted a = ap₂ (λ m f. count m (λ k. f k <? a)) sm sa ∙ below-often l a
       ∙ sum-cong a _ _ (λ u lu. sym (rl .as-often u)) ∙ sym (below-often s a)
 
@@ -174,9 +175,9 @@ module _ (M : Market) (l s : List ℕ) (rs : Rising s) (rl : Rearranged s l) (sm
 
   at-position : cut M ≡ getD s p 0
   unfolding cut
-  at-position = le-antisymm (greatest-le (M .stations) _ _ (λ j lj. only-le _ _ _ (λ q. upper j (lt-yes _ _ q)))) lower
+  at-position = le-antisymm (greatest-le (M .stationCount) _ _ (λ j lj. only-le _ _ _ (λ q. upper j (lt-yes _ _ q)))) lower
     where
-      upper : (j : ℕ) → count (M .stations) (λ k. M .ask k <? M .ask j) < M .position → M .ask j ≤ getD s p 0
+      upper : (j : ℕ) → count (M .stationCount) (λ k. M .ask k <? M .ask j) < M .position → M .ask j ≤ getD s p 0
       upper j h = ⊎-elim
           (λ (b : getD s p 0 < M .ask j). absurd (omega (arith, counted (M .ask j), more (M .ask j) b)))
           (λ b. b)
@@ -193,12 +194,12 @@ module _ (M : Market) (l s : List ℕ) (rs : Rising s) (rl : Rearranged s l) (sm
           (λ none. absurd (omega (arith, occurs, count-none (length l) _ (λ k lk q. clash q (none k lk)))))
           (search-below (length l) (λ k. getD l k 0 =? getD s p 0))
 
-pub cut-reads : CutReads
+pub cut-is-ask-at-position : CutIsAskAtPosition
 unfolding marketBy
-cut-reads rule key t s rs rl low high = at-position (marketBy rule key t) (t .asks) s rs rl refl refl
+cut-is-ask-at-position rule key t s rs rl low high = at-position (marketBy rule key t) (t .asks) s rs rl refl refl
     (rule (length (t .asks)) - 1) (omega arith) (omega arith)
 
-pub median-reads : MedianReads
+pub median-is-least-position : MedianIsLeastPosition
 unfolding median
-median-reads m h =
+median-is-least-position m h =
     record { reaches = omega arith; least = λ p q. omega arith; from-one = omega arith; to-m = omega arith }

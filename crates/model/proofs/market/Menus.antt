@@ -66,26 +66,26 @@ menu-near M i j = omega (arith, bar-le-pivot (queue (screen M) j) i)
 -- the market with other bids
 abbrev pub rebid : Market → (ℕ → ℕ → ℕ) → Market
 rebid M b = record {
-  guests = M .guests;
-  stations = M .stations;
+  guestCount = M .guestCount;
+  stationCount = M .stationCount;
   position = M .position;
   ask = M .ask;
-  capacity = M .capacity;
+  bays = M .bays;
   amount = M .amount;
   bid = b;
   key = M .key;
 }
 
 -- at one station, where the others bid the same there: the menu says whether i wins, and its charge
-module _ (M : Market) (K : Keys (M .key) (M .guests)) (i : ℕ) (li : i < M .guests) (some : 1 ≤ M .amount i)
-    (b : ℕ → ℕ → ℕ) (j : ℕ) (bays : 1 ≤ M .capacity j)
-    (alike : (k : ℕ) → k < M .guests → (k ≡ i → ⊥) → b k j ≡ M .bid k j) where
+module _ (M : Market) (K : Keys (M .key) (M .guestCount)) (i : ℕ) (li : i < M .guestCount) (some : 1 ≤ M .amount i)
+    (b : ℕ → ℕ → ℕ) (j : ℕ) (bays : 1 ≤ M .bays j)
+    (alike : (k : ℕ) → k < M .guestCount → (k ≡ i → ⊥) → b k j ≡ M .bid k j) where
   candidates-same :
-      (k : ℕ) → k < M .guests → (k ≡ i → ⊥) → (screen M) .candidate k j ≡ (screen (rebid M b)) .candidate k j
+      (k : ℕ) → k < M .guestCount → (k ≡ i → ⊥) → (screen M) .candidate k j ≡ (screen (rebid M b)) .candidate k j
   unfolding screen cut opens
   candidates-same k lk n = ap (λ x. opens M j and cut M ≤? x) (sym (alike k lk n))
 
-  totals-same : (k : ℕ) → k < M .guests → (k ≡ i → ⊥) → (screen M) .total k j ≡ (screen (rebid M b)) .total k j
+  totals-same : (k : ℕ) → k < M .guestCount → (k ≡ i → ⊥) → (screen M) .total k j ≡ (screen (rebid M b)) .total k j
   unfolding screen
   totals-same k lk n = ap (λ x. x * M .amount k) (sym (alike k lk n))
 
@@ -126,21 +126,21 @@ module _ (M : Market) (K : Keys (M .key) (M .guests)) (i : ℕ) (li : i < M .gue
   menu-charge h =
       ap (max (cut M * M .amount i)) (critical-pivot (queue (screen (rebid M b)) j) K i li h ∙ sym pivots-same)
 
-module _ (M : Market) (K : Keys (M .key) (M .guests)) (i : ℕ) (li : i < M .guests) (some : 1 ≤ M .amount i)
-    (bays : (j : ℕ) → j < M .stations → 1 ≤ M .capacity j)
-    (b : ℕ → ℕ → ℕ) (alike : (k j : ℕ) → k < M .guests → j < M .stations → (k ≡ i → ⊥) → b k j ≡ M .bid k j) where
+module _ (M : Market) (K : Keys (M .key) (M .guestCount)) (i : ℕ) (li : i < M .guestCount) (some : 1 ≤ M .amount i)
+    (bays : (j : ℕ) → j < M .stationCount → 1 ≤ M .bays j)
+    (b : ℕ → ℕ → ℕ) (alike : (k j : ℕ) → k < M .guestCount → j < M .stationCount → (k ≡ i → ⊥) → b k j ≡ M .bid k j) where
   abbrev S′ : Screened
   S′ = screen (rebid M b)
 
-  pub menu-assigned : (truthful S′) .assigned i ≡ choice (M .stations) (menu M i) (S′ .total i)
+  pub menu-assigned : (truthful S′) .assigned i ≡ choice (M .stationCount) (menu M i) (S′ .total i)
   unfolding choice truthful surplus charge screen
-  menu-assigned = best-cong (M .stations) _ _ _ _
+  menu-assigned = best-cong (M .stationCount) _ _ _ _
       (λ j lj. menu-provisional M K i li some b j (bays j lj) (λ k lk n. alike k j lk lj n))
       (λ j lj h. ap (λ x. b i j * M .amount i - x) (menu-charge M K i li some b j (bays j lj)
       (λ k lk n. alike k j lk lj n)
       (menu-provisional M K i li some b j (bays j lj) (λ k lk n. alike k j lk lj n) ∙ h)))
 
-  pub menu-charged : charged S′ (truthful S′) i ≡ at ((menu M i) .price) (choice (M .stations) (menu M i) (S′ .total i))
+  pub menu-charged : charged S′ (truthful S′) i ≡ at ((menu M i) .price) (choice (M .stationCount) (menu M i) (S′ .total i))
   unfolding charged at screen
   menu-charged = go ((truthful S′) .assigned i) refl ∙ ap (at ((menu M i) .price)) menu-assigned
     where

@@ -1,6 +1,6 @@
 -- What a provisional winner's critical total depends on: the others alone. Leave guest i out of the queue; of the
 -- others, those whose rank is
--- then at least capacity - 1 stay out once i has a place. The greatest of their totals is i's `pivot`, the least total
+-- then at least bays - 1 stay out once i has a place. The greatest of their totals is i's `pivot`, the least total
 -- that stands before them all its `bar`.
 use Prim.Native.Nat.{ℕ, _+_, _-_, _≤_, _<_}
 use mathlib.Core.Bool.{Bool, true, false, not}
@@ -22,8 +22,8 @@ use Rattle.model.proofs.market.Queues.{provisional-candidate, provision
 -- the queue without i
 unfoldable pub without : Queue → ℕ → Queue
 without Q i = record {
-  guests = Q .guests;
-  capacity = Q .capacity;
+  guestCount = Q .guestCount;
+  bays = Q .bays;
   candidate = λ k. not (k =? i) and Q .candidate k;
   total = Q .total;
   key = Q .key;
@@ -31,11 +31,11 @@ without Q i = record {
 
 -- of the others, whoever is left out once i has a place
 unfoldable pub left-out : Queue → ℕ → ℕ → Bool
-left-out Q i k = (without Q i) .candidate k and (Q .capacity ≤? rank (without Q i) k + 1)
+left-out Q i k = (without Q i) .candidate k and (Q .bays ≤? rank (without Q i) k + 1)
 
 -- the greatest total of those: what i's place is worth to the others
 unfoldable pub pivot : Queue → ℕ → ℕ
-pivot Q i = greatest (Q .guests) (λ k. only (left-out Q i k) (Q .total k))
+pivot Q i = greatest (Q .guestCount) (λ k. only (left-out Q i k) (Q .total k))
 
 -- the total that stands before k's, by i's key
 unfoldable pub past : Queue → ℕ → ℕ → ℕ
@@ -43,7 +43,7 @@ past Q i k = Q .total k + only (Q .key k <? Q .key i) 1
 
 -- the least total with which i holds a place
 unfoldable pub bar : Queue → ℕ → ℕ
-bar Q i = greatest (Q .guests) (λ k. only (left-out Q i k) (past Q i k))
+bar Q i = greatest (Q .guestCount) (λ k. only (left-out Q i k) (past Q i k))
 
 pub without-candidate : (Q : Queue) (i k : ℕ) → (k ≡ i → ⊥) → Q .candidate k ≡ true → (without Q i) .candidate k ≡ true
 unfolding without
@@ -60,25 +60,25 @@ candidate-without Q i k c = second _ _ c
 -- without i a rank is lower by at most one, and by one where i stands before
 pub rank-without-le : (Q : Queue) (i k : ℕ) → rank (without Q i) k ≤ rank Q k
 unfolding rank without before
-rank-without-le Q i k = count-mono (Q .guests) _ _ (λ l ll p. both (second _ _ (first _ _ p)) (second _ _ p))
+rank-without-le Q i k = count-mono (Q .guestCount) _ _ (λ l ll p. both (second _ _ (first _ _ p)) (second _ _ p))
 
 pub rank-without-ge : (Q : Queue) (i k : ℕ) → rank Q k ≤ rank (without Q i) k + 1
 unfolding rank without before
 rank-without-ge Q i k =
-    let one : count (Q .guests) (λ l. l =? i) ≤ 1 =
-    count-one (Q .guests) _ (λ a b la lb p q. eq-yes _ _ p ∙ sym (eq-yes _ _ q)) in
-    let parts : rank Q k ≤ rank (without Q i) k + count (Q .guests) (λ l. l =? i) =
-    count-or (Q .guests) _ _ _ (λ l ll p. ⊎-elim
+    let one : count (Q .guestCount) (λ l. l =? i) ≤ 1 =
+    count-one (Q .guestCount) _ (λ a b la lb p q. eq-yes _ _ p ∙ sym (eq-yes _ _ q)) in
+    let parts : rank Q k ≤ rank (without Q i) k + count (Q .guestCount) (λ l. l =? i) =
+    count-or (Q .guestCount) _ _ _ (λ l ll p. ⊎-elim
     (λ (e : l =? i ≡ true). inr e)
     (λ (e : l =? i ≡ false). inl (both (both (not-not e) (first _ _ p)) (second _ _ p)))
     (decide (l =? i))) in
     omega arith
 
 pub rank-without-lt :
-    (Q : Queue) (i k : ℕ) → i < Q .guests → Q .candidate i ≡ true → before Q i k ≡ true
+    (Q : Queue) (i k : ℕ) → i < Q .guestCount → Q .candidate i ≡ true → before Q i k ≡ true
     → rank (without Q i) k < rank Q k
 unfolding rank without before
-rank-without-lt Q i k li ci e = count-strict (Q .guests) _ _
+rank-without-lt Q i k li ci e = count-strict (Q .guestCount) _ _
     (λ l ll p. both (second _ _ (first _ _ p)) (second _ _ p))
     i li (and-no _ _ (and-no _ _ (ap not (is-eq i i refl)))) (both ci e)
 
@@ -90,34 +90,34 @@ pub left-out-candidate : (Q : Queue) (i k : ℕ) → left-out Q i k ≡ true →
 unfolding left-out
 left-out-candidate Q i k e = candidate-without Q i k (first _ _ e)
 
-pub left-out-without : (Q : Queue) (i k : ℕ) → left-out Q i k ≡ true → Q .capacity ≤ rank (without Q i) k + 1
+pub left-out-without : (Q : Queue) (i k : ℕ) → left-out Q i k ≡ true → Q .bays ≤ rank (without Q i) k + 1
 unfolding left-out
 left-out-without Q i k e = le-yes _ _ (second _ _ e)
 
 pub is-left-out :
     (Q : Queue) (i k : ℕ) → (k ≡ i → ⊥) → Q .candidate k ≡ true
-    → Q .capacity ≤ rank (without Q i) k + 1 → left-out Q i k ≡ true
+    → Q .bays ≤ rank (without Q i) k + 1 → left-out Q i k ≡ true
 unfolding left-out
 is-left-out Q i k n c r = both (without-candidate Q i k n c) (is-le _ _ r)
 
-pub le-pivot : (Q : Queue) (i k : ℕ) → k < Q .guests → left-out Q i k ≡ true → Q .total k ≤ pivot Q i
+pub le-pivot : (Q : Queue) (i k : ℕ) → k < Q .guestCount → left-out Q i k ≡ true → Q .total k ≤ pivot Q i
 unfolding pivot
-le-pivot Q i k lk e = le-trans (le-only _ _ e) (le-greatest (Q .guests) (λ k. only (left-out Q i k) (Q .total k)) k lk)
+le-pivot Q i k lk e = le-trans (le-only _ _ e) (le-greatest (Q .guestCount) (λ k. only (left-out Q i k) (Q .total k)) k lk)
 
-pub past-le-bar : (Q : Queue) (i k : ℕ) → k < Q .guests → left-out Q i k ≡ true → past Q i k ≤ bar Q i
+pub past-le-bar : (Q : Queue) (i k : ℕ) → k < Q .guestCount → left-out Q i k ≡ true → past Q i k ≤ bar Q i
 unfolding bar
 past-le-bar Q i k lk e =
-    le-trans (le-only _ _ e) (le-greatest (Q .guests) (λ k. only (left-out Q i k) (past Q i k)) k lk)
+    le-trans (le-only _ _ e) (le-greatest (Q .guestCount) (λ k. only (left-out Q i k) (past Q i k)) k lk)
 
-pub bar-le : (Q : Queue) (i t : ℕ) → ((k : ℕ) → k < Q .guests → left-out Q i k ≡ true → past Q i k ≤ t) → bar Q i ≤ t
+pub bar-le : (Q : Queue) (i t : ℕ) → ((k : ℕ) → k < Q .guestCount → left-out Q i k ≡ true → past Q i k ≤ t) → bar Q i ≤ t
 unfolding bar
-bar-le Q i t h = greatest-le (Q .guests) _ t (λ k lk. only-le _ _ _ (h k lk))
+bar-le Q i t h = greatest-le (Q .guestCount) _ t (λ k lk. only-le _ _ _ (h k lk))
 
 -- the bar lies at the pivot or one above
 pub pivot-le-bar : (Q : Queue) (i : ℕ) → pivot Q i ≤ bar Q i
 unfolding pivot past
 pivot-le-bar Q i =
-    greatest-le (Q .guests) _ _ (λ k lk. only-le _ _ _
+    greatest-le (Q .guestCount) _ _ (λ k lk. only-le _ _ _
     (λ e. le-trans (let s : Q .total k ≤ past Q i k = omega arith in s) (past-le-bar Q i k lk e)))
 
 pub bar-le-pivot : (Q : Queue) (i : ℕ) → bar Q i ≤ pivot Q i + 1
@@ -125,8 +125,8 @@ unfolding past
 bar-le-pivot Q i =
     bar-le Q i _ (λ k lk e. omega (arith, only-le (Q .key k <? Q .key i) 1 1 (λ _. le-refl 1), le-pivot Q i k lk e))
 
-module _ (Q : Queue) (D : Distinct Q) (i : ℕ) (li : i < Q .guests) where
-  past-before : (k : ℕ) → k < Q .guests → (k ≡ i → ⊥) → past Q i k ≤ Q .total i → before Q i k ≡ true
+module _ (Q : Queue) (D : Distinct Q) (i : ℕ) (li : i < Q .guestCount) where
+  past-before : (k : ℕ) → k < Q .guestCount → (k ≡ i → ⊥) → past Q i k ≤ Q .total i → before Q i k ≡ true
   unfolding past
   past-before k lk n h = is-before Q i k (⊎-elim
       (λ (q : Q .key k <? Q .key i ≡ true). inl (omega (arith, le-only _ 1 q)))
@@ -146,7 +146,7 @@ module _ (Q : Queue) (D : Distinct Q) (i : ℕ) (li : i < Q .guests) where
 
   -- a winner stands before all who are left out, and whoever does so wins
   pub provisional-before :
-      provisional Q i ≡ true → (k : ℕ) → k < Q .guests → left-out Q i k ≡ true → before Q i k ≡ true
+      provisional Q i ≡ true → (k : ℕ) → k < Q .guestCount → left-out Q i k ≡ true → before Q i k ≡ true
   provisional-before h k lk e = ⊎-elim (λ q. q)
       (λ (q : before Q i k ≡ false). absurd (omega (
         arith,
@@ -159,45 +159,45 @@ module _ (Q : Queue) (D : Distinct Q) (i : ℕ) (li : i < Q .guests) where
       (decide (before Q i k))
 
   before-provisional :
-      Q .candidate i ≡ true → 0 < Q .capacity → ((k : ℕ) → k < Q .guests → left-out Q i k ≡ true → before Q i k ≡ true)
+      Q .candidate i ≡ true → 0 < Q .bays → ((k : ℕ) → k < Q .guestCount → left-out Q i k ≡ true → before Q i k ≡ true)
       → provisional Q i ≡ true
   unfolding without rank left-out
   before-provisional c b all = ⊎-elim
-      (λ (l : rank Q i < Q .capacity). is-provisional Q i c l)
-      (λ (l : Q .capacity ≤ rank Q i). absurd (omega (arith, crowd, few (without Q i) D′ (Q .capacity - 1))))
-      (lt-or-le (rank Q i) (Q .capacity))
+      (λ (l : rank Q i < Q .bays). is-provisional Q i c l)
+      (λ (l : Q .bays ≤ rank Q i). absurd (omega (arith, crowd, few (without Q i) D′ (Q .bays - 1))))
+      (lt-or-le (rank Q i) (Q .bays))
     where
       D′ : Distinct (without Q i)
       D′ = D
 
       low :
-          (k : ℕ) → k < Q .guests → (without Q i) .candidate k ≡ true → before Q k i ≡ true
-          → rank (without Q i) k < Q .capacity - 1
+          (k : ℕ) → k < Q .guestCount → (without Q i) .candidate k ≡ true → before Q k i ≡ true
+          → rank (without Q i) k < Q .bays - 1
       low k lk w e = ⊎-elim
           (λ l. l)
-          (λ (l : Q .capacity - 1 ≤ rank (without Q i) k). absurd (clash
+          (λ (l : Q .bays - 1 ≤ rank (without Q i) k). absurd (clash
           (before-trans Q k i k e (all k lk (both w (is-le _ _ (omega arith))))) (before-self Q k)))
-          (lt-or-le (rank (without Q i) k) (Q .capacity - 1))
+          (lt-or-le (rank (without Q i) k) (Q .bays - 1))
 
       crowd :
           rank Q i
-          ≤ count (Q .guests) (λ k. (without Q i) .candidate k and ((rank (without Q i) k) <? (Q .capacity - 1)))
-      crowd = count-mono (Q .guests) _ _ (λ k lk q.
+          ≤ count (Q .guestCount) (λ k. (without Q i) .candidate k and ((rank (without Q i) k) <? (Q .bays - 1)))
+      crowd = count-mono (Q .guestCount) _ _ (λ k lk q.
           let w : (without Q i) .candidate k ≡ true = without-candidate Q i k
           (λ e. clash (second _ _ q) (rw e (before-self Q i))) (first _ _ q) in
           both w (is-lt _ _ (low k lk w (second _ _ q))))
 
   -- who wins, by one number that the others make
-  pub bar-provisional : Q .candidate i ≡ true → 0 < Q .capacity → bar Q i ≤ Q .total i → provisional Q i ≡ true
+  pub bar-provisional : Q .candidate i ≡ true → 0 < Q .bays → bar Q i ≤ Q .total i → provisional Q i ≡ true
   bar-provisional c b h =
       before-provisional c b (λ k lk e. past-before k lk (left-out-other Q i k e) (le-trans (past-le-bar Q i k lk e) h))
 
   pub provisional-bar : provisional Q i ≡ true → bar Q i ≤ Q .total i
   provisional-bar h = bar-le Q i _ (λ k lk e. before-past k (provisional-before h k lk e))
 
-module _ (Q : Queue) (D : Distinct Q) (i : ℕ) (li : i < Q .guests) (h : provisional Q i ≡ true) where
+module _ (Q : Queue) (D : Distinct Q) (i : ℕ) (li : i < Q .guestCount) (h : provisional Q i ≡ true) where
   -- beside a winner, whoever is left out is whoever has no place
-  pub left-out-rank : (k : ℕ) → k < Q .guests → left-out Q i k ≡ true → Q .capacity ≤ rank Q k
+  pub left-out-rank : (k : ℕ) → k < Q .guestCount → left-out Q i k ≡ true → Q .bays ≤ rank Q k
   left-out-rank k lk e =
       omega (
         arith,
@@ -205,15 +205,15 @@ module _ (Q : Queue) (D : Distinct Q) (i : ℕ) (li : i < Q .guests) (h : provis
         rank-without-lt Q i k li (provisional-candidate Q i h) (provisional-before Q D i li h k lk e),
       )
 
-  pub is-left-out-beside : (k : ℕ) → Q .candidate k ≡ true → Q .capacity ≤ rank Q k → left-out Q i k ≡ true
+  pub is-left-out-beside : (k : ℕ) → Q .candidate k ≡ true → Q .bays ≤ rank Q k → left-out Q i k ≡ true
   is-left-out-beside k c r =
-      is-left-out Q i k (λ e. let s : rank Q k < Q .capacity = rw e (provisional-rank Q i h) in omega arith) c
+      is-left-out Q i k (λ e. let s : rank Q k < Q .bays = rw e (provisional-rank Q i h) in omega arith) c
       (omega (arith, rank-without-ge Q i k))
 
   -- a winner's critical total is its pivot
   pub critical-pivot : critical Q ≡ pivot Q i
   unfolding critical pivot
-  critical-pivot = greatest-cong (Q .guests) _ _ (λ k lk. ap (λ b. only b (Q .total k)) (same-test _ _
+  critical-pivot = greatest-cong (Q .guestCount) _ _ (λ k lk. ap (λ b. only b (Q .total k)) (same-test _ _
       (λ p. is-left-out-beside k (first _ _ p) (lt-no _ _ (not-true _ (second _ _ p))))
       (λ p. both (left-out-candidate Q i k p) (not-not (not-lt _ _ (left-out-rank k lk p))))))
 
@@ -223,26 +223,26 @@ module _ (Q : Queue) (D : Distinct Q) (i : ℕ) (li : i < Q .guests) (h : provis
 
 -- the queue with other candidates and totals
 abbrev pub restate : Queue → (ℕ → Bool) → (ℕ → ℕ) → Queue
-restate Q c v = record { guests = Q .guests; capacity = Q .capacity; candidate = c; total = v; key = Q .key }
+restate Q c v = record { guestCount = Q .guestCount; bays = Q .bays; candidate = c; total = v; key = Q .key }
 
 -- the pivot and the bar of i are the same whatever i states
 module _ (Q : Queue) (c : ℕ → Bool) (v : ℕ → ℕ) (i : ℕ)
-    (sc : (k : ℕ) → k < Q .guests → (k ≡ i → ⊥) → Q .candidate k ≡ c k)
-    (sv : (k : ℕ) → k < Q .guests → (k ≡ i → ⊥) → Q .total k ≡ v k) where
-  pub rank-same : (k : ℕ) → k < Q .guests → (k ≡ i → ⊥) → rank (without Q i) k ≡ rank (without (restate Q c v) i) k
+    (sc : (k : ℕ) → k < Q .guestCount → (k ≡ i → ⊥) → Q .candidate k ≡ c k)
+    (sv : (k : ℕ) → k < Q .guestCount → (k ≡ i → ⊥) → Q .total k ≡ v k) where
+  pub rank-same : (k : ℕ) → k < Q .guestCount → (k ≡ i → ⊥) → rank (without Q i) k ≡ rank (without (restate Q c v) i) k
   unfolding rank without before
-  rank-same k lk nk = count-cong (Q .guests) _ _ (λ l ll. ⊎-elim
+  rank-same k lk nk = count-cong (Q .guestCount) _ _ (λ l ll. ⊎-elim
       (λ (e : l ≡ i). and-no _ _ (and-no _ _ (ap not (is-eq l i e)))
       ∙ sym (and-no _ _ (and-no _ _ (ap not (is-eq l i e)))))
       (λ (n : l ≡ i → ⊥). cc (sc l ll n, sv l ll n, sv k lk nk))
       (eq-or-ne l i))
 
   -- so is whatever is summed up of those left out
-  left-out-same : (f g : ℕ → ℕ) → ((k : ℕ) → k < Q .guests → (k ≡ i → ⊥) → f k ≡ g k)
-      → greatest (Q .guests) (λ k. only (left-out Q i k) (f k))
-      ≡ greatest (Q .guests) (λ k. only (left-out (restate Q c v) i k) (g k))
+  left-out-same : (f g : ℕ → ℕ) → ((k : ℕ) → k < Q .guestCount → (k ≡ i → ⊥) → f k ≡ g k)
+      → greatest (Q .guestCount) (λ k. only (left-out Q i k) (f k))
+      ≡ greatest (Q .guestCount) (λ k. only (left-out (restate Q c v) i k) (g k))
   unfolding left-out without
-  left-out-same f g s = greatest-cong (Q .guests) _ _ (λ k lk. ⊎-elim
+  left-out-same f g s = greatest-cong (Q .guestCount) _ _ (λ k lk. ⊎-elim
       (λ (e : k ≡ i).
       only-no _ _ (and-no _ _ (and-no _ _ (ap not (is-eq k i e))))
       ∙ sym (only-no _ _ (and-no _ _ (and-no _ _ (ap not (is-eq k i e))))))

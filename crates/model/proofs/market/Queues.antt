@@ -8,7 +8,7 @@ use native.Mathlib.Omega.{arith}
 use borrow.Author.Tests.{not-true}
 use Rattle.model.specs.Counting.{_<?_, _=?_, _and_, only, count}
 use Rattle.model.specs.market.Market.{Queue, before, rank, provisional, critical}
-use Rattle.model.specs.claims.Readings.{RanksInOrder, CriticalIsFirstOut}
+use Rattle.model.specs.claims.Meaning.{RanksInOrder, CriticalIsFirstOut}
 use Rattle.model.proofs.Tests.{decide, clash, both, first, second, and-false, not-not, or-cases, or-left}
 use Rattle.model.proofs.Tests.{or-right, neither, only-le, le-only, lt-yes, lt-no, eq-yes, eq-no, is-lt, not-lt}
 use Rattle.model.proofs.Tests.{is-eq, lt-or-le}
@@ -51,11 +51,11 @@ before-self Q a =
 
 -- no two guests have one key
 abbrev pub Distinct : Queue → Type 0
-Distinct Q = (k i : ℕ) → k < Q .guests → i < Q .guests → Q .key k ≡ Q .key i → k ≡ i
+Distinct Q = (k i : ℕ) → k < Q .guestCount → i < Q .guestCount → Q .key k ≡ Q .key i → k ≡ i
 
 module _ (Q : Queue) (D : Distinct Q) where
   pub before-total :
-      (k i : ℕ) → k < Q .guests → i < Q .guests → (k ≡ i → ⊥) → before Q k i ≡ false → before Q i k ≡ true
+      (k i : ℕ) → k < Q .guestCount → i < Q .guestCount → (k ≡ i → ⊥) → before Q k i ≡ false → before Q i k ≡ true
   before-total k i lk li ne e = is-before Q i k (go (decide (Q .total k <? Q .total i)) (decide (Q .key i <? Q .key k)))
     where
       neither : Ahead Q k i → ⊥
@@ -72,29 +72,29 @@ module _ (Q : Queue) (D : Distinct Q) where
           absurd (⊎-elim (λ p. ne (D k i lk li p)) (λ q. neither (inr (sym (equal (lt-no _ _ t)), q)))
           (eq-or-lt-of-le (lt-no _ _ s)))
 
--- a holder is a candidate, with a rank below the capacity
+-- a holder is a candidate, with a rank below the bays
 pub provisional-candidate : (Q : Queue) (i : ℕ) → provisional Q i ≡ true → Q .candidate i ≡ true
 unfolding provisional
 provisional-candidate Q i h = first _ _ h
 
-pub provisional-rank : (Q : Queue) (i : ℕ) → provisional Q i ≡ true → rank Q i < Q .capacity
+pub provisional-rank : (Q : Queue) (i : ℕ) → provisional Q i ≡ true → rank Q i < Q .bays
 unfolding provisional
 provisional-rank Q i h = lt-yes _ _ (second _ _ h)
 
-pub is-provisional : (Q : Queue) (i : ℕ) → Q .candidate i ≡ true → rank Q i < Q .capacity → provisional Q i ≡ true
+pub is-provisional : (Q : Queue) (i : ℕ) → Q .candidate i ≡ true → rank Q i < Q .bays → provisional Q i ≡ true
 unfolding provisional
 is-provisional Q i c r = both c (is-lt _ _ r)
 
 -- a candidate that stands before i has a lower rank
-pub rank-lt : (Q : Queue) (k i : ℕ) → k < Q .guests → Q .candidate k ≡ true → before Q k i ≡ true → rank Q k < rank Q i
+pub rank-lt : (Q : Queue) (k i : ℕ) → k < Q .guestCount → Q .candidate k ≡ true → before Q k i ≡ true → rank Q k < rank Q i
 unfolding rank
-rank-lt Q k i lk ck e = count-strict (Q .guests) _ _
+rank-lt Q k i lk ck e = count-strict (Q .guestCount) _ _
     (λ l ll p. both (first _ _ p) (before-trans Q l k i (second _ _ p) e))
     k lk (rw (before-self Q k) (and-false (Q .candidate k))) (both ck e)
 
 module _ (Q : Queue) (D : Distinct Q) where
   pub rank-single :
-      (k i : ℕ) → k < Q .guests → i < Q .guests → Q .candidate k ≡ true → Q .candidate i ≡ true
+      (k i : ℕ) → k < Q .guestCount → i < Q .guestCount → Q .candidate k ≡ true → Q .candidate i ≡ true
       → rank Q k ≡ rank Q i → k ≡ i
   rank-single k i lk li ck ci e = ⊎-elim
       (λ (p : (k =? i) ≡ true). eq-yes _ _ p)
@@ -105,62 +105,62 @@ module _ (Q : Queue) (D : Distinct Q) where
       (decide (k =? i))
 
   -- one candidate at most has rank b
-  pub at-most-one : (b : ℕ) → count (Q .guests) (λ k. Q .candidate k and rank Q k =? b) ≤ 1
-  at-most-one b = count-one (Q .guests) _ (λ k l lk ll p q.
+  pub at-most-one : (b : ℕ) → count (Q .guestCount) (λ k. Q .candidate k and rank Q k =? b) ≤ 1
+  at-most-one b = count-one (Q .guestCount) _ (λ k l lk ll p q.
       rank-single k l lk ll (first _ _ p) (first _ _ q) (eq-yes _ _ (second _ _ p) ∙ sym (eq-yes _ _ (second _ _ q))))
 
   -- a rank below b + 1 is below b, or is b
-  pub one-more : (b : ℕ) → count (Q .guests) (λ k. Q .candidate k and rank Q k <? suc b)
-      ≤ count (Q .guests) (λ k. Q .candidate k and rank Q k <? b)
-      + count (Q .guests) (λ k. Q .candidate k and rank Q k =? b)
-  one-more b = count-or (Q .guests) _ _ _ (λ k l p. ⊎-elim
+  pub one-more : (b : ℕ) → count (Q .guestCount) (λ k. Q .candidate k and rank Q k <? suc b)
+      ≤ count (Q .guestCount) (λ k. Q .candidate k and rank Q k <? b)
+      + count (Q .guestCount) (λ k. Q .candidate k and rank Q k =? b)
+  one-more b = count-or (Q .guestCount) _ _ _ (λ k l p. ⊎-elim
       (λ q. inr (both (first _ _ p) (is-eq _ _ q)))
       (λ q. inl (both (first _ _ p) (is-lt _ _ q)))
       (eq-or-lt-of-le (le-of-suc-le-suc (lt-yes _ _ (second _ _ p)))))
 
   -- no more than b candidates have a rank below b
-  pub few : (b : ℕ) → count (Q .guests) (λ k. Q .candidate k and rank Q k <? b) ≤ b
+  pub few : (b : ℕ) → count (Q .guestCount) (λ k. Q .candidate k and rank Q k <? b) ≤ b
   few zero =
-      let none : count (Q .guests) (λ k. Q .candidate k and rank Q k <? 0) ≡ 0 =
-      count-none (Q .guests) _ (λ k l p. let r : rank Q k < 0 = lt-yes _ _ (second _ _ p) in omega arith) in
+      let none : count (Q .guestCount) (λ k. Q .candidate k and rank Q k <? 0) ≡ 0 =
+      count-none (Q .guestCount) _ (λ k l p. let r : rank Q k < 0 = lt-yes _ _ (second _ _ p) in omega arith) in
       omega arith
   few (suc b) = omega (arith, few b, at-most-one b, one-more b)
 
-  -- so no more hold a place than there are capacity
-  pub winners-fit : count (Q .guests) (provisional Q) ≤ Q .capacity
+  -- so no more hold a place than there are bays
+  pub winners-fit : count (Q .guestCount) (provisional Q) ≤ Q .bays
   unfolding provisional
-  winners-fit = few (Q .capacity)
+  winners-fit = few (Q .bays)
 
 -- ---- the ranks are 0, 1, 2 .. without gaps
 
-rank-below : (Q : Queue) (k : ℕ) → k < Q .guests → Q .candidate k ≡ true → rank Q k < count (Q .guests) (Q .candidate)
+rank-below : (Q : Queue) (k : ℕ) → k < Q .guestCount → Q .candidate k ≡ true → rank Q k < count (Q .guestCount) (Q .candidate)
 unfolding rank
 rank-below Q k lk c =
-    count-strict (Q .guests) _ _ (λ l ll p. first _ _ p) k lk
+    count-strict (Q .guestCount) _ _ (λ l ll p. first _ _ p) k lk
     (ap (λ x. Q .candidate k and x) (before-self Q k) ∙ and-false (Q .candidate k)) c
 
-rank-counted : (Q : Queue) (k : ℕ) → rank Q k ≤ count (Q .guests) (λ l. Q .candidate l and rank Q l <? rank Q k)
+rank-counted : (Q : Queue) (k : ℕ) → rank Q k ≤ count (Q .guestCount) (λ l. Q .candidate l and rank Q l <? rank Q k)
 unfolding rank
 rank-counted Q k =
-    count-mono (Q .guests) _ _
+    count-mono (Q .guestCount) _ _
     (λ l ll p. both (first _ _ p) (is-lt _ _ (rank-lt Q l k ll (first _ _ p) (second _ _ p))))
 
 module _ (Q : Queue) (D : Distinct Q) (r : ℕ)
-    (missing : (k : ℕ) → k < Q .guests → (Q .candidate k and rank Q k =? r) ≡ false) where
+    (missing : (k : ℕ) → k < Q .guestCount → (Q .candidate k and rank Q k =? r) ≡ false) where
   -- were rank r missing, fewer than b candidates would have a rank below any b above r
-  fewer-below : (b : ℕ) → r < b → count (Q .guests) (λ k. Q .candidate k and rank Q k <? b) < b
+  fewer-below : (b : ℕ) → r < b → count (Q .guestCount) (λ k. Q .candidate k and rank Q k <? b) < b
   fewer-below zero l = absurd (omega arith)
   fewer-below (suc b) l = ⊎-elim
       (λ (e : r ≡ b).
-      let none : count (Q .guests) (λ k. Q .candidate k and rank Q k =? b) ≡ 0 = count-none (Q .guests) _
+      let none : count (Q .guestCount) (λ k. Q .candidate k and rank Q k =? b) ≡ 0 = count-none (Q .guestCount) _
       (λ k lk p. clash p (rw (← e) (missing k lk))) in
       omega (arith, few Q D b, one-more Q D b))
       (λ (q : r < b). omega (arith, fewer-below b q, one-more Q D b, at-most-one Q D b))
       (eq-or-lt-of-le (le-of-suc-le-suc l))
 
   -- and all candidates would have a rank below r
-  all-below : count (Q .guests) (Q .candidate) ≤ count (Q .guests) (λ k. Q .candidate k and rank Q k <? r)
-  all-below = count-mono (Q .guests) _ _ (λ k lk c. both c (is-lt _ _ (⊎-elim
+  all-below : count (Q .guestCount) (Q .candidate) ≤ count (Q .guestCount) (λ k. Q .candidate k and rank Q k <? r)
+  all-below = count-mono (Q .guestCount) _ _ (λ k lk c. both c (is-lt _ _ (⊎-elim
       (λ (l : rank Q k < r). l)
       (λ (l : r ≤ rank Q k). absurd (⊎-elim
       (λ (e : r ≡ rank Q k). clash (both c (is-eq _ _ (sym e))) (missing k lk))
@@ -170,12 +170,12 @@ module _ (Q : Queue) (D : Distinct Q) (r : ℕ)
 
 module _ (Q : Queue) (D : Distinct Q) where
   pub rank-taken :
-      (r : ℕ) → r < count (Q .guests) (Q .candidate)
-      → (k : ℕ) × (k < Q .guests) × (Q .candidate k ≡ true) × (rank Q k ≡ r)
+      (r : ℕ) → r < count (Q .guestCount) (Q .candidate)
+      → (k : ℕ) × (k < Q .guestCount) × (Q .candidate k ≡ true) × (rank Q k ≡ r)
   rank-taken r m = ⊎-elim
       (λ (k, lk, p). (k, lk, first _ _ p, eq-yes _ _ (second _ _ p)))
       (λ missing. absurd (omega (arith, few Q D r, all-below Q D r missing)))
-      (search-below (Q .guests) (λ k. Q .candidate k and rank Q k =? r))
+      (search-below (Q .guestCount) (λ k. Q .candidate k and rank Q k =? r))
 
   pub ranks-in-order : RanksInOrder Q
   ranks-in-order = record {
@@ -187,33 +187,33 @@ module _ (Q : Queue) (D : Distinct Q) where
 
   -- ---- the critical total is that of the first candidate without a place
 
-  first-out : (k : ℕ) → k < Q .guests → Q .candidate k ≡ true → rank Q k ≡ Q .capacity → critical Q ≡ Q .total k
+  first-out : (k : ℕ) → k < Q .guestCount → Q .candidate k ≡ true → rank Q k ≡ Q .bays → critical Q ≡ Q .total k
   unfolding critical
   first-out k lk c r = le-antisymm
-      (greatest-le (Q .guests) _ _
+      (greatest-le (Q .guestCount) _ _
       (λ l ll. only-le _ _ _ (λ p. after l ll (first _ _ p) (lt-no _ _ (not-true _ (second _ _ p))))))
       (le-trans (le-only _ _ (both c (not-not (not-lt _ _ (omega arith)))))
-      (le-greatest (Q .guests) (λ k. only (Q .candidate k and not (rank Q k <? Q .capacity)) (Q .total k)) k lk))
+      (le-greatest (Q .guestCount) (λ k. only (Q .candidate k and not (rank Q k <? Q .bays)) (Q .total k)) k lk))
     where
-      after : (l : ℕ) → l < Q .guests → Q .candidate l ≡ true → Q .capacity ≤ rank Q l → Q .total l ≤ Q .total k
+      after : (l : ℕ) → l < Q .guestCount → Q .candidate l ≡ true → Q .bays ≤ rank Q l → Q .total l ≤ Q .total k
       after l ll cl rl = ⊎-elim
           (λ (q : Q .total k < Q .total l). absurd (omega (arith, rank-lt Q l k ll cl (is-before Q l k (inl q)))))
           (λ q. q)
           (lt-or-le (Q .total k) (Q .total l))
 
-  zero-if-none : count (Q .guests) (Q .candidate) ≤ Q .capacity → critical Q ≡ 0
+  zero-if-none : count (Q .guestCount) (Q .candidate) ≤ Q .bays → critical Q ≡ 0
   unfolding critical
-  zero-if-none h = le-antisymm (greatest-le (Q .guests) _ 0 (λ k lk. only-le _ _ _ (λ p.
-      let r : Q .capacity ≤ rank Q k = lt-no _ _ (not-true _ (second _ _ p)) in
+  zero-if-none h = le-antisymm (greatest-le (Q .guestCount) _ 0 (λ k lk. only-le _ _ _ (λ p.
+      let r : Q .bays ≤ rank Q k = lt-no _ _ (not-true _ (second _ _ p)) in
       absurd (omega (arith, rank-below Q k lk (first _ _ p)))))) (omega arith)
 
-  pub critical-is-first-out : ((k : ℕ) → k < Q .guests → Q .candidate k ≡ true → 0 < Q .total k) → CriticalIsFirstOut Q
+  pub critical-is-first-out : ((k : ℕ) → k < Q .guestCount → Q .candidate k ≡ true → 0 < Q .total k) → CriticalIsFirstOut Q
   critical-is-first-out positive = record {
     first-out = first-out;
     zero-if-none = zero-if-none;
     none-if-zero = λ z. ⊎-elim
-        (λ (m : Q .capacity < count (Q .guests) (Q .candidate)).
-        let (k, lk, c, r) = rank-taken (Q .capacity) m in absurd (omega (arith, first-out k lk c r, positive k lk c)))
+        (λ (m : Q .bays < count (Q .guestCount) (Q .candidate)).
+        let (k, lk, c, r) = rank-taken (Q .bays) m in absurd (omega (arith, first-out k lk c r, positive k lk c)))
         (λ h. h)
-        (lt-or-le (Q .capacity) (count (Q .guests) (Q .candidate)));
+        (lt-or-le (Q .bays) (count (Q .guestCount) (Q .candidate)));
   }

@@ -17,11 +17,11 @@ use Rattle.model.proofs.market.Decisions.{Candidates, closed-sells-noth
 -- the market with other asks
 abbrev pub reask : Market → (ℕ → ℕ) → Market
 reask M a = record {
-  guests = M .guests;
-  stations = M .stations;
+  guestCount = M .guestCount;
+  stationCount = M .stationCount;
   position = M .position;
   ask = a;
-  capacity = M .capacity;
+  bays = M .bays;
   amount = M .amount;
   bid = M .bid;
   key = M .key;
@@ -32,16 +32,16 @@ cut-le-where-open : (M : Market) (a : ℕ → ℕ) (j : ℕ) → ((k : ℕ) → 
     → opens (reask M a) j ≡ true → cut (reask M a) ≤ cut M
 unfolding opens cut
 cut-le-where-open M a j alike o =
-    let bound : cut (reask M a) ≤ max (cut M) (a j) = greatest-le (M .stations) _ _
+    let bound : cut (reask M a) ≤ max (cut M) (a j) = greatest-le (M .stationCount) _ _
     (λ k lk. only-le _ _ _ (λ p. each k lk (lt-yes _ _ p))) in
     omega (arith, lt-yes _ _ o)
   where
-    each : (k : ℕ) → k < M .stations → count (M .stations) (λ x. a x <? a k) < M .position → a k ≤ max (cut M) (a j)
+    each : (k : ℕ) → k < M .stationCount → count (M .stationCount) (λ x. a x <? a k) < M .position → a k ≤ max (cut M) (a j)
     each k lk h = ⊎-elim
         (λ (above : a j < a k).
         let n : k ≡ j → ⊥ = λ e. let z : a k ≡ a j = ap a e in omega arith in
-        let fewer : count (M .stations) (λ x. M .ask x <? M .ask k) ≤ count (M .stations) (λ x. a x <? a k) =
-        count-mono (M .stations) _ _ (λ x lx p. ⊎-elim
+        let fewer : count (M .stationCount) (λ x. M .ask x <? M .ask k) ≤ count (M .stationCount) (λ x. a x <? a k) =
+        count-mono (M .stationCount) _ _ (λ x lx p. ⊎-elim
         (λ (e : x ≡ j). rw e (is-lt _ _ above))
         (λ (nx : x ≡ j → ⊥). rw (← alike x nx, ← alike k n) p)
         (eq-or-ne x j)) in
@@ -55,10 +55,10 @@ screen-same :
     → screen M ≡ screen (reask M a)
 unfolding screen
 screen-same M a c o = λ x. record {
-  guests = M .guests;
-  stations = M .stations;
+  guestCount = M .guestCount;
+  stationCount = M .stationCount;
   cut = c x;
-  capacity = M .capacity;
+  bays = M .bays;
   amount = M .amount;
   key = M .key;
   candidate = λ i k. o k x and c x ≤? M .bid i k;

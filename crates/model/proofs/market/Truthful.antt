@@ -9,17 +9,17 @@ use lib.ListN.{getD, length}
 use Rattle.model.specs.market.Market.{Tables, bidAt, Market, marketBy, byNumber, market, cut, opens, Screened}
 use Rattle.model.specs.market.Market.{screen, queue, provisional, critical}
 use Rattle.model.specs.market.Mechanism.{at, charge, charged, obtained, served, paid, surplus, truthful}
-use Rattle.model.specs.market.Outcome.{seen, decided}
+use Rattle.model.specs.market.Outcome.{screened, decision}
 use Rattle.model.specs.market.Faults.{Accepted}
 use Rattle.model.specs.market.Gains.{guestGain, stationGain}
-use Rattle.model.specs.claims.Readings.{NoBidRead, GainlessRead, RanksRead, CriticalReads, AssignedToBest}
-use Rattle.model.specs.claims.Readings.{AssignmentReads, NoLoss}
+use Rattle.model.specs.claims.Meaning.{ZeroBidIsNoCandidate, GainlessWithoutTrade, RanksCountUp}
+use Rattle.model.specs.claims.Meaning.{CriticalIsTotalOfFirstOut, AssignedToBest, AssignedAtBestPlace, NoLoss}
 use Rattle.model.proofs.Tests.{decide, eq-yes, lt-yes}
 use Rattle.model.proofs.Counting.{count-mono}
 use Rattle.model.proofs.market.Choice.{best-holds, best-best, best-lowest, best-none}
 use Rattle.model.proofs.market.Queues.{provisional-candidate, winners-fit, ranks-in-order, critical-is-first-out}
 use Rattle.model.proofs.market.Pivots.{critical-le}
-use Rattle.model.proofs.market.Acceptance.{accepted-reads}
+use Rattle.model.proofs.market.Acceptance.{accepted-iff-within-limits}
 use Rattle.model.proofs.market.Decisions.{Candidates, Fair, candidate-open, candidate-bid}
 
 -- no two of n guests have one key
@@ -36,7 +36,7 @@ assigned-to-best S i = record {
   nowhere = best-none _ _ _;
   somewhere = λ j e. best-holds _ _ _ j e;
   greatest = λ j k e lk p.
-      let (x, q, s) = best-best (S .stations) (λ j. provisional (queue S j) i) (surplus S i) k lk p in
+      let (x, q, s) = best-best (S .stationCount) (λ j. provisional (queue S j) i) (surplus S i) k lk p in
       let same : x ≡ j = let z : suc x ≡ suc j = sym q ∙ e in omega arith in
       rw same at s;
   lowest = λ j k e l p. best-lowest _ _ _ j k e l p;
@@ -51,23 +51,23 @@ truthful-candidates S i j li e = let (lj, h) = assigned-to-best S i .somewhere j
 
 -- a winner's total is at least the critical total
 pub critical-under :
-    (S : Screened) → Keys (S .key) (S .guests) → (i j : ℕ) → i < S .guests → provisional (queue S j) i ≡ true
+    (S : Screened) → Keys (S .key) (S .guestCount) → (i j : ℕ) → i < S .guestCount → provisional (queue S j) i ≡ true
     → (truthful S) .critical j ≤ S .total i j
 unfolding truthful queue
 critical-under S K i j li h = critical-le (queue S j) K i li h
 
-pub truthful-fair : (S : Screened) → Keys (S .key) (S .guests) → Fair S (truthful S)
+pub truthful-fair : (S : Screened) → Keys (S .key) (S .guestCount) → Fair S (truthful S)
 unfolding served queue
 truthful-fair S K = record {
   candidates = truthful-candidates S;
-  fits = λ j. le-trans (count-mono (S .guests) _ (provisional (queue S j))
+  fits = λ j. le-trans (count-mono (S .guestCount) _ (provisional (queue S j))
       (λ i li p. assigned-to-best S i .somewhere j (eq-yes _ _ p) .1)) (winners-fit (queue S j) K);
   under = λ i j li e. critical-under S K i j li (assigned-to-best S i .somewhere j e .1);
 }
 
 -- a winner is charged at most its total
 pub charge-held :
-    (M : Market) → Keys (M .key) (M .guests) → (i j : ℕ) → i < M .guests → provisional (queue (screen M) j) i ≡ true
+    (M : Market) → Keys (M .key) (M .guestCount) → (i j : ℕ) → i < M .guestCount → provisional (queue (screen M) j) i ≡ true
     → charge (screen M) (truthful (screen M)) i j ≤ M .bid i j * M .amount i
 unfolding charge screen
 charge-held M K i j li h =
@@ -79,46 +79,46 @@ charge-held M K i j li h =
 
 -- ---- how the definitions read
 
-pub no-bid-read : NoBidRead
-unfolding seen market marketBy opens
-no-bid-read t i j e = ⊎-elim
-    (λ (c : (seen t) .candidate i j ≡ true).
+pub zero-bid-is-no-candidate : ZeroBidIsNoCandidate
+unfolding screened market marketBy opens
+zero-bid-is-no-candidate t i j e = ⊎-elim
+    (λ (c : (screened t) .candidate i j ≡ true).
     let open-ask : getD (t .asks) j 0 < cut (market t) = lt-yes _ _ (candidate-open (market t) i j c) in
     absurd (omega (arith, candidate-bid (market t) i j c)))
     (λ c. c)
-    (decide ((seen t) .candidate i j))
+    (decide ((screened t) .candidate i j))
 
-pub gainless-read : GainlessRead
+pub gainless-without-trade : GainlessWithoutTrade
 unfolding guestGain stationGain obtained charged at paid
-gainless-read S D = record {
+gainless-without-trade S D = record {
   guest-gainless = λ w i e. rw e;
   station-gainless =
       λ cost j e. let z : S .cut * 0 ≡ 0 = omega arith in let c : cost * 0 ≡ 0 = omega arith in rw (e, z, c);
 }
 
-pub ranks-read : RanksRead
-unfolding seen screen market marketBy queue
-ranks-read t j = ranks-in-order (queue (seen t) j) (numbers-differ _)
+pub ranks-count-up : RanksCountUp
+unfolding screened screen market marketBy queue
+ranks-count-up t j = ranks-in-order (queue (screened t) j) (numbers-differ _)
 
 -- in an accepted market a candidate's total is not 0
 total-positive :
-    (t : Tables) → Accepted t → (i j : ℕ) → i < length (t .amounts) → (seen t) .candidate i j ≡ true
-    → 0 < (seen t) .total i j
-unfolding seen screen market marketBy opens
+    (t : Tables) → Accepted t → (i j : ℕ) → i < length (t .amounts) → (screened t) .candidate i j ≡ true
+    → 0 < (screened t) .total i j
+unfolding screened screen market marketBy opens
 total-positive t a i j li c =
     let open-ask : getD (t .asks) j 0 < cut (market t) = lt-yes _ _ (candidate-open (market t) i j c) in
     let bid : 1 ≤ bidAt t i j = omega (arith, candidate-bid (market t) i j c) in
-    omega (arith, accepted-reads t .0 a .amount-least i li, mul-le-mul-right (getD (t .amounts) i 0) bid)
+    omega (arith, accepted-iff-within-limits t .0 a .amount-least i li, mul-le-mul-right (getD (t .amounts) i 0) bid)
 
-pub critical-reads : CriticalReads
-unfolding seen screen market marketBy queue
-critical-reads t a j =
-    critical-is-first-out (queue (seen t) j) (numbers-differ _) (λ i li c. total-positive t a i j li c)
+pub critical-is-total-of-first-out : CriticalIsTotalOfFirstOut
+unfolding screened screen market marketBy queue
+critical-is-total-of-first-out t a j =
+    critical-is-first-out (queue (screened t) j) (numbers-differ _) (λ i li c. total-positive t a i j li c)
 
-pub assignment-reads : AssignmentReads
-unfolding decided
-assignment-reads t i = assigned-to-best (seen t) i
+pub assigned-at-best-place : AssignedAtBestPlace
+unfolding decision
+assigned-at-best-place t i = assigned-to-best (screened t) i
 
 pub no-loss : NoLoss
-unfolding surplus charge seen decided screen market marketBy truthful
+unfolding surplus charge screened decision screen market marketBy truthful
 no-loss t i j li h = omega (arith, charge-held (market t) (numbers-differ _) i j li h)

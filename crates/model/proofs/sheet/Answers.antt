@@ -4,8 +4,8 @@ use mathlib.Core.List.{List}
 use mathlib.Core.Path.{_≡_, refl, sym, ap, ap₂, _∙_}
 use Rattle.model.specs.declared.refusal.Refusal.{Refusal}
 use Rattle.model.specs.Numbers.{number, answerOfReading}
-use Rattle.model.specs.Refusals.{Verdict, accepted, refused, firstFault, giving}
-use Rattle.model.proofs.Refusals.{giving-accepted, giving-refused, gave-accepted, gave-refused}
+use Rattle.model.specs.Verdicts.{Verdict, accepted, refused, firstFault, giving}
+use Rattle.model.proofs.Verdicts.{giving-accepted, giving-refused, gave-accepted, gave-refused}
 use Rattle.model.specs.sheet.Content.{guests, stations, sheetFaults}
 use Rattle.model.specs.declared.answers.Reading.the-variants.{Read, Refused}
 use Rattle.model.specs.declared.answers.Reading.{Reading}

@@ -8,11 +8,11 @@ use lib.ListN.{length}
 use Rattle.model.specs.Limits.{maxGuests, maxStations}
 use Rattle.model.specs.Counting.{_<?_, _=?_, _or_}
 use Rattle.model.specs.market.Faults.{counts}
-use Rattle.model.specs.Refusals.{_gives_, accepted, refused, firstFault}
+use Rattle.model.specs.Verdicts.{_gives_, accepted, refused, firstFault}
 use Rattle.model.proofs.market.Acceptance.{counted}
 use Rattle.model.proofs.Tests.{lt-no, is-lt, not-lt, not-eq, neither}
-use Rattle.model.proofs.Refusals.{fault-here, fault-later, fault-none, no-fault, fault-first, fault-second}
-use Rattle.model.proofs.Refusals.{no-faults}
+use Rattle.model.proofs.Verdicts.{fault-here, fault-later, fault-none, no-fault, fault-first, fault-second}
+use Rattle.model.proofs.Verdicts.{no-faults}
 use Rattle.model.specs.sheet.Rows.{rowAt, rowsFaults}
 use Rattle.model.proofs.sheet.Rows.{first-row}
 use Rattle.model.proofs.sheet.Fields.{narrow}

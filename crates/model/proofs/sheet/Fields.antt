@@ -14,31 +14,31 @@ use borrow.Author.Tests.{lt-ltb, le-ltb}
 use Rattle.model.specs.Counting.{_<?_, _=?_, only, count}
 use Rattle.model.proofs.Counting.{count-start, count-cong, count-front}
 use Rattle.model.proofs.Tests.{decide, lt-or-le, eq-yes, eq-no, only-yes, only-no}
-use Rattle.model.specs.sheet.Fields.{number, hasBit}
+use Rattle.model.specs.sheet.Fields.{littleEndian, hasBit}
 
 -- ---- numbers
 
-pub number-none : (s : List ℕ) (p k : ℕ) → 0 ≡ number s p (k - k)
-unfolding number
+pub number-none : (s : List ℕ) (p k : ℕ) → 0 ≡ littleEndian s p (k - k)
+unfolding littleEndian
 number-none s p k = let e : k - k ≡ 0 = omega arith in rw e refl
 
 -- one turn of the loop that goes down from the highest byte
-pub number-turn : (s : List ℕ) (at left k x b : ℕ) → 0 < left → left ≤ k → x ≡ number s (at + left) (k - left)
-    → b ≡ getD s (at + (left - 1)) 0 → x * 256 + b ≡ number s (at + (left - 1)) (k - (left - 1))
-unfolding number
+pub number-turn : (s : List ℕ) (at left k x b : ℕ) → 0 < left → left ≤ k → x ≡ littleEndian s (at + left) (k - left)
+    → b ≡ getD s (at + (left - 1)) 0 → x * 256 + b ≡ littleEndian s (at + (left - 1)) (k - (left - 1))
+unfolding littleEndian
 number-turn s at left k x b h l e f =
     let e1 : k - (left - 1) ≡ suc (k - left) = omega arith in
     let e2 : at + (left - 1) + 1 ≡ at + left = omega arith in
     rw (e1, e2) (omega arith)
 
-pub number-end : (s : List ℕ) (at left k x : ℕ) → left ≤ 0 → x ≡ number s (at + left) (k - left) → x ≡ number s at k
+pub number-end : (s : List ℕ) (at left k x : ℕ) → left ≤ 0 → x ≡ littleEndian s (at + left) (k - left) → x ≡ littleEndian s at k
 number-end s at left k x h e =
     let e1 : at + left ≡ at = omega arith in
     let e2 : k - left ≡ k = omega arith in
     rw (e1, e2) at e
 
-pub number-low : (s : List ℕ) → ((i : ℕ) → getD s i 0 < 256) → (p k : ℕ) → number s p k < 256 ^ k
-unfolding number
+pub number-low : (s : List ℕ) → ((i : ℕ) → getD s i 0 < 256) → (p k : ℕ) → littleEndian s p k < 256 ^ k
+unfolding littleEndian
 number-low s h p zero = omega arith
 number-low s h p (suc k) = omega (arith, number-low s h (p + 1) k, h p)
 
@@ -48,16 +48,16 @@ bytes-pow (suc k) =
     let e : 8 * suc k ≡ 8 + 8 * k = omega arith in rw e (pow-add 2 8 (8 * k) ∙ omega (arith, bytes-pow k))
 
 -- what a 64-bit word holds of a map while it is read
-pub number-four : (s : List ℕ) → ((i : ℕ) → getD s i 0 < 256) → (p k : ℕ) → k ≤ 4 → number s p k < 4294967296
+pub number-four : (s : List ℕ) → ((i : ℕ) → getD s i 0 < 256) → (p k : ℕ) → k ≤ 4 → littleEndian s p k < 4294967296
 number-four s h p k l = omega (arith, number-low s h p k, bytes-pow k, pow-mono {i = 8 * k} {j = 32} (omega arith))
 
-pub number-halves : (s : List ℕ) (p a b : ℕ) → a ≡ number s p 2 → b ≡ number s (p + 2) 2 → a + 65536 * b ≡ number s p 4
-unfolding number
+pub number-halves : (s : List ℕ) (p a b : ℕ) → a ≡ littleEndian s p 2 → b ≡ littleEndian s (p + 2) 2 → a + 65536 * b ≡ littleEndian s p 4
+unfolding littleEndian
 number-halves s p a b e f =
     let e1 : p + 1 + 1 ≡ p + 2 = omega arith in
     rw e1 (omega arith)
 
-pub moved : (s : List ℕ) (k p q : ℕ) {v : ℕ} → v ≡ number s p k → p ≡ q → v ≡ number s q k
+pub moved : (s : List ℕ) (k p q : ℕ) {v : ℕ} → v ≡ littleEndian s p k → p ≡ q → v ≡ littleEndian s q k
 moved s k p q e f = rw (← f) e
 
 -- the code subtracts where the definition adds

@@ -12,7 +12,7 @@ use lib.Seq.{ext-getD}
 use Rattle.model.specs.Counting.{_=?_, only, joined}
 use Rattle.model.proofs.Counting.{up, here}
 use Rattle.model.proofs.Tests.{is-eq, not-eq, only-le}
-use Rattle.model.specs.sheet.Fields.{number, mapWidth, hasBit}
+use Rattle.model.specs.sheet.Fields.{littleEndian, mapWidth, hasBit}
 use Rattle.model.proofs.sheet.Fields.{bytes-pow, bit-is, next-bit}
 use Rattle.model.specs.sheet.Layout.{bytesOf, pack, Bytes}
 
@@ -73,13 +73,13 @@ unfolding bytesOf
 bytes-length zero x = refl
 bytes-length (suc k) x = ap suc (bytes-length k (x / 256))
 
-pub holds-number : (s : List ℕ) (p k x : ℕ) → x < 256 ^ k → Holds s p (bytesOf k x) → number s p k ≡ x
-unfolding bytesOf number
+pub holds-number : (s : List ℕ) (p k x : ℕ) → x < 256 ^ k → Holds s p (bytesOf k x) → littleEndian s p k ≡ x
+unfolding bytesOf littleEndian
 holds-number s p zero x h g = omega arith
 holds-number s p (suc k) x h g = omega (arith, g .0, holds-number s (p + 1) k (x / 256) (omega arith) (g .1))
 
-pub number-holds : (s : List ℕ) → Bytes s → (p k x : ℕ) → number s p k ≡ x → Holds s p (bytesOf k x)
-unfolding bytesOf number
+pub number-holds : (s : List ℕ) → Bytes s → (p k x : ℕ) → littleEndian s p k ≡ x → Holds s p (bytesOf k x)
+unfolding bytesOf littleEndian
 number-holds s b p zero x e = tt
 number-holds s b p (suc k) x e = (omega (arith, b p), number-holds s b (p + 1) k (x / 256) (omega (arith, b p)))
 

@@ -1,4 +1,4 @@
--- Laws of rows: their faults, one by one and all together, and what their absence gives.
+-- Laws of rows: their faults, one by one and all sumAll, and what their absence gives.
 use Prim.Native.Nat.{ℕ, zero, suc, _+_, _*_, _/_, _^_, _≤_, _<_}
 use mathlib.Core.List.{List, [], _∷_}
 use mathlib.Core.Logic.{⊎-elim}
@@ -8,10 +8,10 @@ use native.Mathlib.Numerals.{add-one}
 use native.Mathlib.Omega.{arith}
 use lib.ListN.{length}
 use Rattle.model.specs.Counting.{_<?_, count, joined}
-use Rattle.model.specs.Refusals.{_gives_, accepted, refused, firstFault}
+use Rattle.model.specs.Verdicts.{_gives_, accepted, refused, firstFault}
 use Rattle.model.proofs.Tests.{lt-no, is-lt, not-lt}
-use Rattle.model.proofs.Refusals.{fault-here, fault-later, fault-none, no-fault, fault-first, fault-second}
-use Rattle.model.proofs.Refusals.{no-faults}
+use Rattle.model.proofs.Verdicts.{fault-here, fault-later, fault-none, no-fault, fault-first, fault-second}
+use Rattle.model.proofs.Verdicts.{no-faults}
 use Rattle.model.specs.sheet.Fields.{mapWidth, hasBit}
 use Rattle.model.specs.sheet.Rows.{mapAt, bidsAt, nextAt, rowAt, rowFaults, rowsFaults}
 use Rattle.model.proofs.sheet.Fields.{narrow, wide, count-narrow}

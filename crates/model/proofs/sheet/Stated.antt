@@ -9,7 +9,7 @@ use Rattle.model.specs.Counting.{only, sum, count, joined}
 use Rattle.model.specs.market.Market.{Tables, bidAt}
 use Rattle.model.proofs.Counting.{count-start}
 use Rattle.model.proofs.Tests.{clash}
-use Rattle.model.specs.sheet.Fields.{number, mapWidth, hasBit}
+use Rattle.model.specs.sheet.Fields.{littleEndian, mapWidth, hasBit}
 use Rattle.model.specs.sheet.Rows.{mapAt, bidsAt, nextAt, rowAt}
 use Rattle.model.proofs.sheet.Rows.{first-row, bids-at}
 use Rattle.model.specs.sheet.Content.{guests, stations}
@@ -41,13 +41,13 @@ stated-length true x = bytes-length 4 x
 stated-length false x = refl
 
 stated-holds :
-    (s : List ℕ) → Bytes s → (p : ℕ) (b : Bool) (x : ℕ) → (b ≡ true → number s p 4 ≡ x) → Holds s p (stated b x)
+    (s : List ℕ) → Bytes s → (p : ℕ) (b : Bool) (x : ℕ) → (b ≡ true → littleEndian s p 4 ≡ x) → Holds s p (stated b x)
 unfolding stated
 stated-holds s y p true x h = number-holds s y p 4 x (h refl)
 stated-holds s y p false x h = tt
 
 holds-stated :
-    (s : List ℕ) (p : ℕ) (b : Bool) (x : ℕ) → x < 256 ^ 4 → b ≡ true → Holds s p (stated b x) → number s p 4 ≡ x
+    (s : List ℕ) (p : ℕ) (b : Bool) (x : ℕ) → x < 256 ^ 4 → b ≡ true → Holds s p (stated b x) → littleEndian s p 4 ≡ x
 unfolding stated
 holds-stated s p true x f e h = holds-number s p 4 x f h
 holds-stated s p false x f e h = absurd (clash e refl)
@@ -72,7 +72,7 @@ module _ (s : List ℕ) (m x q : ℕ) (b : ℕ → Bool) (v : ℕ → ℕ) (e : 
       omega (arith, first-bid, joined-place s (λ j. q + 4 * count j (hasBit x)) (λ j. stated (b j) (v j)) m bid-step)
 
   bids-hold :
-      Bytes s → ((j : ℕ) → j < m → b j ≡ true → number s (q + 4 * count j (hasBit x)) 4 ≡ v j)
+      Bytes s → ((j : ℕ) → j < m → b j ≡ true → littleEndian s (q + 4 * count j (hasBit x)) 4 ≡ v j)
       → Holds s q (joined m (λ j. stated (b j) (v j)))
   bids-hold y h =
       rw first-bid at (joined-holds s (λ j. q + 4 * count j (hasBit x)) (λ j. stated (b j) (v j)) m bid-step
@@ -80,7 +80,7 @@ module _ (s : List ℕ) (m x q : ℕ) (b : ℕ → Bool) (v : ℕ → ℕ) (e : 
 
   bids-held :
       ((j : ℕ) → j < m → v j < 256 ^ 4) → Holds s q (joined m (λ j. stated (b j) (v j))) → (j : ℕ) → j < m → b j ≡ true
-      → number s (q + 4 * count j (hasBit x)) 4 ≡ v j
+      → littleEndian s (q + 4 * count j (hasBit x)) 4 ≡ v j
   bids-held f h j l c =
       holds-stated s _ (b j) (v j) (f j l) c (joined-each s (λ j. q + 4 * count j (hasBit x)) (λ j. stated (b j) (v j))
       m (λ j l _. bid-step j l) (rw first-bid h) j l)
@@ -99,9 +99,9 @@ module _ (t : Tables) (set : ℕ → ℕ → Bool) (s : List ℕ) (i p : ℕ) wh
       simp length-append (omega
       (arith, amount-long, map-long, bids-place s (m t) (mapAt s (m t) p) (bidsAt (m t) p) (set i) (bidAt t i) e))
 
-  row-holds : Bytes s → number s p 2 ≡ getD (t .amounts) i 0 → mapAt s (m t) p ≡ pack (m t) (set i)
+  row-holds : Bytes s → littleEndian s p 2 ≡ getD (t .amounts) i 0 → mapAt s (m t) p ≡ pack (m t) (set i)
       → ((j : ℕ) → j < m t → set i j ≡ true
-      → number s (bidsAt (m t) p + 4 * count j (hasBit (mapAt s (m t) p))) 4 ≡ bidAt t i j)
+      → littleEndian s (bidsAt (m t) p + 4 * count j (hasBit (mapAt s (m t) p))) 4 ≡ bidAt t i j)
       → Holds s p (row t set i)
   unfolding row mapAt
   row-holds y a e h =
@@ -111,7 +111,7 @@ module _ (t : Tables) (set : ℕ → ℕ → Bool) (s : List ℕ) (i p : ℕ) wh
       (bids-hold s (m t) (mapAt s (m t) p) (bidsAt (m t) p) (set i) (bidAt t i) e y h))
 
   module _ (h : Holds s p (row t set i)) where
-    row-amount : getD (t .amounts) i 0 < 256 ^ 2 → number s p 2 ≡ getD (t .amounts) i 0
+    row-amount : getD (t .amounts) i 0 < 256 ^ 2 → littleEndian s p 2 ≡ getD (t .amounts) i 0
     unfolding row
     row-amount f = holds-number s p 2 _ f (holds-left s p (amountBytes t i) _ h)
 
@@ -127,7 +127,7 @@ module _ (t : Tables) (set : ℕ → ℕ → Bool) (s : List ℕ) (i p : ℕ) wh
 
     row-bids : ((j : ℕ) → j < m t → bidAt t i j < 256 ^ 4)
         → (j : ℕ) → j < m t → set i j ≡ true
-        → number s (bidsAt (m t) p + 4 * count j (hasBit (mapAt s (m t) p))) 4 ≡ bidAt t i j
+        → littleEndian s (bidsAt (m t) p + 4 * count j (hasBit (mapAt s (m t) p))) 4 ≡ bidAt t i j
     row-bids f = bids-held s (m t) (mapAt s (m t) p) (bidsAt (m t) p) (set i) (bidAt t i) row-map f
         (holds-next s (p + 2) (bidsAt (m t) p) (mapBytes t set i) _ map-long after-amount)
 
@@ -142,14 +142,14 @@ module _ (t : Tables) (s : List ℕ) (j p : ℕ) where
   ask-long = omega (arith, bytes-length 4 (getD (t .asks) j 0))
 
   station-holds :
-      Bytes s → number s p 4 ≡ getD (t .asks) j 0 → number s (p + 4) 2 ≡ getD (t .bays) j 0 → Holds s p (station t j)
+      Bytes s → littleEndian s p 4 ≡ getD (t .asks) j 0 → littleEndian s (p + 4) 2 ≡ getD (t .bays) j 0 → Holds s p (station t j)
   unfolding station
   station-holds y a b =
       holds-then s p (p + 4) (askBytes t j) _ (number-holds s y p 4 _ a) ask-long (number-holds s y (p + 4) 2 _ b)
 
   station-held :
       getD (t .asks) j 0 < 256 ^ 4 → getD (t .bays) j 0 < 256 ^ 2 → Holds s p (station t j)
-      → (number s p 4 ≡ getD (t .asks) j 0) × (number s (p + 4) 2 ≡ getD (t .bays) j 0)
+      → (littleEndian s p 4 ≡ getD (t .asks) j 0) × (littleEndian s (p + 4) 2 ≡ getD (t .bays) j 0)
   unfolding station
   station-held f g h = (
     holds-number s p 4 _ f (holds-left s p (askBytes t j) _ h),
@@ -160,12 +160,12 @@ module _ (t : Tables) (s : List ℕ) (j p : ℕ) where
 pub record Fields (s : List ℕ) (t : Tables) (set : ℕ → ℕ → Bool) : Type 0 where
   pub n-is : guests s ≡ n t
   pub m-is : stations s ≡ m t
-  pub ask-is : (j : ℕ) → j < m t → number s (4 + 6 * j) 4 ≡ getD (t .asks) j 0
-  pub bays-are : (j : ℕ) → j < m t → number s (8 + 6 * j) 2 ≡ getD (t .bays) j 0
-  pub amount-is : (i : ℕ) → i < n t → number s (rowAt s (m t) i) 2 ≡ getD (t .amounts) i 0
+  pub ask-is : (j : ℕ) → j < m t → littleEndian s (4 + 6 * j) 4 ≡ getD (t .asks) j 0
+  pub bays-are : (j : ℕ) → j < m t → littleEndian s (8 + 6 * j) 2 ≡ getD (t .bays) j 0
+  pub amount-is : (i : ℕ) → i < n t → littleEndian s (rowAt s (m t) i) 2 ≡ getD (t .amounts) i 0
   pub map-is : (i : ℕ) → i < n t → mapAt s (m t) (rowAt s (m t) i) ≡ pack (m t) (set i)
   pub bid-is : (i j : ℕ) → i < n t → j < m t → set i j ≡ true
-      → number s (bidsAt (m t) (rowAt s (m t) i) + 4 * count j (hasBit (mapAt s (m t) (rowAt s (m t) i)))) 4
+      → littleEndian s (bidsAt (m t) (rowAt s (m t) i) + 4 * count j (hasBit (mapAt s (m t) (rowAt s (m t) i)))) 4
       ≡ bidAt t i j
   pub end : rowAt s (m t) (n t) ≡ length s
 
@@ -224,7 +224,7 @@ module _ (s : List ℕ) (t : Tables) (set : ℕ → ℕ → Bool) where
 
     station-at :
         (j : ℕ) → j < m t
-        → (number s (4 + 6 * j) 4 ≡ getD (t .asks) j 0) × (number s (4 + 6 * j + 4) 2 ≡ getD (t .bays) j 0)
+        → (littleEndian s (4 + 6 * j) 4 ≡ getD (t .asks) j 0) × (littleEndian s (4 + 6 * j + 4) 2 ≡ getD (t .bays) j 0)
     station-at j l = station-held t s j (4 + 6 * j) (g .ask-fits j l) (g .bays-fit j l)
         (joined-each s (λ j. 4 + 6 * j) (station t) (m t) (λ j _ _. six j)
         (holds-left s 4 (joined (m t) (station t)) _ from-4) j l)

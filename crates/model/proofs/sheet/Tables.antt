@@ -7,11 +7,11 @@ use native.Mathlib.Omega.{arith}
 use lib.ListN.{length}
 use lib.Seq.{paste}
 use Rattle.model.specs.Counting.{_=?_, _or_, list, joined}
-use Rattle.model.specs.Refusals.{_gives_, accepted, refused, firstFault}
+use Rattle.model.specs.Verdicts.{_gives_, accepted, refused, firstFault}
 use Rattle.model.proofs.market.Acceptance.{product-fits}
 use Rattle.model.proofs.Tests.{eq-yes, or-no}
-use Rattle.model.proofs.Refusals.{fault-here, fault-later, giving-accepted, giving-refused, updated-accepted}
-use Rattle.model.proofs.Refusals.{updated-refused}
+use Rattle.model.proofs.Verdicts.{fault-here, fault-later, giving-accepted, giving-refused, updated-accepted}
+use Rattle.model.proofs.Verdicts.{updated-refused}
 use Rattle.model.specs.Numbers.{number, answerOfReading}
 use Rattle.model.specs.declared.refusal.Refusal.{Refusal}
 use Rattle.model.specs.declared.refusal.Refusal.the-variants.{LentLengths}

@@ -11,11 +11,11 @@ use lib.ListN.{length, getD, List·getD-append}
 use lib.Seq.{ext-getD, getD-append-add}
 use Rattle.model.specs.Counting.{only, list, joined}
 use Rattle.model.specs.market.Market.{Tables, bidAt}
-use Rattle.model.specs.Refusals.{accepted, firstFault}
-use Rattle.model.proofs.Refusals.{giving-accepted, gave-accepted}
+use Rattle.model.specs.Verdicts.{accepted, firstFault}
+use Rattle.model.proofs.Verdicts.{giving-accepted, gave-accepted}
 use Rattle.model.proofs.Counting.{up, here, length-list, getD-list}
 use Rattle.model.proofs.Tests.{decide, only-le, only-yes, only-no}
-use Rattle.model.specs.sheet.Fields.{number, hasBit}
+use Rattle.model.specs.sheet.Fields.{littleEndian, hasBit}
 use Rattle.model.specs.sheet.Rows.{mapAt, bidsAt, nextAt, rowAt, askOf, baysOf, amountOf, bidBy, bidOf}
 use Rattle.model.specs.sheet.Rows.{rowsFaults}
 use Rattle.model.proofs.sheet.Rows.{bids-at, RowSound, sound-row, sound-at, rows-none, rows-suc, first-row}
@@ -117,9 +117,9 @@ module _ (s : List ℕ) (t : Tables) (set : ℕ → ℕ → Bool) (g : Fitting t
     tables-same : tablesOf s ≡ t
     unfolding tablesOf askOf baysOf amountOf bidAt
     tables-same = rw (f .n-is, f .m-is) (λ x. record {
-      asks = list-is (m t) (λ j. number s (4 + 6 * j) 4) (t .asks) refl (f .ask-is) x;
-      bays = list-is (m t) (λ j. number s (8 + 6 * j) 2) (t .bays) (g .shape .bays-length) (f .bays-are) x;
-      amounts = list-is (n t) (λ i. number s (rowAt s (m t) i) 2) (t .amounts) refl (f .amount-is) x;
+      asks = list-is (m t) (λ j. littleEndian s (4 + 6 * j) 4) (t .asks) refl (f .ask-is) x;
+      bays = list-is (m t) (λ j. littleEndian s (8 + 6 * j) 2) (t .bays) (g .shape .bays-length) (f .bays-are) x;
+      amounts = list-is (n t) (λ i. littleEndian s (rowAt s (m t) i) 2) (t .amounts) refl (f .amount-is) x;
       bids = joined-is (n t) (m t) (bidOf s (m t)) (t .bids) (g .shape .stations-least) (g .shape .bids-length) bid-same x;
       width = sym (g .shape .width-is) x;
     })
@@ -140,9 +140,9 @@ record Is (s : List ℕ) (t : Tables) : Type 0 where
   pub width-is : t .width ≡ m t
   pub bays-long : length (t .bays) ≡ m t
   pub bids-long : length (t .bids) ≡ n t * m t
-  pub ask-at : (j : ℕ) → j < m t → getD (t .asks) j 0 ≡ number s (4 + 6 * j) 4
-  pub bays-at : (j : ℕ) → j < m t → getD (t .bays) j 0 ≡ number s (8 + 6 * j) 2
-  pub amount-at : (i : ℕ) → i < n t → getD (t .amounts) i 0 ≡ number s (rowAt s (m t) i) 2
+  pub ask-at : (j : ℕ) → j < m t → getD (t .asks) j 0 ≡ littleEndian s (4 + 6 * j) 4
+  pub bays-at : (j : ℕ) → j < m t → getD (t .bays) j 0 ≡ littleEndian s (8 + 6 * j) 2
+  pub amount-at : (i : ℕ) → i < n t → getD (t .amounts) i 0 ≡ littleEndian s (rowAt s (m t) i) 2
   pub bid-at : (i j : ℕ) → i < n t → j < m t → bidAt t i j ≡ bidOf s (m t) i j
 
 tables-are : (s : List ℕ) → Is s (tablesOf s)
@@ -218,10 +218,10 @@ read-states s t y e =
 
 -- ---- the two statements
 
-pub reads-exactly : ReadsExactlyWhatIsStated
-reads-exactly s t y = (read-states s t y, states-read s t)
+pub reads-exactly-what-is-stated : ReadsExactlyWhatIsStated
+reads-exactly-what-is-stated s t y = (read-states s t y, states-read s t)
 
-pub states-one : StatesOneMarket
-states-one s t u a b =
+pub states-one-market : StatesOneMarket
+states-one-market s t u a b =
     let e : accepted t ≡ accepted u = sym (states-read s t a) ∙ states-read s u b in
     let f : t ≡ u = cc in f

@@ -1,31 +1,47 @@
--- Document 01's book, and a round entered in it.
-use Prim.Native.Nat.{ℕ, _+_}
+-- The book as it is listLengths: the station accounts are a row of records.
+use Prim.Native.Nat.{ℕ}
+use mathlib.Core.List.{List, map}
+use lib.ListN.{getD}
+use Rattle.model.specs.declared.account.StationAccount.{StationAccount}
+use Prim.Native.Nat.{ℕ}
 use mathlib.Core.List.{List}
-use lib.ListN.{getD, length}
-use Rattle.model.specs.Counting.{_<?_, only, list}
-use Rattle.model.specs.market.Market.{Tables}
-use Rattle.model.specs.market.Mechanism.{charged, sold, paid, margin}
-use Rattle.model.specs.market.Outcome.{seen, decided}
+use mathlib.Core.Path.{_≡_}
+use lib.ListN.{replicate}
+use Rattle.model.specs.book.PlainBook.{PlainBook}
 
--- document 01's book: a number for each guest account, kWh sold and money paid for each station account (two lists of
--- one length), the house's, the last round
+abbrev pub account : (sold paid : ℕ) → StationAccount
+account sold paid = record { sold = sold; paid = paid }
+
+-- station j's account
+abbrev pub accountAt : List StationAccount → ℕ → StationAccount
+accountAt l j = getD l j (account 0 0)
+
+-- each record's kWh sold, and each one's money paid
+unfoldable pub soldOf : List StationAccount → List ℕ
+soldOf l = map (λ (a : StationAccount). a .sold) l
+
+unfoldable pub paidOf : List StationAccount → List ℕ
+paidOf l = map (λ (a : StationAccount). a .paid) l
+
 pub record Book : Type 0 where
   pub guests : List ℕ
-  pub sold : List ℕ
-  pub paid : List ℕ
+  pub stations : List StationAccount
   pub house : ℕ
   pub last : ℕ
 
--- xs with f k added at each place k below n; the places beyond stay
-unfoldable pub raised : ℕ → (ℕ → ℕ) → List ℕ → List ℕ
-raised n f xs = list (length xs) (λ k. getD xs k 0 + only (k <? n) (f k))
+abbrev pub book : (guests : List ℕ) (stations : List StationAccount) (house last : ℕ) → Book
+book guests stations house last = record { guests = guests; stations = stations; house = house; last = last }
 
--- the book with a cleared market entered as a round
-unfoldable pub entered : Tables → (round : ℕ) → Book → Book
-entered t round B = record {
-  guests = raised (length (t .amounts)) (charged (seen t) (decided t)) (B .guests);
-  sold = raised (length (t .asks)) (sold (seen t) (decided t)) (B .sold);
-  paid = raised (length (t .asks)) (paid (seen t) (decided t)) (B .paid);
-  house = B .house + margin (seen t) (decided t);
-  last = round;
-}
+-- a book of g guest and s station accounts, all 0
+unfoldable pub emptyBook : (g s : ℕ) → Book
+emptyBook g s = book (replicate g 0) (replicate s (account 0 0)) 0 0
+
+-- the plain book with the same numbers
+unfoldable pub plain : Book → PlainBook
+plain B =
+    record
+    { guests = B .guests; sold = soldOf (B .stations); paid = paidOf (B .stations); house = B .house; last = B .last }
+
+-- it leaves nothing of the listLengths book out
+abbrev pub PlainDetermines : Type 0
+PlainDetermines = (B C : Book) → plain B ≡ plain C → B ≡ C

@@ -1,49 +1,103 @@
--- Document 01's plain book: whole numbers, fed each posting's arguments and nothing of the engine's.
+-- Document 01's plain book: whole numbers, fed each posting's arguments and nothing of the engine's. Its faults are a
+-- table in the order of 'Refusals by place'.
+use Prim.Native.Nat.{ℕ, _+_}
+use mathlib.Core.List.{List}
+use lib.ListN.{getD, length}
+use Rattle.model.specs.Counting.{_<?_, only, list, _≤?_, _=?_, _or_, any, sum}
+use Rattle.model.specs.market.Market.{Tables}
+use Rattle.model.specs.market.Mechanism.{charged, sold, paid, margin}
+use Rattle.model.specs.market.Outcome.{screened, decision}
+use Prim.Native.Nat.{ℕ, _+_}
+use mathlib.Core.Bool.{Bool, not}
+use mathlib.Core.List.{List, [], _∷_, _++_}
+use lib.ListN.{length}
+use Rattle.model.specs.Limits.{maxGuests, maxStations, maxAccount, maxRound}
+use Rattle.model.specs.Verdicts.{Row, _gives_, Verdict, accepted, refused, firstFault, updated}
+use Rattle.model.specs.market.Faults.{outside, marketFaults}
 use Prim.Native.Nat.{ℕ, _+_}
 use mathlib.Core.List.{List, [], _∷_}
 use lib.ListN.{getD, length, replicate}
-use Rattle.model.specs.Counting.{sum}
-use Rattle.model.specs.Refusals.{Verdict, accepted, refused, firstFault, updated}
-use Rattle.model.specs.book.Book.{Book, entered}
-use Rattle.model.specs.book.Faults.{postingFaults}
 use Rattle.model.specs.book.Posting.{Posting}
 
+-- document 01's book: a number for each guest account, kWh sold and money paid for each station account (two lists of
+-- one length), the house's, the last round
+pub record PlainBook : Type 0 where
+  pub guests : List ℕ
+  pub sold : List ℕ
+  pub paid : List ℕ
+  pub house : ℕ
+  pub last : ℕ
+
+-- xs with f k added at each place k below n; the places beyond stay
+unfoldable pub raised : ℕ → (ℕ → ℕ) → List ℕ → List ℕ
+raised n f xs = list (length xs) (λ k. getD xs k 0 + only (k <? n) (f k))
+
+-- the book with a cleared market entered as a round
+unfoldable pub entered : Tables → (round : ℕ) → PlainBook → PlainBook
+entered t round B = record {
+  guests = raised (length (t .amounts)) (charged (screened t) (decision t)) (B .guests);
+  sold = raised (length (t .asks)) (sold (screened t) (decision t)) (B .sold);
+  paid = raised (length (t .asks)) (paid (screened t) (decision t)) (B .paid);
+  house = B .house + margin (screened t) (decision t);
+  last = round;
+}
+
+-- some account or kWh sum of the book is above the limit
+unfoldable pub overLimit : PlainBook → Bool
+overLimit B = any (B .guests) over or any (B .sold) over or any (B .paid) over or over (B .house)
+  where
+    over : ℕ → Bool
+    over x = maxAccount <? x
+
+unfoldable pub bookSize : (n m guests stations : ℕ) → Row
+bookSize n m guests stations = (outside n maxGuests guests or outside m maxStations stations) gives 13
+
+unfoldable pub outOfTurn : (round last : ℕ) → Row
+outOfTurn round last = (maxRound ≤? last or not (round =? last + 1)) gives 11
+
+unfoldable pub postingFaults : Tables → (round : ℕ) → PlainBook → List Row
+postingFaults t round B = marketFaults t
+    ++ (bookSize (length (t .amounts)) (length (t .asks)) (length (B .guests)) (length (B .sold))
+    ∷ outOfTurn round (B .last)
+    ∷ ((overLimit B or overLimit (entered t round B)) gives 12)
+    ∷ [])
+
 -- a book of g guest and s station accounts, all 0
-unfoldable pub empty : (g s : ℕ) → Book
-empty g s = record { guests = replicate g 0; sold = replicate s 0; paid = replicate s 0; house = 0; last = 0 }
+unfoldable pub emptyPlain : (g s : ℕ) → PlainBook
+emptyPlain g s = record { guests = replicate g 0; sold = replicate s 0; paid = replicate s 0; house = 0; last = 0 }
 
 -- the step: the first fault that holds is answered and changes nothing; otherwise the round is posted
-unfoldable pub answer : Book → Posting → Verdict
+unfoldable pub answer : PlainBook → Posting → Verdict
 answer B p = firstFault (postingFaults (p .tables) (p .round) B)
 
-unfoldable pub after : Book → Posting → Book
+unfoldable pub after : PlainBook → Posting → PlainBook
 after B p = updated (answer B p) (entered (p .tables) (p .round) B) B
 
 -- a list of postings, each made to the book as the last left it
-unfoldable pub answers : Book → List Posting → List Verdict
+unfoldable pub answers : PlainBook → List Posting → List Verdict
 answers B [] = []
 answers B (p ∷ ps) = answer B p ∷ answers (after B p) ps
 
-unfoldable pub final : Book → List Posting → Book
+unfoldable pub final : PlainBook → List Posting → PlainBook
 final B [] = B
 final B (p ∷ ps) = final (after B p) ps
 
 -- ---- the sums, with no book in them
 
 -- the postings that were answered as posted
-unfoldable pub kept : Verdict → Posting → List Posting → List Posting
-kept (accepted _) p ps = p ∷ ps
-kept (refused r) p ps = ps
+unfoldable pub onlyPosted : Verdict → Posting → List Posting → List Posting
+onlyPosted (accepted _) p ps = p ∷ ps
+onlyPosted (refused r) p ps = ps
 
-unfoldable pub rounds : List Posting → List Verdict → List Posting
-rounds [] vs = []
-rounds (p ∷ ps) [] = []
-rounds (p ∷ ps) (v ∷ vs) = kept v p (rounds ps vs)
+unfoldable pub postedRounds : List Posting → List Verdict → List Posting
+postedRounds [] vs = []
+postedRounds (p ∷ ps) [] = []
+postedRounds (p ∷ ps) (v ∷ vs) = onlyPosted v p (postedRounds ps vs)
 
-unfoldable pub total : (Posting → ℕ) → List Posting → ℕ
-total f [] = 0
-total f (p ∷ ps) = f p + total f ps
+unfoldable pub sumOver : (Posting → ℕ) → List Posting → ℕ
+sumOver f [] = 0
+sumOver f (p ∷ ps) = f p + sumOver f ps
 
--- all accounts of a list together
-unfoldable pub together : List ℕ → ℕ
-together xs = sum (length xs) (λ k. getD xs k 0)
+-- all accounts of a list sumAll
+unfoldable pub sumAll : List ℕ → ℕ
+sumAll xs = sum (length xs) (λ k. getD xs k 0)

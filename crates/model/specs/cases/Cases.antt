@@ -4,13 +4,12 @@ use Prim.Native.Nat.{ℕ}
 use mathlib.Core.List.{List, [], _∷_, map}
 use mathlib.Core.Path.{_≡_}
 use lib.ListN.{replicate}
-use Rattle.model.specs.Refusals.{Answer, Verdict, accepted, refused, firstFault, giving}
+use Rattle.model.specs.Verdicts.{Answer, Verdict, accepted, refused, firstFault, giving}
 use Rattle.model.specs.market.Market.{Tables, tables, regular}
 use Rattle.model.specs.market.Mechanism.{charge}
-use Rattle.model.specs.market.Outcome.{results, Outcome, outcomeOf, seen, decided, outcome}
+use Rattle.model.specs.market.Outcome.{results, Outcome, outcomeOf, screened, decision, outcome}
 use Rattle.model.specs.market.Faults.{verdict, clearingFaults}
-use Rattle.model.specs.book.Book.{Book}
-use Rattle.model.specs.book.Faults.{postingFaults}
+use Rattle.model.specs.book.PlainBook.{PlainBook, postingFaults}
 
 -- Table I of document 000
 unfoldable pub tableI : Tables
@@ -61,7 +60,7 @@ pub data Found : Type 0 where
 
 unfoldable pub found : Case → Found
 found (clears t o) = outcomes (giving (verdict t) (outcome t))
-found (costs t i j c) = numbers (charge (seen t) (decided t) i j)
+found (costs t i j c) = numbers (charge (screened t) (decision t) i j)
 found (t is v) = verdicts (verdict t)
 found (called t stations charges sold paid v) = verdicts (firstFault
     (clearingFaults t (results (replicate stations 0) (replicate charges 0) (replicate sold 0) (replicate paid 0))))

@@ -6,7 +6,7 @@ use lib.Signed.{_≤ℤ_}
 use Rattle.model.specs.Counting.{sum}
 use Rattle.model.specs.market.Market.{Tables, regular, bidAt}
 use Rattle.model.specs.market.Mechanism.{charged, paid, margin}
-use Rattle.model.specs.market.Outcome.{seen, decided}
+use Rattle.model.specs.market.Outcome.{screened, decision}
 use Rattle.model.specs.market.Faults.{Accepted}
 use Rattle.model.specs.market.Gains.{guestGain, stationGain}
 use Rattle.model.specs.claims.Truth.{AlikeButForGuest, AlikeButForStation, Menu, MenuOf, ClearsWithin}
@@ -20,11 +20,11 @@ pub record GuestInstance : Type 0 where
   pub accepted : Accepted caseG
   pub accepted′ : Accepted overbid
   pub alike : AlikeButForGuest caseG overbid 1
-  pub truth-gains : guestGain (seen caseG) (decided caseG) (bidAt caseG 1) 1 ≡ pos 0
-  pub overbid-gains : guestGain (seen overbid) (decided overbid) (bidAt caseG 1) 1 ≡ negsuc 6
+  pub truth-gains : guestGain (screened caseG) (decision caseG) (bidAt caseG 1) 1 ≡ pos 0
+  pub overbid-gains : guestGain (screened overbid) (decision overbid) (bidAt caseG 1) 1 ≡ negsuc 6
   pub no-more :
-      guestGain (seen overbid) (decided overbid) (bidAt caseG 1) 1 ≤ℤ guestGain (seen caseG)
-      (decided caseG) (bidAt caseG 1) 1
+      guestGain (screened overbid) (decision overbid) (bidAt caseG 1) 1 ≤ℤ guestGain (screened caseG)
+      (decision caseG) (bidAt caseG 1) 1
 
 -- station 1 costs 5 and stays closed; asking 1 it opens, and sells at the cut, 3
 unfoldable pub costly : Tables
@@ -37,9 +37,9 @@ pub record StationInstance : Type 0 where
   pub accepted : Accepted costly
   pub accepted′ : Accepted underasked
   pub alike : AlikeButForStation costly underasked 0
-  pub truth-gains : stationGain (seen costly) (decided costly) 5 0 ≡ pos 0
-  pub underasked-gains : stationGain (seen underasked) (decided underasked) 5 0 ≡ negsuc 1
-  pub no-more : stationGain (seen underasked) (decided underasked) 5 0 ≤ℤ stationGain (seen costly) (decided costly) 5 0
+  pub truth-gains : stationGain (screened costly) (decision costly) 5 0 ≡ pos 0
+  pub underasked-gains : stationGain (screened underasked) (decision underasked) 5 0 ≡ negsuc 1
+  pub no-more : stationGain (screened underasked) (decision underasked) 5 0 ≤ℤ stationGain (screened costly) (decision costly) 5 0
 
 -- guest 2's menu in case G: station 1 for 27, from a total of 28 on, since guest 1 wins a tie
 pub record MenuInstance : Type 0 where
@@ -51,6 +51,6 @@ pub record MenuInstance : Type 0 where
 -- case E: charges 24, payments 18, margin 6
 pub record LimitsInstance : Type 0 where
   pub within : ClearsWithin caseE
-  pub charges-are : sum 2 (charged (seen caseE) (decided caseE)) ≡ 24
-  pub payments-are : sum 2 (paid (seen caseE) (decided caseE)) ≡ 18
-  pub margin-is : margin (seen caseE) (decided caseE) ≡ 6
+  pub charges-are : sum 2 (charged (screened caseE) (decision caseE)) ≡ 24
+  pub payments-are : sum 2 (paid (screened caseE) (decision caseE)) ≡ 18
+  pub margin-is : margin (screened caseE) (decision caseE) ≡ 6

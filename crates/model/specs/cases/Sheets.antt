@@ -6,7 +6,7 @@ use lib.ListN.{length, take}
 use Rattle.model.specs.Counting.{joined}
 use Rattle.model.specs.market.Market.{Tables}
 use Rattle.model.specs.cases.Cases.{tableI, pair, caseE}
-use Rattle.model.specs.Refusals.{accepted, refused}
+use Rattle.model.specs.Verdicts.{accepted, refused}
 use Rattle.model.specs.sheet.Content.{readSheet}
 use Rattle.model.specs.contracts.Reads.{lentTables, readVerdict}
 
@@ -68,6 +68,6 @@ FaultsRefused = map readSheet (
     ∷ (take 18 sheetE ++ (4 ∷ [])) ∷ (sheetE ++ (0 ∷ [])) ∷ [])
     ≡ (refused 2 ∷ refused 2 ∷ refused 2 ∷ refused 3 ∷ refused 4 ∷ [])
 
--- no lent table at all, and no sheet
+-- no listLengths table at all, and no sheet
 abbrev pub LengthsRefused : Type 0
 LengthsRefused = readVerdict (lentTables [] [] [] []) [] ≡ refused 10

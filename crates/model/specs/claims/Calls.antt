@@ -13,7 +13,7 @@ use Rattle.model.specs.market.Outcome.{Results}
 use Rattle.model.specs.claims.Truth.{AlikeButForGuest, AlikeButForStation}
 use Rattle.model.specs.contracts.Clears.{Clears}
 use Rattle.model.specs.Numbers.{answerOfClearing}
-use Rattle.model.specs.Refusals.{accepted, refused}
+use Rattle.model.specs.Verdicts.{accepted, refused}
 use Rattle.model.specs.declared.answers.Clearing.{Clearing}
 
 -- a refused call leaves the result lists as they were

@@ -1,12 +1,12 @@
 -- 'Each well-formed sheet is read as exactly the market it states', over calls of `read`: from the sheet, the answer and
--- the lent tables alone.
+-- the listLengths tables alone.
 use Prim.Native.Nat.{ℕ, _*_}
 use mathlib.Core.List.{List}
 use mathlib.Core.Path.{_≡_}
 use lib.ListN.{length}
 use Rattle.model.specs.Limits.{maxGuests, maxStations}
 use Rattle.model.specs.Numbers.{answerOfReading}
-use Rattle.model.specs.Refusals.{accepted}
+use Rattle.model.specs.Verdicts.{accepted}
 use Rattle.model.specs.market.Market.{Tables}
 use Rattle.model.specs.sheet.Layout.{States, Bytes}
 use Rattle.model.specs.contracts.Reads.{LentTables, filled, Reads}

@@ -9,7 +9,7 @@ use lib.Signed.{_≤ℤ_}
 use Rattle.model.specs.Counting.{_≤?_, _=?_, _and_, only, sum}
 use Rattle.model.specs.market.Market.{Tables, bidAt, marketBy, byNumber, market, opens, Screened, screen}
 use Rattle.model.specs.market.Mechanism.{at, charged, served, sold, paid, margin, best, truthful}
-use Rattle.model.specs.market.Outcome.{seen, decided}
+use Rattle.model.specs.market.Outcome.{screened, decision}
 use Rattle.model.specs.market.Faults.{Accepted}
 use Rattle.model.specs.market.Gains.{guestGain, stationGain}
 
@@ -29,22 +29,22 @@ pub record AlikeButForStation (t t′ : Tables) (j : ℕ) : Type 0 where
   pub same-bids : t′ .bids ≡ t .bids
 
 -- what the mechanism sees under another rule for the position of the cut
-abbrev pub seenBy : (rule : ℕ → ℕ) → Tables → Screened
-seenBy rule t = screen (marketBy rule byNumber t)
+abbrev pub screenedBy : (rule : ℕ → ℕ) → Tables → Screened
+screenedBy rule t = screen (marketBy rule byNumber t)
 
 -- where t carries guest i's worths, i gains no more in t′
 abbrev pub GuestTruthfulBy : (rule : ℕ → ℕ) → Type 0
 GuestTruthfulBy rule =
     (t t′ : Tables) (i : ℕ) → Accepted t → Accepted t′ → i < length (t .amounts) → AlikeButForGuest t t′ i
-    → guestGain (seenBy rule t′) (truthful (seenBy rule t′)) (bidAt t i) i ≤ℤ guestGain (seenBy rule t)
-    (truthful (seenBy rule t)) (bidAt t i) i
+    → guestGain (screenedBy rule t′) (truthful (screenedBy rule t′)) (bidAt t i) i ≤ℤ guestGain (screenedBy rule t)
+    (truthful (screenedBy rule t)) (bidAt t i) i
 
 -- where t carries station j's cost, j gains no more in t′
 abbrev pub StationTruthfulBy : (rule : ℕ → ℕ) → Type 0
 StationTruthfulBy rule =
     (t t′ : Tables) (j : ℕ) → Accepted t → Accepted t′ → j < length (t .asks) → AlikeButForStation t t′ j
-    → stationGain (seenBy rule t′) (truthful (seenBy rule t′)) (getD (t .asks) j 0) j ≤ℤ stationGain (seenBy rule t)
-    (truthful (seenBy rule t)) (getD (t .asks) j 0) j
+    → stationGain (screenedBy rule t′) (truthful (screenedBy rule t′)) (getD (t .asks) j 0) j ≤ℤ stationGain (screenedBy rule t)
+    (truthful (screenedBy rule t)) (getD (t .asks) j 0) j
 
 -- at any position of the cut that depends on the number of stations alone, document 01's among them
 abbrev pub GuestTruthful : Type 0
@@ -54,8 +54,8 @@ abbrev pub StationTruthful : Type 0
 StationTruthful = (rule : ℕ → ℕ) → StationTruthfulBy rule
 
 -- signed gains and sums without subtraction say the same
-abbrev pub SignedReads : Type 0
-SignedReads = (a b c d : ℕ) → (subℕ a b ≤ℤ subℕ c d) ↔ (a + d ≤ c + b)
+abbrev pub SignedIffUnsigned : Type 0
+SignedIffUnsigned = (a b c d : ℕ) → (subℕ a b ≤ℤ subℕ c d) ↔ (a + d ≤ c + b)
 
 -- what a guest chooses from: stations on offer, each with the least total that is admitted and the charge
 pub record Menu : Type 0 where
@@ -74,29 +74,29 @@ pub record MenuOf (t : Tables) (i : ℕ) (U : Menu) : Type 0 where
   pub priced-below : (j : ℕ) → U .price j ≤ U .bar j
   pub priced-near : (j : ℕ) → U .bar j ≤ U .price j + 1
   pub assigns : (t′ : Tables) → Accepted t′ → AlikeButForGuest t t′ i
-      → (decided t′) .assigned i ≡ choice (length (t .asks)) U ((seen t′) .total i)
+      → (decision t′) .assigned i ≡ choice (length (t .asks)) U ((screened t′) .total i)
   pub charges : (t′ : Tables) → Accepted t′ → AlikeButForGuest t t′ i
-      → charged (seen t′) (decided t′) i ≡ at (U .price) (choice (length (t .asks)) U ((seen t′) .total i))
+      → charged (screened t′) (decision t′) i ≡ at (U .price) (choice (length (t .asks)) U ((screened t′) .total i))
 
 abbrev pub GuestMenu : Type 0
 GuestMenu = (t : Tables) (i : ℕ) → Accepted t → i < length (t .amounts) → (U : Menu) × MenuOf t i U
 
 -- the limits of every clearing
 pub record ClearsWithin (t : Tables) : Type 0 where
-  pub charge-within-bid : (i j : ℕ) → i < length (t .amounts) → (decided t) .assigned i ≡ suc j
-      → charged (seen t) (decided t) i ≤ bidAt t i j * getD (t .amounts) i 0
-  pub unassigned-free : (i : ℕ) → (decided t) .assigned i ≡ 0 → charged (seen t) (decided t) i ≡ 0
-  pub payment-covers-ask : (j : ℕ) → getD (t .asks) j 0 * sold (seen t) (decided t) j ≤ paid (seen t) (decided t) j
+  pub charge-within-bid : (i j : ℕ) → i < length (t .amounts) → (decision t) .assigned i ≡ suc j
+      → charged (screened t) (decision t) i ≤ bidAt t i j * getD (t .amounts) i 0
+  pub unassigned-free : (i : ℕ) → (decision t) .assigned i ≡ 0 → charged (screened t) (decision t) i ≡ 0
+  pub payment-covers-ask : (j : ℕ) → getD (t .asks) j 0 * sold (screened t) (decision t) j ≤ paid (screened t) (decision t) j
   pub sold-as-assigned :
       (j : ℕ)
-      → sold (seen t) (decided t) j
-      ≡ sum (length (t .amounts)) (λ i. only ((decided t) .assigned i =? suc j) (getD (t .amounts) i 0))
-  pub within-bays : (j : ℕ) → served (seen t) (decided t) j ≤ getD (t .bays) j 0
+      → sold (screened t) (decision t) j
+      ≡ sum (length (t .amounts)) (λ i. only ((decision t) .assigned i =? suc j) (getD (t .amounts) i 0))
+  pub within-bays : (j : ℕ) → served (screened t) (decision t) j ≤ getD (t .bays) j 0
   pub balanced :
-      sum (length (t .amounts)) (charged (seen t) (decided t))
-      ≡ sum (length (t .asks)) (paid (seen t) (decided t)) + margin (seen t) (decided t)
+      sum (length (t .amounts)) (charged (screened t) (decision t))
+      ≡ sum (length (t .asks)) (paid (screened t) (decision t)) + margin (screened t) (decision t)
   pub covered :
-      sum (length (t .asks)) (paid (seen t) (decided t)) ≤ sum (length (t .amounts)) (charged (seen t) (decided t))
+      sum (length (t .asks)) (paid (screened t) (decision t)) ≤ sum (length (t .amounts)) (charged (screened t) (decision t))
 
 abbrev pub ClearingLimits : Type 0
 ClearingLimits = (t : Tables) → Accepted t → ClearsWithin t

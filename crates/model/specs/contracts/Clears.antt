@@ -2,7 +2,7 @@
 use Prim.Native.Nat.{ℕ}
 use mathlib.Core.Path.{_≡_}
 use Rattle.model.specs.Numbers.{answerOfClearing}
-use Rattle.model.specs.Refusals.{firstFault, giving, updated}
+use Rattle.model.specs.Verdicts.{firstFault, giving, updated}
 use Rattle.model.specs.market.Market.{Tables}
 use Rattle.model.specs.market.Outcome.{Results, outcome}
 use Rattle.model.specs.market.Faults.{clearingFaults}

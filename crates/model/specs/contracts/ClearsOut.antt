@@ -2,7 +2,7 @@
 -- refusal leaves as it was.
 use Prim.Native.Nat.{ℕ}
 use mathlib.Core.Path.{_≡_}
-use Rattle.model.specs.Refusals.{firstFault, updated, numberOf}
+use Rattle.model.specs.Verdicts.{firstFault, updated, numberOf}
 use Rattle.model.specs.market.Market.{Tables}
 use Rattle.model.specs.market.Outcome.{Results, outcome}
 use Rattle.model.specs.market.Faults.{clearingFaults}

@@ -1,4 +1,4 @@
--- A printed text in a lent buffer.
+-- A printed text in a listLengths buffer.
 use Prim.Native.Nat.{ℕ, _≤_, min}
 use mathlib.Core.List.{List}
 use mathlib.Core.Path.{_≡_}

@@ -3,7 +3,7 @@
 use Prim.Native.Nat.{ℕ}
 use mathlib.Core.List.{List}
 use mathlib.Core.Path.{_≡_}
-use Rattle.model.specs.Refusals.{updated, numberOf}
+use Rattle.model.specs.Verdicts.{updated, numberOf}
 use Rattle.model.specs.sheet.Content.{guests, stations, tablesOf}
 use Rattle.model.specs.contracts.Reads.{LentTables, readVerdict, filled}
 

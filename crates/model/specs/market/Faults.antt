@@ -4,9 +4,9 @@ use mathlib.Core.Bool.{Bool, not}
 use mathlib.Core.List.{List, [], _∷_}
 use mathlib.Core.Path.{_≡_}
 use lib.ListN.{length}
-use Rattle.model.specs.Limits.{maxGuests, maxStations, maxPrice, maxAmount, maxCapacity}
+use Rattle.model.specs.Limits.{maxGuests, maxStations, maxPrice, maxAmount, maxBays}
 use Rattle.model.specs.Counting.{_<?_, _=?_, _or_, any}
-use Rattle.model.specs.Refusals.{Row, _gives_, Verdict, accepted, firstFault}
+use Rattle.model.specs.Verdicts.{Row, _gives_, Verdict, accepted, firstFault}
 use Rattle.model.specs.market.Market.{Tables}
 use Rattle.model.specs.market.Mechanism.{sold, paid}
 use Rattle.model.specs.market.Outcome.{Results}
@@ -22,15 +22,15 @@ unfoldable pub lengths : (n m bays bids width : ℕ) → Row
 lengths n m bays bids width = (not (bays =? m) or not (bids =? n * m) or not (width =? m)) gives 5
 
 -- result lists
-unfoldable pub lent : (n m stations charges sold paid : ℕ) → Row
-lent n m stations charges sold paid =
+unfoldable pub listLengths : (n m stations charges sold paid : ℕ) → Row
+listLengths n m stations charges sold paid =
     (not (stations =? n) or not (charges =? n) or not (sold =? m) or not (paid =? m)) gives 10
 
 -- all asks, then all bays, then all amounts, then all bids
 unfoldable pub values : Tables → List Row
 values t =
     (any (t .asks) (outside 0 maxPrice) gives 6)
-    ∷ (any (t .bays) (outside 1 maxCapacity) gives 7)
+    ∷ (any (t .bays) (outside 1 maxBays) gives 7)
     ∷ (any (t .amounts) (outside 1 maxAmount) gives 8)
     ∷ (any (t .bids) (outside 0 maxPrice) gives 9)
     ∷ []
@@ -49,11 +49,11 @@ verdict t = firstFault (marketFaults t)
 abbrev pub Accepted : Tables → Type 0
 Accepted t = verdict t ≡ accepted tt
 
--- a clearing call, with the result lists that it is lent
+-- a clearing call, with the result lists that it is listLengths
 unfoldable pub clearingFaults : Tables → Results → List Row
 clearingFaults t r =
     counts (length (t .amounts)) (length (t .asks))
     ∷ lengths (length (t .amounts)) (length (t .asks)) (length (t .bays)) (length (t .bids)) (t .width)
-    ∷ lent (length (t .amounts)) (length (t .asks)) (length (r .stations)) (length (r .charges))
+    ∷ listLengths (length (t .amounts)) (length (t .asks)) (length (r .stations)) (length (r .charges))
     (length (r .sold)) (length (r .paid))
     ∷ values t

@@ -6,7 +6,7 @@ use mathlib.Core.List.{List}
 use lib.ListN.{getD, length}
 use Rattle.model.specs.Counting.{_<?_, _≤?_, _=?_, _and_, _or_, only, greatest, count}
 
--- a market as it is lent: four tables of any lengths and values, and the row width of the bid table
+-- a market as it is listLengths: four tables of any lengths and values, and the row width of the bid table
 pub record Tables : Type 0 where
   pub asks : List ℕ
   pub bays : List ℕ
@@ -27,11 +27,11 @@ bidAt t i j = getD (t .bids) (i * length (t .asks) + j) 0
 
 -- a market as numbers. `position` is that of the cut, from 1; of equal totals the lower `key` stands first
 pub record Market : Type 0 where
-  pub guests : ℕ
-  pub stations : ℕ
+  pub guestCount : ℕ
+  pub stationCount : ℕ
   pub position : ℕ
   pub ask : ℕ → ℕ
-  pub capacity : ℕ → ℕ
+  pub bays : ℕ → ℕ
   pub amount : ℕ → ℕ
   pub bid : ℕ → ℕ → ℕ
   pub key : ℕ → ℕ
@@ -40,11 +40,11 @@ pub record Market : Type 0 where
 -- alone, and a key for ties
 unfoldable pub marketBy : (rule key : ℕ → ℕ) → Tables → Market
 marketBy rule key t = record {
-  guests = length (t .amounts);
-  stations = length (t .asks);
+  guestCount = length (t .amounts);
+  stationCount = length (t .asks);
   position = rule (length (t .asks));
   ask = λ j. getD (t .asks) j 0;
-  capacity = λ j. getD (t .bays) j 0;
+  bays = λ j. getD (t .bays) j 0;
   amount = λ i. getD (t .amounts) i 0;
   bid = bidAt t;
   key = key;
@@ -62,10 +62,10 @@ byNumber i = i
 unfoldable pub market : Tables → Market
 market t = marketBy median byNumber t
 
--- 1. the cut: the greatest ask that fewer than `position` asks lie below (`CutReads`: the ask at that
+-- 1. the cut: the greatest ask that fewer than `position` asks lie below (`CutIsAskAtPosition`: the ask at that
 -- position in rising order)
 unfoldable pub cut : Market → ℕ
-cut M = greatest (M .stations) (λ j. only (count (M .stations) (λ k. M .ask k <? M .ask j) <? M .position) (M .ask j))
+cut M = greatest (M .stationCount) (λ j. only (count (M .stationCount) (λ k. M .ask k <? M .ask j) <? M .position) (M .ask j))
 
 -- 2. an open station
 unfoldable pub opens : Market → ℕ → Bool
@@ -73,10 +73,10 @@ opens M j = M .ask j <? cut M
 
 -- what a mechanism sees of a market: candidates and totals, and no ask
 pub record Screened : Type 0 where
-  pub guests : ℕ
-  pub stations : ℕ
+  pub guestCount : ℕ
+  pub stationCount : ℕ
   pub cut : ℕ
-  pub capacity : ℕ → ℕ
+  pub bays : ℕ → ℕ
   pub amount : ℕ → ℕ
   pub key : ℕ → ℕ
   pub candidate : ℕ → ℕ → Bool
@@ -85,10 +85,10 @@ pub record Screened : Type 0 where
 -- 3. guest i is a candidate at station j; 4. its total there
 unfoldable pub screen : Market → Screened
 screen M = record {
-  guests = M .guests;
-  stations = M .stations;
+  guestCount = M .guestCount;
+  stationCount = M .stationCount;
   cut = cut M;
-  capacity = M .capacity;
+  bays = M .bays;
   amount = M .amount;
   key = M .key;
   candidate = λ i j. opens M j and cut M ≤? M .bid i j;
@@ -97,16 +97,16 @@ screen M = record {
 
 -- the candidates of one station
 pub record Queue : Type 0 where
-  pub guests : ℕ
-  pub capacity : ℕ
+  pub guestCount : ℕ
+  pub bays : ℕ
   pub candidate : ℕ → Bool
   pub total : ℕ → ℕ
   pub key : ℕ → ℕ
 
 unfoldable pub queue : Screened → ℕ → Queue
 queue S j = record {
-  guests = S .guests;
-  capacity = S .capacity j;
+  guestCount = S .guestCount;
+  bays = S .bays j;
   candidate = λ i. S .candidate i j;
   total = λ i. S .total i j;
   key = S .key;
@@ -118,12 +118,12 @@ before Q k i = Q .total i <? Q .total k or (Q .total i =? Q .total k and Q .key 
 
 -- how many candidates stand before i
 unfoldable pub rank : Queue → ℕ → ℕ
-rank Q i = count (Q .guests) (λ k. Q .candidate k and before Q k i)
+rank Q i = count (Q .guestCount) (λ k. Q .candidate k and before Q k i)
 
 -- 4. i is a provisional winner (document 01: holds a place)
 unfoldable pub provisional : Queue → ℕ → Bool
-provisional Q i = Q .candidate i and rank Q i <? Q .capacity
+provisional Q i = Q .candidate i and rank Q i <? Q .bays
 
 -- 5. the critical total (document 01: the floor): the greatest total of a candidate without a place, 0 for none
 unfoldable pub critical : Queue → ℕ
-critical Q = greatest (Q .guests) (λ k. only (Q .candidate k and not (rank Q k <? Q .capacity)) (Q .total k))
+critical Q = greatest (Q .guestCount) (λ k. only (Q .candidate k and not (rank Q k <? Q .bays)) (Q .total k))

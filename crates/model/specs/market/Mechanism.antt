@@ -28,17 +28,17 @@ obtained S D w i = at (λ j. w j * S .amount i) (D .assigned i)
 
 -- how many guests station j serves, the kWh it sold, and its payment (8)
 unfoldable pub served : Screened → Decision → ℕ → ℕ
-served S D j = count (S .guests) (λ i. D .assigned i =? suc j)
+served S D j = count (S .guestCount) (λ i. D .assigned i =? suc j)
 
 unfoldable pub sold : Screened → Decision → ℕ → ℕ
-sold S D j = sum (S .guests) (λ i. only (D .assigned i =? suc j) (S .amount i))
+sold S D j = sum (S .guestCount) (λ i. only (D .assigned i =? suc j) (S .amount i))
 
 unfoldable pub paid : Screened → Decision → ℕ → ℕ
 paid S D j = S .cut * sold S D j
 
 -- 8. the margin: over assigned guests, charge less cut times amount, which a charge is never below
 unfoldable pub margin : Screened → Decision → ℕ
-margin S D = sum (S .guests) (λ i. at (λ j. charge S D i j - S .cut * S .amount i) (D .assigned i))
+margin S D = sum (S .guestCount) (λ i. at (λ j. charge S D i j - S .cut * S .amount i) (D .assigned i))
 
 -- the choice so far, r, against station j, which is on offer or not, at value g j
 unfoldable pub better : Bool → (ℕ → ℕ) → ℕ → ℕ → ℕ
@@ -58,6 +58,6 @@ surplus S i j = S .total i j - max (S .cut * S .amount i) (critical (queue S j))
 -- document 01's mechanism: each guest has the best of the places it holds
 unfoldable pub truthful : Screened → Decision
 truthful S = record {
-  assigned = λ i. best (S .stations) (λ j. provisional (queue S j) i) (surplus S i);
+  assigned = λ i. best (S .stationCount) (λ j. provisional (queue S j) i) (surplus S i);
   critical = λ j. critical (queue S j);
 }

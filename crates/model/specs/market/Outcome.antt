@@ -1,4 +1,4 @@
--- The clearing of lent tables, as lists and numbers. Document 01, end of 'Clearing'.
+-- The clearing of listLengths tables, as lists and numbers. Document 01, end of 'Clearing'.
 use Prim.Native.Nat.{ℕ}
 use mathlib.Core.List.{List}
 use Rattle.model.specs.Counting.{list}
@@ -25,24 +25,24 @@ outcomeOf cut margin stations charges sold paid =
     record { cut = cut; margin = margin; results = results stations charges sold paid }
 
 -- what a decision comes to
-unfoldable pub settle : Screened → Decision → Outcome
-settle S D = record {
+unfoldable pub outcomeBy : Screened → Decision → Outcome
+outcomeBy S D = record {
   cut = S .cut;
   margin = margin S D;
   results = record {
-    stations = list (S .guests) (D .assigned);
-    charges = list (S .guests) (charged S D);
-    sold = list (S .stations) (sold S D);
-    paid = list (S .stations) (paid S D);
+    stations = list (S .guestCount) (D .assigned);
+    charges = list (S .guestCount) (charged S D);
+    sold = list (S .stationCount) (sold S D);
+    paid = list (S .stationCount) (paid S D);
   };
 }
 
 -- what document 01's mechanism sees and decides, and its outcome
-unfoldable pub seen : Tables → Screened
-seen t = screen (market t)
+unfoldable pub screened : Tables → Screened
+screened t = screen (market t)
 
-unfoldable pub decided : Tables → Decision
-decided t = truthful (seen t)
+unfoldable pub decision : Tables → Decision
+decision t = truthful (screened t)
 
 unfoldable pub outcome : Tables → Outcome
-outcome t = settle (seen t) (decided t)
+outcome t = outcomeBy (screened t) (decision t)

@@ -9,18 +9,18 @@ use lib.ListN.{length}
 use Rattle.model.specs.Counting.{_<?_, list, joined}
 use Rattle.model.specs.market.Faults.{counts}
 use Rattle.model.specs.market.Market.{Tables}
-use Rattle.model.specs.Refusals.{Answer, Row, _gives_, firstFault, giving}
-use Rattle.model.specs.sheet.Fields.{number}
+use Rattle.model.specs.Verdicts.{Answer, Row, _gives_, firstFault, giving}
+use Rattle.model.specs.sheet.Fields.{littleEndian}
 use Rattle.model.specs.sheet.Rows.{rowAt, askOf, baysOf, amountOf, bidOf, rowsFaults}
 
 -- ---- the header, and the market
 
 -- the header
 unfoldable pub guests : List ℕ → ℕ
-guests s = number s 0 2
+guests s = littleEndian s 0 2
 
 unfoldable pub stations : List ℕ → ℕ
-stations s = number s 2 2
+stations s = littleEndian s 2 2
 
 -- the market that the fields state
 unfoldable pub tablesOf : List ℕ → Tables

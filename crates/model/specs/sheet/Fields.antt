@@ -7,10 +7,10 @@ use mathlib.Core.List.{List}
 use lib.ListN.{getD}
 use Rattle.model.specs.Counting.{_=?_}
 
--- the number that k bytes from place p hold, lowest byte first
-unfoldable pub number : List ℕ → (p k : ℕ) → ℕ
-number s p zero = 0
-number s p (suc k) = getD s p 0 + 256 * number s (p + 1) k
+-- the littleEndian that k bytes from place p hold, lowest byte first
+unfoldable pub littleEndian : List ℕ → (p k : ℕ) → ℕ
+littleEndian s p zero = 0
+littleEndian s p (suc k) = getD s p 0 + 256 * littleEndian s (p + 1) k
 
 -- the bytes of a bit map for m stations: ceil(m / 8)
 unfoldable pub mapWidth : ℕ → ℕ

@@ -8,7 +8,7 @@ use Rattle.model.specs.Counting.{only, joined}
 use Rattle.model.specs.market.Market.{Tables, bidAt}
 use Rattle.model.specs.market.Shape.{Shaped}
 use Rattle.model.specs.sheet.Fields.{mapWidth}
-use Rattle.model.specs.Refusals.{accepted}
+use Rattle.model.specs.Verdicts.{accepted}
 use Rattle.model.specs.sheet.Content.{readSheet}
 
 -- x in k bytes, lowest byte first

@@ -5,12 +5,12 @@ use Prim.Native.Nat.{ℕ, zero, suc, _+_, _*_, _/_, _^_}
 use mathlib.Core.List.{List, [], _∷_}
 use lib.ListN.{length}
 use Rattle.model.specs.Counting.{_<?_, only, count, joined}
-use Rattle.model.specs.Refusals.{Row, _gives_}
-use Rattle.model.specs.sheet.Fields.{number, mapWidth, hasBit}
+use Rattle.model.specs.Verdicts.{Row, _gives_}
+use Rattle.model.specs.sheet.Fields.{littleEndian, mapWidth, hasBit}
 
 -- of the row that starts at p: its bit map, where its bids start, where the next row starts
 unfoldable pub mapAt : List ℕ → (m p : ℕ) → ℕ
-mapAt s m p = number s (p + 2) (mapWidth m)
+mapAt s m p = littleEndian s (p + 2) (mapWidth m)
 
 unfoldable pub bidsAt : (m p : ℕ) → ℕ
 bidsAt m p = p + 2 + mapWidth m
@@ -24,17 +24,17 @@ rowAt s m zero = 4 + 6 * m
 rowAt s m (suc i) = nextAt s m (rowAt s m i)
 
 unfoldable pub askOf : List ℕ → ℕ → ℕ
-askOf s j = number s (4 + 6 * j) 4
+askOf s j = littleEndian s (4 + 6 * j) 4
 
 unfoldable pub baysOf : List ℕ → ℕ → ℕ
-baysOf s j = number s (8 + 6 * j) 2
+baysOf s j = littleEndian s (8 + 6 * j) 2
 
 unfoldable pub amountOf : List ℕ → (m i : ℕ) → ℕ
-amountOf s m i = number s (rowAt s m i) 2
+amountOf s m i = littleEndian s (rowAt s m i) 2
 
 -- the bid for station j in a row with this map, whose bids start at q: a field for each set bit, 0 for a clear one
 unfoldable pub bidBy : List ℕ → (map q j : ℕ) → ℕ
-bidBy s map q j = only (hasBit map j) (number s (q + 4 * count j (hasBit map)) 4)
+bidBy s map q j = only (hasBit map j) (littleEndian s (q + 4 * count j (hasBit map)) 4)
 
 unfoldable pub bidOf : List ℕ → (m i j : ℕ) → ℕ
 bidOf s m i = bidBy s (mapAt s m (rowAt s m i)) (bidsAt m (rowAt s m i))

@@ -1,7 +1,7 @@
 -- What is printed of a market: its clearing, or its refusal.
 use Prim.Native.Nat.{ℕ}
 use mathlib.Core.List.{List}
-use Rattle.model.specs.Refusals.{Verdict, accepted, refused}
+use Rattle.model.specs.Verdicts.{Verdict, accepted, refused}
 use Rattle.model.specs.market.Market.{Tables}
 use Rattle.model.specs.market.Outcome.{outcome}
 use Rattle.model.specs.market.Faults.{verdict}

@@ -2,7 +2,7 @@
 use Prim.Native.Nat.{ℕ}
 use mathlib.Core.List.{List}
 use Rattle.model.specs.text.Text.{refusalText}
-use Rattle.model.specs.Refusals.{Answer, accepted, refused}
+use Rattle.model.specs.Verdicts.{Answer, accepted, refused}
 use Rattle.model.specs.market.Market.{Tables}
 use Rattle.model.specs.sheet.Content.{readSheet}
 use Rattle.model.specs.text.MarketText.{marketTextOf}

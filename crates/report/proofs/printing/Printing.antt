@@ -5,9 +5,9 @@ use mathlib.Core.Path.{_≡_}
 use native.Mathlib.Omega.{arith}
 use lib.ListN.{length, length-append}
 use Rattle.model.specs.Limits.{maxGuests, maxStations}
-use Rattle.model.specs.Refusals.{refused}
+use Rattle.model.specs.Verdicts.{refused}
 use Rattle.model.specs.market.Market.{Tables, market, marketBy, screen}
-use Rattle.model.specs.market.Outcome.{Results, Outcome, settle, seen, outcome, outcomeOf}
+use Rattle.model.specs.market.Outcome.{Results, Outcome, outcomeBy, screened, outcome, outcomeOf}
 use Rattle.model.specs.market.Faults.{verdict}
 use Rattle.model.proofs.Counting.{length-list}
 use Rattle.model.specs.text.Decimal.{field}
@@ -59,7 +59,7 @@ outcome-lengths :
     (t : Tables)
     → (length ((outcome t) .results .stations) ≡ length (t .amounts))
     × (length ((outcome t) .results .sold) ≡ length (t .asks))
-unfolding outcome settle seen market marketBy screen
+unfolding outcome outcomeBy screened market marketBy screen
 outcome-lengths t = (length-list _ _, length-list _ _)
 
 pub prints-cleared :

@@ -11,7 +11,7 @@ use lib.Pow.{pow-mono, shl-exact}
 use Rattle.model.specs.Counting.{_<?_, only, count}
 use Rattle.model.proofs.Counting.{count-all, count-start, count-yes, count-up}
 use Rattle.model.proofs.Tests.{only-yes, only-no, is-lt, not-lt, lt-or-le}
-use Rattle.model.specs.sheet.Fields.{number, hasBit}
+use Rattle.model.specs.sheet.Fields.{littleEndian, hasBit}
 use Rattle.model.specs.sheet.Rows.{bidBy}
 use Rattle.model.proofs.sheet.Bits.{Left, left-all, Next, next-of, none-left, set-within, count-still}
 use Rattle.sheet.specs.Filling.{placed}
@@ -19,7 +19,7 @@ use Rattle.sheet.proofs.filling.Filled.{placed-cong, placed-set, placed
 
 -- where all bits are set the bids follow each other
 pub bid-full :
-    (s : List ℕ) (map q m : ℕ) → count m (hasBit map) ≡ m → (j : ℕ) → j < m → number s (q + 4 * j) 4 ≡ bidBy s map q j
+    (s : List ℕ) (map q m : ℕ) → count m (hasBit map) ≡ m → (j : ℕ) → j < m → littleEndian s (q + 4 * j) 4 ≡ bidBy s map q j
 unfolding bidBy
 bid-full s map q m e j l = let (c, b) = count-all m (hasBit map) e j l in rw c (sym (only-yes _ _ b))
 
@@ -93,7 +93,7 @@ module _ (s : List ℕ) (map m base q : ℕ) (l₀ : List ℕ) where
       walk-less = next .there
 
       pub walk-turn :
-          (v d′ left′ : ℕ) → base ≤ length l₀ → v ≡ number s d 4 → d′ ≡ d + 4 → left′ ≡ left - 2 ^ trailingZeros 64 left
+          (v d′ left′ : ℕ) → base ≤ length l₀ → v ≡ littleEndian s d 4 → d′ ≡ d + 4 → left′ ≡ left - 2 ^ trailingZeros 64 left
           → Walked s map m base q l₀ (set l (base + trailingZeros 64 left) v) d′ left′
       unfolding bidBy
       walk-turn v d′ left′ b e f g = record {
@@ -115,7 +115,7 @@ module _ (s : List ℕ) (map m base q : ℕ) (l₀ : List ℕ) where
           value : v ≡ bidBy s map q j
           value =
               let at : d ≡ q + 4 * count j (hasBit map) = omega (arith, t .place, n .number) in
-              e ∙ ap (λ x. number s x 4) at ∙ sym (only-yes _ _ (n .set))
+              e ∙ ap (λ x. littleEndian s x 4) at ∙ sym (only-yes _ _ (n .set))
 
           others :
               (k : ℕ) → k < m → (k ≡ j → ⊥) → upTo (t .p) (bidBy s map q) k ≡ upTo (j + 1) (bidBy s map q) k

@@ -3,8 +3,8 @@ use Prim.Native.Nat.{ℕ}
 use mathlib.Core.Path.{_≡_, sym, ap, _∙_}
 use Rattle.model.specs.declared.refusal.Refusal.{Refusal}
 use Rattle.model.specs.Numbers.{number}
-use Rattle.model.specs.Refusals.{Verdict, accepted, refused, giving}
-use Rattle.model.proofs.Refusals.{giving-accepted, giving-refused, gave-accepted, gave-refused}
+use Rattle.model.specs.Verdicts.{Verdict, accepted, refused, giving}
+use Rattle.model.proofs.Verdicts.{giving-accepted, giving-refused, gave-accepted, gave-refused}
 use Rattle.sheet.specs.declared.fields.Cursor.{Cursor}
 use Rattle.sheet.specs.Passes.{answerOfStep}
 use Rattle.sheet.specs.declared.passes.Step.the-variants.{Next, Fault}

@@ -4,7 +4,7 @@ use mathlib.Core.Path.{_≡_, _∙_, ap}
 use native.Mathlib.Omega.{arith}
 use lib.ListN.{length}
 use borrow.Author.Needs.{needs}
-use Rattle.model.specs.Refusals.{_gives_, accepted, firstFault}
+use Rattle.model.specs.Verdicts.{_gives_, accepted, firstFault}
 use Rattle.model.specs.sheet.Content.{guests, stations, sheetFaults}
 use Rattle.model.proofs.sheet.Faults.{sheet-sound}
 use Rattle.model.proofs.sheet.Answers.{told-read}
@@ -25,10 +25,10 @@ lengths : (c : tie.Else1) →
     let entry = c .before .before .before .before .before .before .before in
     tableLengths (length (entry .args .amounts .now)) (length (entry .args .asks .now)) (length (entry .args .bays .now))
     (length (entry .args .bids .now)) ≡ (false gives 10)
-lengths c = c .before .mislent .ensures ∙ ap (λ b. b gives 10) (c .if1 .left)
+lengths c = c .before .table-lengths-differ .ensures ∙ ap (λ b. b gives 10) (c .if1 .left)
 
 returns : tie.Need-returns
-returns c = refused-lent _ _ _ _ _ (c .before .mislent .ensures ∙ ap (λ b. b gives 10) (c .if1 .taken))
+returns c = refused-lent _ _ _ _ _ (c .before .table-lengths-differ .ensures ∙ ap (λ b. b gives 10) (c .if1 .taken))
 
 header-requires : tie.Need-header-requires
 header-requires c κs =

@@ -41,8 +41,8 @@ use base.Logic.{SProp, ent, sep, emp, via, fst∗, snd∗, exE, id⊢}
 use base.Fml.{Lft, Share, Fml, ftrue, fsep, flft, fres}
 use ghost.Atoms.{Atoms, sem}
 use sound.WpLaws.{FmC, fmOf, WpFn-mono}
-use Rattle.model.specs.Refusals.{numberOf}
-use Rattle.model.specs.Refusals as answers
+use Rattle.model.specs.Verdicts.{numberOf}
+use Rattle.model.specs.Verdicts as answers
 use Rattle.model.specs.market.Market.{tables}
 use Rattle.model.specs.Numbers.{answerOfVerdict}
 use Rattle.model.specs.declared.answers.Verdict.{Verdict}
@@ -51,8 +51,8 @@ use Rattle.model.proofs.answers.Verdict.Laws as S′
 use Rattle.model.specs.declared.account.StationAccount.{StationAccount}
 use Rattle.model.proofs.account.StationAccount as T
 use Rattle.model.specs.book.Posting.{Posting, posting}
-use Rattle.model.specs.book.LentBook.{LentBook, book}
-use Rattle.model.specs.contracts.Posted.{Posted}
+use Rattle.model.specs.book.Book.{Book, book}
+use Rattle.model.specs.contracts.Posts.{Posts}
 use Rattle.ledger.proofs.post as post
 use Rattle.ledger.proofs.post.Symbol as post-def
 use Rattle.ledger.proofs.post.Met as post-thm
@@ -68,7 +68,7 @@ use Rattle.bay_market.proofs.post.reply_number.Symbol.{name as #bay-mar
 use Rattle.bay_market.proofs.post.bay_market_post.Key.{name as #bay-market·post·bay-market-post}
 
 posted-out :
-    {entry exit : LentBook} {p : Posting} {v : answers.Verdict} {k : ℕ} → Posted entry p v exit → k ≡ numberOf v
+    {entry exit : Book} {p : Posting} {v : answers.Verdict} {k : ℕ} → Posts entry p v exit → k ≡ numberOf v
     → PostsOut entry p exit k
 posted-out said e = record { number-is = e ∙ ap numberOf (said .answered); left = said .left }
 
@@ -222,7 +222,7 @@ module _ {M : Type 1} (𝓤 : URA M) (H : Heap 𝓤) (A : Atoms 𝓤) (W : Given
 
   abbrev Said : Verdict → List ℕ → List StationAccount → ℕ → ℕ → Type 0
   Said r guests′ stations′ house′ last′ =
-      Posted (book (now guests) (now stations) (now house) (now last))
+      Posts (book (now guests) (now stations) (now house) (now last))
       (posting (tables (now asks) (now bays) (now amounts) (now bids) width) round) (answerOfVerdict r)
       (book guests′ stations′ house′ last′)
 

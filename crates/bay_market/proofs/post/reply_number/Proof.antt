@@ -1,6 +1,6 @@
 use mathlib.Core.Path.{ap, sym, _∙_}
 use borrow.Author.Needs.{needs}
-use Rattle.model.specs.Refusals.{numberOf}
+use Rattle.model.specs.Verdicts.{numberOf}
 use Rattle.model.specs.Numbers.{answerOfVerdict}
 use Rattle.bay_market.proofs.post.reply_number.Statement.{statement}
 use Rattle.bay_market.proofs.post.reply_number.Tie as tie

@@ -1,49 +1,49 @@
 use mathlib.Core.Path.{sym, _∙_}
 use borrow.Author.Needs.{needs}
-use Rattle.model.specs.market.Faults.{counts, lengths, lent, values, clearingFaults}
-use Rattle.model.proofs.Refusals.{fault-here, fault-later}
+use Rattle.model.specs.market.Faults.{counts, lengths, listLengths, values, clearingFaults}
+use Rattle.model.proofs.Verdicts.{fault-here, fault-later}
 use Rattle.model.proofs.market.Acceptance.{counted}
 use Rattle.model.specs.Numbers.{answerOfVerdict}
 use Rattle.clearing.proofs.faults.first_fault.Statement.{statement}
 use Rattle.clearing.proofs.faults.first_fault.Tie as tie
 
 returns : tie.Need-returns
-unfolding clearingFaults counts lengths lent answerOfVerdict
+unfolding clearingFaults counts lengths listLengths answerOfVerdict
 returns c = sym ((fault-here _ (sym (c .before .counts-out-of-range .ensures) ∙ c .if1 .taken)))
 
-bad-lengths-requires : tie.Need-bad-lengths-requires
-bad-lengths-requires c κs = let k = counted _ _ (sym (c .before .counts-out-of-range .ensures) ∙ c .if1 .left) in (k .0, k .2)
+lengths-differ-requires : tie.Need-lengths-differ-requires
+lengths-differ-requires c κs = let k = counted _ _ (sym (c .before .counts-out-of-range .ensures) ∙ c .if1 .left) in (k .0, k .2)
 
 returns-2 : tie.Need-returns-2
-unfolding clearingFaults counts lengths lent answerOfVerdict
+unfolding clearingFaults counts lengths listLengths answerOfVerdict
 returns-2 c =
     sym ((fault-later _ _
     (sym (c .before .before .before .counts-out-of-range .ensures) ∙ c .before .before .if1 .left)
-    ∙ fault-here _ (sym (c .before .bad-lengths .ensures) ∙ c .if2 .taken)))
+    ∙ fault-here _ (sym (c .before .lengths-differ .ensures) ∙ c .if2 .taken)))
 
 returns-3 : tie.Need-returns-3
-unfolding clearingFaults counts lengths lent answerOfVerdict
+unfolding clearingFaults counts lengths listLengths answerOfVerdict
 returns-3 c =
-    let at-bad-lengths = c .before .before .before in
-    let at-if1 = at-bad-lengths .before in
+    let at-lengths-differ = c .before .before .before in
+    let at-if1 = at-lengths-differ .before in
     let at-counts = at-if1 .before in
     sym ((fault-later _ _ (sym (at-counts .counts-out-of-range .ensures) ∙ at-if1 .if1 .left)
-    ∙ fault-later _ _ (sym (at-bad-lengths .bad-lengths .ensures) ∙ c .before .before .if2 .left)
-    ∙ fault-here _ (sym (c .before .bad-lent .ensures) ∙ c .if3 .taken)))
+    ∙ fault-later _ _ (sym (at-lengths-differ .lengths-differ .ensures) ∙ c .before .before .if2 .left)
+    ∙ fault-here _ (sym (c .before .list-lengths-differ .ensures) ∙ c .if3 .taken)))
 
 returns-4 : tie.Need-returns-4
-unfolding clearingFaults counts lengths lent values
+unfolding clearingFaults counts lengths listLengths values
 returns-4 c =
     let at-if2 = c .before .before .before in
-    let at-bad-lengths = at-if2 .before in
-    let at-if1 = at-bad-lengths .before in
+    let at-lengths-differ = at-if2 .before in
+    let at-if1 = at-lengths-differ .before in
     let at-counts = at-if1 .before in
     c .value-fault .ensures
     ∙ sym ((fault-later _ _ (sym (at-counts .counts-out-of-range .ensures) ∙ at-if1 .if1 .left)
-    ∙ fault-later _ _ (sym (at-bad-lengths .bad-lengths .ensures) ∙ at-if2 .if2 .left)
-    ∙ fault-later _ _ (sym (c .before .before .bad-lent .ensures) ∙ c .before .if3 .left)))
+    ∙ fault-later _ _ (sym (at-lengths-differ .lengths-differ .ensures) ∙ at-if2 .if2 .left)
+    ∙ fault-later _ _ (sym (c .before .before .list-lengths-differ .ensures) ∙ c .before .if3 .left)))
 
 pub first-fault-spec : {M : Type 1} → statement M
 first-fault-spec =
-    tie.close (tie.spec (λ c κs. search needs) returns bad-lengths-requires returns-2 (λ c κs. search needs)
+    tie.close (tie.spec (λ c κs. search needs) returns lengths-differ-requires returns-2 (λ c κs. search needs)
     returns-3 (λ c κs. search needs) returns-4)

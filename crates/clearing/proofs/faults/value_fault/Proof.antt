@@ -1,7 +1,7 @@
 use mathlib.Core.Path.{sym, _∙_}
 use borrow.Author.Needs.{needs}
 use Rattle.model.specs.market.Faults.{values}
-use Rattle.model.proofs.Refusals.{fault-none, fault-here, fault-later}
+use Rattle.model.proofs.Verdicts.{fault-none, fault-here, fault-later}
 use Rattle.model.specs.Numbers.{answerOfVerdict}
 use Rattle.clearing.proofs.faults.value_fault.Statement.{statement}
 use Rattle.clearing.proofs.faults.value_fault.Tie as tie

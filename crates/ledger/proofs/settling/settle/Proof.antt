@@ -16,24 +16,24 @@ start p = p .before .before .before .before .before .before .before .before
 -- the book is not too large
 fits : (p : tie.Else2) → length (start p .args .guests .now) ≤ maxGuests
 fits p =
-    let at-wrong-size = p .before .before .before .before in
+    let at-book-size-differs = p .before .before .before .before in
     sized (start p .args .t1 .guests) (start p .args .t1 .stations) _ (start p .args .stations) _
-    (at-wrong-size .wrong-size .ensures) (p .before .before .before .if1 .left) .0
+    (at-book-size-differs .book-size-differs .ensures) (p .before .before .before .if1 .left) .0
 
 returns : tie.Need-returns
 returns c =
     let entry = c .before .before .before .before .before .before in
     settled-size (entry .args .t1) (entry .args .full) (entry .args .stations) _ _ _ _ _
-    (c .before .before .before .enum-told .given .1) (c .before .before .wrong-size .ensures) _ (c .before .if1 .taken)
+    (c .before .before .before .enum-told .given .1) (c .before .before .book-size-differs .ensures) _ (c .before .if1 .taken)
     (c .refusing2 .ensures)
 
 returns-2 : tie.Need-returns-2
 returns-2 c =
-    let at-wrong-size = c .before .before .before .before .before in
-    let entry = at-wrong-size .before .before .before .before in
+    let at-book-size-differs = c .before .before .before .before .before in
+    let entry = at-book-size-differs .before .before .before .before in
     settled-late (entry .args .t1) (entry .args .full) (entry .args .stations) _ _ _ _ _
-    (at-wrong-size .before .enum-told .given .1) (at-wrong-size .wrong-size .ensures) _
-    (c .before .before .before .before .if1 .left) (c .before .before .out-of-turn .ensures) _ (c .before .if2 .taken)
+    (at-book-size-differs .before .enum-told .given .1) (at-book-size-differs .book-size-differs .ensures) _
+    (c .before .before .before .before .if1 .left) (c .before .before .round-out-of-turn .ensures) _ (c .before .if2 .taken)
     (c .refusing3 .ensures)
 
 any-exceeds-requires : tie.Need-any-exceeds-requires
@@ -43,11 +43,11 @@ returns-3 : tie.Need-returns-3
 returns-3 c =
     let at-any-exceeds = c .before .before .before .before .before in
     let else2 = at-any-exceeds .before .before .before .before in
-    let at-wrong-size = else2 .before .before .before .before in
+    let at-book-size-differs = else2 .before .before .before .before in
     let args = start else2 .args in
     settled-over (args .t1) (args .full) (args .stations) _ _ _ _ _
-    (at-wrong-size .before .enum-told .given .1) (at-wrong-size .wrong-size .ensures) _
-    (else2 .before .before .before .if1 .left) (else2 .before .out-of-turn .ensures) _ (else2 .if2 .left)
+    (at-book-size-differs .before .enum-told .given .1) (at-book-size-differs .book-size-differs .ensures) _
+    (else2 .before .before .before .if1 .left) (else2 .before .round-out-of-turn .ensures) _ (else2 .if2 .left)
     (sym (test-is (args .t1) (args .full) (args .stations) (args .round) _ _ (args .last .now) _ _
     (at-any-exceeds .any-exceeds .ensures) (c .before .before .mills-exceed .ensures)) ∙ c .before .if3 .taken)
     (c .refusing4 .ensures)
@@ -84,14 +84,14 @@ returns-5 c =
     let at-mills-exceed = else3 .before in
     let at-any-exceeds = at-mills-exceed .before .before .before in
     let else2 = at-any-exceeds .before .before .before .before in
-    let at-wrong-size = else2 .before .before .before .before in
+    let at-book-size-differs = else2 .before .before .before .before in
     let args = start else2 .args in
     settled-posted (args .t1) (args .full) (args .stations) _ _ _ _ _
-    (at-wrong-size .before .enum-told .given .1) (at-wrong-size .wrong-size .ensures) _
-    (else2 .before .before .before .if1 .left) (else2 .before .out-of-turn .ensures) _ _ _ (else2 .if2 .left)
+    (at-book-size-differs .before .enum-told .given .1) (at-book-size-differs .book-size-differs .ensures) _
+    (else2 .before .before .before .if1 .left) (else2 .before .round-out-of-turn .ensures) _ _ _ (else2 .if2 .left)
     (sym (test-is (args .t1) (args .full) (args .stations) (args .round) _ _ (args .last .now) _ _
     (at-any-exceeds .any-exceeds .ensures) (at-mills-exceed .mills-exceed .ensures)) ∙ else3 .if3 .left)
-    (at-wrong-size .before .enum-told .given .1) refl
+    (at-book-size-differs .before .enum-told .given .1) refl
     (c .before .before .before .before .add .ensures) (c .plus .ensures)
 
 pub settle-spec : {M : Type 1} → statement M

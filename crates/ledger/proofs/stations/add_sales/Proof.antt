@@ -55,7 +55,7 @@ use sound.WpLaws.{fmOf, WpFn-mono}
 use Rattle.ledger.specs.declared.round.Round.{Round}
 use Rattle.ledger.proofs.round.Round as R
 use Rattle.ledger.proofs.round.Round.Laws as R′
-use Rattle.model.specs.book.Records.{account, accountAt}
+use Rattle.model.specs.book.Book.{account, accountAt}
 use Rattle.ledger.specs.Stations.{credited, creditedTo}
 use Rattle.model.specs.declared.account.StationAccount.{StationAccount}
 use Rattle.ledger.proofs.stations.Stations.{credited-none, credited-more, credited-length, both, least}

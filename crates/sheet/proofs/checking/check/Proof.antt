@@ -6,7 +6,7 @@ use native.Mathlib.Omega.{arith}
 use lib.ListN.{length}
 use borrow.Author.Needs.{needs}
 use Rattle.model.specs.market.Faults.{counts}
-use Rattle.model.specs.Refusals.{_gives_}
+use Rattle.model.specs.Verdicts.{_gives_}
 use Rattle.model.proofs.Tests.{lt-yes, lt-no}
 use Rattle.model.proofs.sheet.Rows.{first-row, rows-within}
 use Rattle.sheet.proofs.passes.Steps.{told-next, told-fault}

@@ -1,15 +1,15 @@
--- The loop goes down from the highest byte: x is the number that the bytes passed hold.
+-- The loop goes down from the highest byte: x is the littleEndian that the bytes passed hold.
 use Prim.Native.Nat.{_≤_, _<_, _-_, _+_}
 use mathlib.Core.Path.{_≡_}
 use native.Mathlib.Omega.{arith}
 use borrow.Author.Needs.{needs}
-use Rattle.model.specs.sheet.Fields.{number}
+use Rattle.model.specs.sheet.Fields.{littleEndian}
 use Rattle.model.proofs.sheet.Fields.{number-none, number-turn, number-four, number-end}
 use Rattle.sheet.proofs.fields.number.Statement.{statement}
 use Rattle.sheet.proofs.fields.number.Tie as tie
 
 abbrev Inv-loop : tie.InvT-loop
-Inv-loop s at k x₀ left₀ x left = (left ≤ k) × (x ≡ number s (at + left) (k - left))
+Inv-loop s at k x₀ left₀ x left = (left ≤ k) × (x ≡ littleEndian s (at + left) (k - left))
 
 abbrev μ-loop : tie.MeasureT-loop
 μ-loop s at k x₀ left₀ x left = left

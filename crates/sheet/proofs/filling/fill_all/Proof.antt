@@ -7,7 +7,7 @@ use native.Mathlib.Omega.{arith}
 use lib.ListN.{take}
 use borrow.Author.Needs.{needs}
 use Rattle.model.specs.Counting.{list}
-use Rattle.model.specs.sheet.Fields.{number}
+use Rattle.model.specs.sheet.Fields.{littleEndian}
 use Rattle.model.proofs.sheet.Fields.{moved}
 use Rattle.sheet.proofs.filling.Filled.{Filled, row-start, row-turn, row-end}
 use Rattle.sheet.proofs.filling.fill_all.Statement.{statement}
@@ -16,7 +16,7 @@ use Rattle.sheet.proofs.filling.fill_all.Tie as tie
 abbrev Inv-loop : tie.InvT-loop
 Inv-loop s stations base bids₀ d₀ j₀ bids d j =
     (j ≤ stations) × (d .at ≡ d₀ .at + 4 * j)
-    × Filled (take base bids₀ ++ list j (λ k. number s (d₀ .at + 4 * k) 4)) bids₀ bids
+    × Filled (take base bids₀ ++ list j (λ k. littleEndian s (d₀ .at + 4 * k) 4)) bids₀ bids
 
 abbrev μ-loop : tie.MeasureT-loop
 μ-loop s stations base bids₀ d₀ j₀ bids d j = stations - j

@@ -5,7 +5,7 @@ use native.Mathlib.Nat.{le-antisymm}
 use native.Mathlib.Omega.{arith}
 use lib.ListN.{length}
 use borrow.Author.Needs.{needs}
-use Rattle.model.specs.Refusals.{accepted, firstFault}
+use Rattle.model.specs.Verdicts.{accepted, firstFault}
 use Rattle.model.specs.sheet.Rows.{rowAt, rowsFaults}
 use Rattle.model.proofs.sheet.Rows.{row-sound, rows-none, rows-to, rows-more, rows-fault, rows-all}
 use Rattle.sheet.proofs.passes.Steps.{step-fault, step-next, told-next, told-fault}

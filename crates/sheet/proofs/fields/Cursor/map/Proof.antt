@@ -1,8 +1,8 @@
--- A map is the number that its bytes hold.
+-- A map is the littleEndian that its bytes hold.
 use mathlib.Core.Path.{_∙_, ap}
 use native.Mathlib.Omega.{arith}
 use borrow.Author.Needs.{needs}
-use Rattle.model.specs.sheet.Fields.{number, mapWidth}
+use Rattle.model.specs.sheet.Fields.{littleEndian, mapWidth}
 use Rattle.sheet.proofs.fields.Cursor.map.Statement.{statement}
 use Rattle.sheet.proofs.fields.Cursor.map.Tie as tie
 
@@ -16,7 +16,7 @@ skip-requires c κs = omega (arith, c .before .map-width .ensures)
 returns : tie.Need-returns
 returns c =
     let e = c .before .before .map-width .ensures in
-    record { value = c .before .number .ensures ∙ ap (number _ _) e; place = omega (arith, c .skip .ensures, e) }
+    record { value = c .before .number .ensures ∙ ap (littleEndian _ _) e; place = omega (arith, c .skip .ensures, e) }
 
 pub map-spec : {M : Type 1} → statement M
 map-spec = tie.close (tie.spec (λ c κs. search needs) number-requires skip-requires returns)

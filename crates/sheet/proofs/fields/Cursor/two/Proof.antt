@@ -1,6 +1,6 @@
--- Two bytes make the number.
+-- Two bytes make the littleEndian.
 use borrow.Author.Needs.{needs}
-use Rattle.model.specs.sheet.Fields.{number}
+use Rattle.model.specs.sheet.Fields.{littleEndian}
 use Rattle.sheet.proofs.fields.Cursor.two.Statement.{statement}
 use Rattle.sheet.proofs.fields.Cursor.two.Tie as tie
 
@@ -10,4 +10,4 @@ two-spec =
     (tie.spec
     (λ c. search needs) (λ c κs. search needs) (λ c. search needs) (λ c. search needs) (λ c κs. search needs)
     (λ c. search needs) (λ c. search needs) (λ c. search needs) (λ c κs. search needs)
-    (λ c. unfold number in search needs))
+    (λ c. unfold littleEndian in search needs))

@@ -1,14 +1,13 @@
--- Laws of the lent book: the plain book determines it, and of an empty one it is the empty plain book.
+-- Laws of the listLengths book: the plain book determines it, and of an emptyPlain one it is the emptyPlain plain book.
 use Prim.Native.Nat.{ℕ, zero, suc}
 use mathlib.Core.List.{List, _∷_}
 use mathlib.Core.Path.{_≡_, refl, sym, ap, ap₂, _∙_}
 use lib.ListN.{getD, length, replicate}
 use lib.Seq.{ext-getD}
-use Rattle.model.specs.book.Records.{account, soldOf, paidOf}
+use Rattle.model.specs.book.Book.{account, soldOf, paidOf, emptyBook, plain, PlainDetermines}
 use Rattle.model.specs.declared.account.StationAccount.{StationAccount}
 use Rattle.model.proofs.book.Records.{length-sold, getD-sold, getD-paid}
-use Rattle.model.specs.book.PlainBook.{empty}
-use Rattle.model.specs.book.LentBook.{blank, plain, PlainDetermines}
+use Rattle.model.specs.book.PlainBook.{emptyPlain}
 
 -- the records are theirs
 same-records : (l k : List StationAccount) → soldOf l ≡ soldOf k → paidOf l ≡ paidOf k → l ≡ k
@@ -32,7 +31,7 @@ unfolding paidOf
 zero-paid zero = refl
 zero-paid (suc s) = ap (λ xs. 0 ∷ xs) (zero-paid s)
 
-pub plain-blank : (g s : ℕ) → plain (blank g s) ≡ empty g s
-unfolding plain blank empty
-plain-blank g s =
+pub plain-empty : (g s : ℕ) → plain (emptyBook g s) ≡ emptyPlain g s
+unfolding plain emptyBook emptyPlain
+plain-empty g s =
     λ x. record { guests = replicate g 0; sold = zero-sold s x; paid = zero-paid s x; house = 0; last = 0 }

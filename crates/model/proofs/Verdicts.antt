@@ -4,7 +4,7 @@ use mathlib.Core.Bool.{Bool, true, false}
 use mathlib.Core.List.{List, [], _∷_, _++_}
 use mathlib.Core.Path.{_≡_, refl, ap}
 use native.Mathlib.Omega.{arith}
-use Rattle.model.specs.Refusals.{Row, _gives_, Verdict, accepted, refused, firstFault, giving, updated, numberOf}
+use Rattle.model.specs.Verdicts.{Row, _gives_, Verdict, accepted, refused, firstFault, giving, updated, numberOf}
 
 pub fault-here : {b : Bool} {r : ℕ} (rows : List Row) → b ≡ true → firstFault ((b gives r) ∷ rows) ≡ refused r
 unfolding firstFault

@@ -6,17 +6,16 @@ use mathlib.Core.Logic.{_↔_}
 use mathlib.Core.Path.{_≡_}
 use lib.IntN.{pos}
 use lib.ListN.{getD, length}
-use Rattle.model.specs.Limits.{maxGuests, maxStations, maxPrice, maxAmount, maxCapacity, maxAccount, maxRound}
+use Rattle.model.specs.Limits.{maxGuests, maxStations, maxPrice, maxAmount, maxBays, maxAccount, maxRound}
 use Rattle.model.specs.Counting.{_=?_, count}
 use Rattle.model.specs.market.Market.{Tables, bidAt, marketBy, median, cut, Screened, Queue, queue, before, rank}
 use Rattle.model.specs.market.Market.{provisional, critical}
 use Rattle.model.specs.market.Mechanism.{Decision, charge, sold, surplus}
-use Rattle.model.specs.market.Outcome.{Results, seen, decided}
+use Rattle.model.specs.market.Outcome.{Results, screened, decision}
 use Rattle.model.specs.market.Shape.{Shaped}
-use Rattle.model.specs.Refusals.{accepted, firstFault}
+use Rattle.model.specs.Verdicts.{accepted, firstFault}
 use Rattle.model.specs.market.Faults.{Accepted, clearingFaults}
-use Rattle.model.specs.book.Book.{Book, entered}
-use Rattle.model.specs.book.Faults.{postingFaults}
+use Rattle.model.specs.book.PlainBook.{PlainBook, entered, postingFaults}
 use Rattle.model.specs.market.Gains.{guestGain, stationGain}
 
 -- 'A market'
@@ -24,14 +23,14 @@ pub record WithinLimits (t : Tables) : Type 0 where
   pub shape : Shaped t
   pub ask-most : (j : ℕ) → j < length (t .asks) → getD (t .asks) j 0 ≤ maxPrice
   pub bays-least : (j : ℕ) → j < length (t .asks) → 1 ≤ getD (t .bays) j 0
-  pub bays-most : (j : ℕ) → j < length (t .asks) → getD (t .bays) j 0 ≤ maxCapacity
+  pub bays-most : (j : ℕ) → j < length (t .asks) → getD (t .bays) j 0 ≤ maxBays
   pub amount-least : (i : ℕ) → i < length (t .amounts) → 1 ≤ getD (t .amounts) i 0
   pub amount-most : (i : ℕ) → i < length (t .amounts) → getD (t .amounts) i 0 ≤ maxAmount
   pub bid-most : (q : ℕ) → q < length (t .bids) → getD (t .bids) q 0 ≤ maxPrice
 
 -- a market is accepted exactly within these limits
-abbrev pub AcceptedReads : Type 0
-AcceptedReads = (t : Tables) → Accepted t ↔ WithinLimits t
+abbrev pub AcceptedIffWithinLimits : Type 0
+AcceptedIffWithinLimits = (t : Tables) → Accepted t ↔ WithinLimits t
 
 -- a clearing call is accepted exactly where its market is and each result list is n or m long
 pub record RightLengths (t : Tables) (r : Results) : Type 0 where
@@ -44,11 +43,11 @@ pub record CallWithinLimits (t : Tables) (r : Results) : Type 0 where
   pub market-accepted : Accepted t
   pub lists-fit : RightLengths t r
 
-abbrev pub CallAcceptedReads : Type 0
-CallAcceptedReads = (t : Tables) (r : Results) → (firstFault (clearingFaults t r) ≡ accepted tt) ↔ CallWithinLimits t r
+abbrev pub CallAcceptedIffWithinLimits : Type 0
+CallAcceptedIffWithinLimits = (t : Tables) (r : Results) → (firstFault (clearingFaults t r) ≡ accepted tt) ↔ CallWithinLimits t r
 
 -- every account and kWh sum of a book is within its limit
-pub record AccountsWithin (B : Book) : Type 0 where
+pub record AccountsWithin (B : PlainBook) : Type 0 where
   pub guest-most : (i : ℕ) → i < length (B .guests) → getD (B .guests) i 0 ≤ maxAccount
   pub sold-most : (j : ℕ) → j < length (B .sold) → getD (B .sold) j 0 ≤ maxAccount
   pub paid-most : (j : ℕ) → j < length (B .paid) → getD (B .paid) j 0 ≤ maxAccount
@@ -56,7 +55,7 @@ pub record AccountsWithin (B : Book) : Type 0 where
 
 -- a posting is accepted exactly where its market is, the book has room for it, the round is next and every account is
 -- within its limit before and after
-pub record PostingWithinLimits (t : Tables) (round : ℕ) (B : Book) : Type 0 where
+pub record PostingWithinLimits (t : Tables) (round : ℕ) (B : PlainBook) : Type 0 where
   pub market-accepted : Accepted t
   pub guests-least : length (t .amounts) ≤ length (B .guests)
   pub guests-most : length (B .guests) ≤ maxGuests
@@ -67,9 +66,9 @@ pub record PostingWithinLimits (t : Tables) (round : ℕ) (B : Book) : Type 0 wh
   pub within-before : AccountsWithin B
   pub within-after : AccountsWithin (entered t round B)
 
-abbrev pub PostingAcceptedReads : Type 0
-PostingAcceptedReads =
-    (t : Tables) (round : ℕ) (B : Book)
+abbrev pub PostingAcceptedIffWithinLimits : Type 0
+PostingAcceptedIffWithinLimits =
+    (t : Tables) (round : ℕ) (B : PlainBook)
     → (firstFault (postingFaults t round B) ≡ accepted tt) ↔ PostingWithinLimits t round B
 
 -- 1. s is in rising order; it has the numbers of l, each as often
@@ -84,8 +83,8 @@ pub record Rearranged (s l : List ℕ) : Type 0 where
 abbrev pub RisingOrderExists : Type 0
 RisingOrderExists = (l : List ℕ) → (s : List ℕ) × Rising s × Rearranged s l
 
-abbrev pub CutReads : Type 0
-CutReads = (rule key : ℕ → ℕ) (t : Tables) (s : List ℕ) → Rising s → Rearranged s (t .asks)
+abbrev pub CutIsAskAtPosition : Type 0
+CutIsAskAtPosition = (rule key : ℕ → ℕ) (t : Tables) (s : List ℕ) → Rising s → Rearranged s (t .asks)
     → 1 ≤ rule (length (t .asks)) → rule (length (t .asks)) ≤ length (t .asks)
     → cut (marketBy rule key t) ≡ getD s (rule (length (t .asks)) - 1) 0
 
@@ -96,60 +95,60 @@ pub record Median (m : ℕ) : Type 0 where
   pub from-one : 1 ≤ median m
   pub to-m : median m ≤ m
 
-abbrev pub MedianReads : Type 0
-MedianReads = (m : ℕ) → 1 ≤ m → Median m
+abbrev pub MedianIsLeastPosition : Type 0
+MedianIsLeastPosition = (m : ℕ) → 1 ≤ m → Median m
 
 -- 3. a bid of 0 is no bid: an open station's ask lies below the cut, so the cut is above 0
-abbrev pub NoBidRead : Type 0
-NoBidRead = (t : Tables) (i j : ℕ) → bidAt t i j ≡ 0 → (seen t) .candidate i j ≡ false
+abbrev pub ZeroBidIsNoCandidate : Type 0
+ZeroBidIsNoCandidate = (t : Tables) (i j : ℕ) → bidAt t i j ≡ 0 → (screened t) .candidate i j ≡ false
 
 -- 4. the ranks of a queue's candidates are 0, 1, 2 .. without gaps or repeats, in the order of `before`
 pub record RanksInOrder (Q : Queue) : Type 0 where
-  pub ordered : (k i : ℕ) → k < Q .guests → Q .candidate k ≡ true → before Q k i ≡ true → rank Q k < rank Q i
+  pub ordered : (k i : ℕ) → k < Q .guestCount → Q .candidate k ≡ true → before Q k i ≡ true → rank Q k < rank Q i
   pub no-repeat :
-      (k i : ℕ) → k < Q .guests → i < Q .guests → Q .candidate k ≡ true → Q .candidate i ≡ true
+      (k i : ℕ) → k < Q .guestCount → i < Q .guestCount → Q .candidate k ≡ true → Q .candidate i ≡ true
       → rank Q k ≡ rank Q i → k ≡ i
-  pub below-all : (k : ℕ) → k < Q .guests → Q .candidate k ≡ true → rank Q k < count (Q .guests) (Q .candidate)
+  pub below-all : (k : ℕ) → k < Q .guestCount → Q .candidate k ≡ true → rank Q k < count (Q .guestCount) (Q .candidate)
   pub no-gap :
-      (r : ℕ) → r < count (Q .guests) (Q .candidate)
-      → (k : ℕ) × (k < Q .guests) × (Q .candidate k ≡ true) × (rank Q k ≡ r)
+      (r : ℕ) → r < count (Q .guestCount) (Q .candidate)
+      → (k : ℕ) × (k < Q .guestCount) × (Q .candidate k ≡ true) × (rank Q k ≡ r)
 
-abbrev pub RanksRead : Type 0
-RanksRead = (t : Tables) (j : ℕ) → RanksInOrder (queue (seen t) j)
+abbrev pub RanksCountUp : Type 0
+RanksCountUp = (t : Tables) (j : ℕ) → RanksInOrder (queue (screened t) j)
 
--- 5. the critical total is that of the candidate whose rank is the capacity, and 0 exactly where no
+-- 5. the critical total is that of the candidate whose rank is the bays, and 0 exactly where no
 -- such candidate stands
 pub record CriticalIsFirstOut (Q : Queue) : Type 0 where
-  pub first-out : (k : ℕ) → k < Q .guests → Q .candidate k ≡ true → rank Q k ≡ Q .capacity → critical Q ≡ Q .total k
-  pub zero-if-none : count (Q .guests) (Q .candidate) ≤ Q .capacity → critical Q ≡ 0
-  pub none-if-zero : critical Q ≡ 0 → count (Q .guests) (Q .candidate) ≤ Q .capacity
+  pub first-out : (k : ℕ) → k < Q .guestCount → Q .candidate k ≡ true → rank Q k ≡ Q .bays → critical Q ≡ Q .total k
+  pub zero-if-none : count (Q .guestCount) (Q .candidate) ≤ Q .bays → critical Q ≡ 0
+  pub none-if-zero : critical Q ≡ 0 → count (Q .guestCount) (Q .candidate) ≤ Q .bays
 
-abbrev pub CriticalReads : Type 0
-CriticalReads = (t : Tables) → Accepted t → (j : ℕ) → CriticalIsFirstOut (queue (seen t) j)
+abbrev pub CriticalIsTotalOfFirstOut : Type 0
+CriticalIsTotalOfFirstOut = (t : Tables) → Accepted t → (j : ℕ) → CriticalIsFirstOut (queue (screened t) j)
 
 -- 7. guest i is assigned exactly where it holds a place, at the lowest-numbered station of greatest surplus
 pub record AssignedToBest (S : Screened) (D : Decision) (i : ℕ) : Type 0 where
-  pub nowhere : D .assigned i ≡ 0 → (j : ℕ) → j < S .stations → provisional (queue S j) i ≡ false
-  pub somewhere : (j : ℕ) → D .assigned i ≡ suc j → (j < S .stations) × (provisional (queue S j) i ≡ true)
+  pub nowhere : D .assigned i ≡ 0 → (j : ℕ) → j < S .stationCount → provisional (queue S j) i ≡ false
+  pub somewhere : (j : ℕ) → D .assigned i ≡ suc j → (j < S .stationCount) × (provisional (queue S j) i ≡ true)
   pub greatest :
-      (j k : ℕ) → D .assigned i ≡ suc j → k < S .stations → provisional (queue S k) i ≡ true
+      (j k : ℕ) → D .assigned i ≡ suc j → k < S .stationCount → provisional (queue S k) i ≡ true
       → surplus S i k ≤ surplus S i j
   pub lowest :
       (j k : ℕ) → D .assigned i ≡ suc j → k < j → provisional (queue S k) i ≡ true → surplus S i k < surplus S i j
 
-abbrev pub AssignmentReads : Type 0
-AssignmentReads = (t : Tables) (i : ℕ) → AssignedToBest (seen t) (decided t) i
+abbrev pub AssignedAtBestPlace : Type 0
+AssignedAtBestPlace = (t : Tables) (i : ℕ) → AssignedToBest (screened t) (decision t) i
 
 -- 7. less than no gain cannot occur: where a place is held the charge is at most the total, so that the
 -- surplus is their difference
 abbrev pub NoLoss : Type 0
-NoLoss = (t : Tables) (i j : ℕ) → i < length (t .amounts) → provisional (queue (seen t) j) i ≡ true
-    → surplus (seen t) i j + charge (seen t) (decided t) i j ≡ (seen t) .total i j
+NoLoss = (t : Tables) (i j : ℕ) → i < length (t .amounts) → provisional (queue (screened t) j) i ≡ true
+    → surplus (screened t) i j + charge (screened t) (decision t) i j ≡ (screened t) .total i j
 
 -- 'Gain': 0 for whoever isn't assigned or sells nothing
 pub record Gainless (S : Screened) (D : Decision) : Type 0 where
   pub guest-gainless : (w : ℕ → ℕ) (i : ℕ) → D .assigned i ≡ 0 → guestGain S D w i ≡ pos 0
   pub station-gainless : (cost j : ℕ) → sold S D j ≡ 0 → stationGain S D cost j ≡ pos 0
 
-abbrev pub GainlessRead : Type 0
-GainlessRead = (S : Screened) (D : Decision) → Gainless S D
+abbrev pub GainlessWithoutTrade : Type 0
+GainlessWithoutTrade = (S : Screened) (D : Decision) → Gainless S D
