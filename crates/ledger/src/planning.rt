@@ -4,6 +4,8 @@ use crate::round::Round;
 use model::answers::Clearing;
 use model::answers::Verdict;
 use model::limits;
+use model::limits::MAX_GUESTS;
+use model::limits::MAX_STATIONS;
 use model::refusal::Refusal;
 ghost use Rattle.model.specs.market.Market.{tables};
 ghost use Rattle.ledger.specs.Plans.{Planned};
@@ -17,10 +19,10 @@ pub fn plan(asks: &[u32], bays: &[u16], amounts: &[u16], bids: &[u32], width: us
     if limits::counts_out_of_range(n, m) {
         return round::refusing(Refusal::CountsOutOfRange);
     }
-    let mut seats = [0u16; 200];
-    let mut charges = [0u32; 200];
-    let mut sold = [0u32; 40];
-    let mut paid = [0u64; 40];
+    let mut seats = [0u16; MAX_GUESTS];
+    let mut charges = [0u32; MAX_GUESTS];
+    let mut sold = [0u32; MAX_STATIONS];
+    let mut paid = [0u64; MAX_STATIONS];
     let answer = clearing::clear(
         asks,
         bays,

@@ -1,5 +1,6 @@
 // Whether accounts have room for what is added. A sum in kWh and an account in mills have the same limit.
 use model::limits::MAX_ACCOUNT;
+use model::limits::MAX_GUESTS;
 use model::money::Mills;
 ghost use Prim.Native.Nat.{_+_, _≤_};
 ghost use mathlib.Core.Path.{_≡_};
@@ -26,7 +27,7 @@ pub fn mills_exceed(account: Mills, add: Mills) -> bool
 }
 
 // Whether a guest's account would be, of those of a book that is not too large.
-pub fn any_exceeds(accounts: &[u64], charges: &[u32; 200]) -> bool
+pub fn any_exceeds(accounts: &[u64], charges: &[u32; MAX_GUESTS]) -> bool
     requires { ⌜ length (now accounts) ≤ maxGuests ⌝ }
     ensures { λ r. ⌜ r ≡ exceeding (now (accounts .entry)) (now (charges .entry)) ⌝ }
 {

@@ -1,5 +1,7 @@
 // What a market adds to a book, and the reply that it comes with.
 use model::answers::Verdict;
+use model::limits::MAX_GUESTS;
+use model::limits::MAX_STATIONS;
 use model::money::Mills;
 use model::refusal::Refusal;
 ghost use mathlib.Core.Path.{_≡_};
@@ -7,9 +9,9 @@ ghost use Rattle.ledger.specs.Rounds.{refusing as refusingOf};
 
 // What a round of so many guests and stations adds to each account, 0 where it adds nothing.
 pub struct Round {
-    pub charges: [u32; 200],
-    pub sold: [u32; 40],
-    pub paid: [u64; 40],
+    pub charges: [u32; MAX_GUESTS],
+    pub sold: [u32; MAX_STATIONS],
+    pub paid: [u64; MAX_STATIONS],
     pub margin: Mills,
     pub guests: usize,
     pub stations: usize,
@@ -21,9 +23,9 @@ pub fn refusing(refusal: Refusal) -> Round
     ensures { λ r. ⌜ r ≡ refusingOf refusal ⌝ }
 {
     Round {
-        charges: [0; 200],
-        sold: [0; 40],
-        paid: [0; 40],
+        charges: [0; MAX_GUESTS],
+        sold: [0; MAX_STATIONS],
+        paid: [0; MAX_STATIONS],
         margin: Mills(0),
         guests: 0,
         stations: 0,

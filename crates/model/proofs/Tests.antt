@@ -70,7 +70,7 @@ pub neither : {a b : Bool} → a ≡ false → b ≡ false → (a or b) ≡ fals
 unfolding _or_
 neither p q = ap₂ _or_ p q
 
--- two tests that pass sumAll are one
+-- two tests that pass together are one
 pub same-test : (a b : Bool) → (a ≡ true → b ≡ true) → (b ≡ true → a ≡ true) → a ≡ b
 same-test true b f g = sym (f refl)
 same-test false true f g = g refl

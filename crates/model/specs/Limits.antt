@@ -1,6 +1,6 @@
 -- The limits of document 01. The constants in src/limits.rt are proved to be these: `stated_limits` there
 -- answers `limits` here.
-use Prim.Native.Nat.{ℕ}
+use Prim.Native.Nat.{ℕ, _*_}
 use Rattle.model.specs.declared.limits.Limits.{Limits}
 
 abbrev pub maxGuests : ℕ
@@ -29,6 +29,19 @@ maxAccount = 1_000_000_000_000_000
 abbrev pub maxRound : ℕ
 maxRound = 4_294_967_295
 
+-- the places of the reader's bid table
+abbrev pub maxBids : ℕ
+maxBids = maxGuests * maxStations
+
+-- no sheet is longer: 4 bytes, 40 stations of 6, and 200 rows of 2 + 5 + 40 * 4 (`SheetsAreShort`)
+abbrev pub maxSheet : ℕ
+maxSheet = 33_644
+
+-- a bound on the length of a printed text: the cut, 200 guests, 40 stations and the margin, each
+-- number taken as 20 digits
+abbrev pub maxText : ℕ
+maxText = 20_093
+
 abbrev pub limits : Limits
 limits = record {
   guests = maxGuests;
@@ -38,4 +51,7 @@ limits = record {
   bays = maxBays;
   account = maxAccount;
   round = maxRound;
+  bids = maxBids;
+  sheet = maxSheet;
+  text = maxText;
 }

@@ -27,7 +27,7 @@ unfoldable pub giving : {A B : Type 0} → Answer A → B → Answer B
 giving (accepted a) b = accepted b
 giving (refused k) b = refused k
 
--- what is listLengths, afterwards: new where the call is accepted, else as it was
+-- what is lent, afterwards: new where the call is accepted, else as it was
 unfoldable pub updated : {A B : Type 0} → Answer A → (new old : B) → B
 updated (accepted a) new old = new
 updated (refused k) new old = old

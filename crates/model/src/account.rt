@@ -1,4 +1,4 @@
-// The accounts of a ledger, as they are listLengths.
+// The accounts of a ledger, as they are lent.
 
 // A station's account: kWh sold and money paid.
 #[repr(C)]

@@ -17,6 +17,13 @@ pub const MAX_ACCOUNT: u64 = 1_000_000_000_000_000;
 
 pub const MAX_ROUND: u32 = 4_294_967_295;
 
+pub const MAX_BIDS: usize = MAX_GUESTS * MAX_STATIONS;
+
+// The bytes of the largest sheet, and a bound on those of a printed text.
+pub const MAX_SHEET: usize = 33_644;
+
+pub const MAX_TEXT: usize = 20_093;
+
 pub struct Limits {
     pub guests: usize,
     pub stations: usize,
@@ -25,6 +32,9 @@ pub struct Limits {
     pub bays: u16,
     pub account: u64,
     pub round: u32,
+    pub bids: usize,
+    pub sheet: usize,
+    pub text: usize,
 }
 
 // The constants, proved to be the limits that specs/ has.
@@ -39,6 +49,9 @@ pub fn stated_limits() -> Limits
         bays: MAX_BAYS,
         account: MAX_ACCOUNT,
         round: MAX_ROUND,
+        bids: MAX_BIDS,
+        sheet: MAX_SHEET,
+        text: MAX_TEXT,
     }
 }
 

@@ -5,6 +5,9 @@ mod printing;
 mod text;
 
 use model::answers::Reading;
+use model::limits::MAX_BIDS;
+use model::limits::MAX_GUESTS;
+use model::limits::MAX_STATIONS;
 ghost use Rattle.model.specs.contracts.Prints.{Prints};
 ghost use Rattle.model.specs.text.Printed.{printed};
 
@@ -12,10 +15,10 @@ ghost use Rattle.model.specs.text.Printed.{printed};
 pub fn print_clearing(sheet: &[u8], out: &mut [u8]) -> usize
     ensures { λ r. ⌜ Prints (printed (now (sheet .entry))) (now (out .entry)) r (now (out .exit)) ⌝ }
 {
-    let mut amounts = [0u16; 200];
-    let mut asks = [0u32; 40];
-    let mut bays = [0u16; 40];
-    let mut bids = [0u32; 8000];
+    let mut amounts = [0u16; MAX_GUESTS];
+    let mut asks = [0u32; MAX_STATIONS];
+    let mut bays = [0u16; MAX_STATIONS];
+    let mut bids = [0u32; MAX_BIDS];
     match sheet::read(sheet, &mut amounts, &mut asks, &mut bays, &mut bids) {
         Reading::Refused(refusal) => page::refusal_text(refusal, out),
         Reading::Read { guests, stations } => printing::print_market(

@@ -1,6 +1,8 @@
 // The text of a market's clearing or refusal, as bytes in a lent buffer.
 use crate::page;
 use model::answers::Clearing;
+use model::limits::MAX_GUESTS;
+use model::limits::MAX_STATIONS;
 ghost use Prim.Native.Nat.{_≤_};
 ghost use mathlib.Core.Path.{_≡_};
 ghost use lib.ListN.{length};
@@ -63,10 +65,10 @@ pub fn print_market(
 {
     let n = amounts.len();
     let m = asks.len();
-    let mut stations = [0u16; 200];
-    let mut charges = [0u32; 200];
-    let mut sold = [0u32; 40];
-    let mut paid = [0u64; 40];
+    let mut stations = [0u16; MAX_GUESTS];
+    let mut charges = [0u32; MAX_GUESTS];
+    let mut sold = [0u32; MAX_STATIONS];
+    let mut paid = [0u64; MAX_STATIONS];
     print_cleared(
         asks,
         bays,

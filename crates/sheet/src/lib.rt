@@ -6,6 +6,7 @@ mod passes;
 
 use crate::fields::Cursor;
 use model::answers::Reading;
+use model::limits::MAX_BIDS;
 use model::limits::MAX_GUESTS;
 use model::limits::MAX_STATIONS;
 use model::refusal::Refusal;
@@ -16,10 +17,7 @@ ghost use Rattle.model.specs.contracts.Reads.{lentTables, tableLengths, Reads};
 fn table_lengths_differ(amounts: usize, asks: usize, bays: usize, bids: usize) -> bool
     ensures { λ r. ⌜ tableLengths amounts asks bays bids ≡ (r gives 10) ⌝ }
 {
-    (amounts != MAX_GUESTS)
-        | (asks != MAX_STATIONS)
-        | (bays != MAX_STATIONS)
-        | (bids != MAX_GUESTS * MAX_STATIONS)
+    (amounts != MAX_GUESTS) | (asks != MAX_STATIONS) | (bays != MAX_STATIONS) | (bids != MAX_BIDS)
 }
 
 // Reads a sheet into lent tables of the greatest size. They are written once the whole sheet is known to be good.

@@ -1,4 +1,4 @@
--- Laws of the listLengths book: the plain book determines it, and of an emptyPlain one it is the emptyPlain plain book.
+-- Laws of the lent book: the plain book determines it, and of an empty one it is the empty plain book.
 use Prim.Native.Nat.{ℕ, zero, suc}
 use mathlib.Core.List.{List, _∷_}
 use mathlib.Core.Path.{_≡_, refl, sym, ap, ap₂, _∙_}

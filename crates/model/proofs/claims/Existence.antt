@@ -1,4 +1,4 @@
--- There is a listLengths book for every step of the plain book, and so a list of calls for every list of postings.
+-- There is a lent book for every step of the plain book, and so a list of calls for every list of postings.
 use Prim.Native.Nat.{ℕ}
 use mathlib.Core.List.{List, [], _∷_}
 use mathlib.Core.Path.{_≡_, refl, sym, ap, _∙_}
@@ -31,7 +31,7 @@ records-paid [] (y ∷ ys) e = absurd (omega arith)
 records-paid (x ∷ xs) [] e = absurd (omega arith)
 records-paid (x ∷ xs) (y ∷ ys) e = ap (λ l. y ∷ l) (records-paid xs ys (omega arith))
 
--- a listLengths book with a plain book's numbers
+-- a lent book with a plain book's numbers
 listLengths : PlainBook → Book
 listLengths b = book (b .guests) (records (b .sold) (b .paid)) (b .house) (b .last)
 

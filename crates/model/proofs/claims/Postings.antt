@@ -33,7 +33,7 @@ unfolding answer
 fits B p e = posting-accepted-iff-within-limits (p .tables) (p .round) B .0 e
 
 -- a number of the book that a posted round raises by `more` is, after a list, what it was and the sum over the posted
--- postedRounds; P is what the
+-- rounds; P is what the
 -- number needs of the book, and a posted round keeps it
 module _ (P : PlainBook → Type 0) (value : PlainBook → ℕ) (more : Posting → ℕ)
     (keeps : (B : PlainBook) (p : Posting) → Fits B p → P B → P (entered (p .tables) (p .round) B))
@@ -58,7 +58,7 @@ module _ (P : PlainBook → Type 0) (value : PlainBook → ℕ) (more : Posting 
   sums [] B h = (h, omega arith)
   sums (p ∷ ps) B h = step ps B p h (λ C k. sums ps C k) (answer B p) refl
 
--- what a book that starts emptyPlain keeps: its sizes, its level and its limit
+-- what a book that starts empty keeps: its sizes, its level and its limit
 pub record Sound (g s : ℕ) (B : PlainBook) : Type 0 where
   pub guests : length (B .guests) ≡ g
   pub sold : length (B .sold) ≡ s
@@ -107,7 +107,7 @@ module _ (g s : ℕ) (ps : List Posting) where
   abbrev E : PlainBook
   E = emptyPlain g s
 
-  -- the sum of a number that is 0 in the emptyPlain book
+  -- the sum of a number that is 0 in the empty book
   run :
       (value : PlainBook → ℕ) (more : Posting → ℕ) → value E ≡ 0
       → ((B : PlainBook) (p : Posting) → Fits B p → Sound g s B
@@ -156,7 +156,7 @@ pub from-empty :
     → (vs ≡ answers (emptyPlain g s) ps) × (plain B ≡ final (emptyPlain g s) ps)
 from-empty g s ps c = rw (← plain-empty g s) (as-plain c)
 
--- what the plain book says of the listLengths one
+-- what the plain book says of the lent one
 module _ (g s : ℕ) (ps : List Posting) (vs : List Verdict) (B : Book) (e : vs ≡ answers (emptyPlain g s) ps)
     (q : plain B ≡ final (emptyPlain g s) ps) where
   sound : Sound g s (plain B)

@@ -7,7 +7,7 @@ use native.Mathlib.Nat.{le-refl}
 use native.Mathlib.Omega.{arith}
 use lib.ListN.{length, take}
 use lib.Seq.{paste, take-at, take-length, length-take-le}
-use Rattle.model.specs.Limits.{maxGuests, maxStations}
+use Rattle.model.specs.Limits.{maxGuests, maxStations, maxBids}
 use Rattle.model.specs.Counting.{_=?_, _or_}
 use Rattle.model.specs.market.Shape.{Shaped}
 use Rattle.model.specs.Numbers.{number}
@@ -44,7 +44,7 @@ bays-long t = t .shape .bays-length ∙ t .m-is
 pub bids-long : {s : List ℕ} {n m : ℕ} {exit : LentTables} → ReadTables s n m exit → length (tablesOf s .bids) ≡ n * m
 bids-long t = t .shape .bids-length ∙ ap₂ _*_ (t .n-is) (t .m-is)
 
-pub room : {s : List ℕ} {n m : ℕ} {exit : LentTables} → ReadTables s n m exit → n * m ≤ maxGuests * maxStations
+pub room : {s : List ℕ} {n m : ℕ} {exit : LentTables} → ReadTables s n m exit → n * m ≤ maxBids
 room {s} {n} {m} t =
     product-fits n m (omega (arith, t .shape .guests-most, t .n-is)) (omega (arith, t .shape .stations-most, t .m-is))
 
@@ -53,11 +53,11 @@ take-pasted xs l y n e h = ap (take n) e ∙ take-at _ _ n (omega (arith, length
     ∙ take-length xs
 
 pub lent-good :
-    (a b c d : ℕ) → a ≡ 200 → b ≡ 40 → c ≡ 40 → d ≡ 8000
-    → (not (a =? 200) or not (b =? 40) or not (c =? 40) or not (d =? 8000)) ≡ false
+    (a b c d : ℕ) → a ≡ maxGuests → b ≡ maxStations → c ≡ maxStations → d ≡ maxBids
+    → (not (a =? maxGuests) or not (b =? maxStations) or not (c =? maxStations) or not (d =? maxBids)) ≡ false
 lent-good a b c d la lb lc ld =
-    neither (neither (neither (ap not (is-eq a 200 la)) (ap not (is-eq b 40 lb))) (ap not (is-eq c 40 lc)))
-    (ap not (is-eq d 8000 ld))
+    neither (neither (neither (ap not (is-eq a maxGuests la)) (ap not (is-eq b maxStations lb))) (ap not (is-eq c maxStations lc)))
+    (ap not (is-eq d maxBids ld))
 
 module _ (s : List ℕ) (entry exit : LentTables) (r : Reading) (k : Reads s entry r exit) where
   pub read-tables : (n m : ℕ) → r ≡ Read n m → ReadTables s n m exit
@@ -66,8 +66,8 @@ module _ (s : List ℕ) (entry exit : LentTables) (r : Reading) (k : Reads s ent
       let (v, f, g) = told-read _ _ _ n m r (k .answered) e in
       let (l, z) = no-fault _ _ _ v in
       let t = sheet-sound s z in
-      let few : n ≤ 200 = omega (arith, t .few) in
-      let narrow : m ≤ 40 = omega (arith, t .narrow) in
+      let few : n ≤ maxGuests = omega (arith, t .few) in
+      let narrow : m ≤ maxStations = omega (arith, t .narrow) in
       let a-long : length (tablesOf s .amounts) ≡ n = length-list _ _ ∙ sym f in
       let b-long : length (tablesOf s .asks) ≡ m = length-list _ _ ∙ sym g in
       let c-long : length (tablesOf s .bays) ≡ m = length-list _ _ ∙ sym g in
@@ -94,7 +94,7 @@ module _ (s : List ℕ) (entry exit : LentTables) (r : Reading) (k : Reads s ent
   -- a refused sheet, where the tables had the right lengths
   pub read-fault :
       (x : Refusal) → length (entry .amounts) ≡ maxGuests → length (entry .asks) ≡ maxStations
-      → length (entry .bays) ≡ maxStations → length (entry .bids) ≡ maxGuests * maxStations → r ≡ Refused x
+      → length (entry .bays) ≡ maxStations → length (entry .bids) ≡ maxBids → r ≡ Refused x
       → readSheet s ≡ refused (number x)
   unfolding readVerdict readSheet tableLengths
   read-fault x la lb lc ld e =

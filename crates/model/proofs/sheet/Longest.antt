@@ -8,7 +8,8 @@ use lib.ListN.{length, getD, length-append}
 use Rattle.model.specs.Counting.{joined}
 use Rattle.model.specs.market.Market.{Tables, bidAt}
 use Rattle.model.specs.sheet.Fields.{mapWidth}
-use Rattle.model.specs.sheet.Layout.{pack, station, stated, row, layout, maxSheet, SheetsAreShort}
+use Rattle.model.specs.Limits.{maxGuests, maxStations, maxSheet}
+use Rattle.model.specs.sheet.Layout.{pack, station, stated, row, layout, SheetsAreShort}
 use Rattle.model.proofs.sheet.Holds.{bytes-length}
 
 joined-most : (n k : ℕ) (f : ℕ → List ℕ) → ((i : ℕ) → length (f i) ≤ k) → length (joined n f) ≤ n * k
@@ -26,11 +27,11 @@ unfolding station
 station-short t j =
     simp length-append (omega (arith, bytes-length 4 (getD (t .asks) j 0), bytes-length 2 (getD (t .bays) j 0)))
 
-map-short : (m : ℕ) → m ≤ 40 → mapWidth m ≤ 5
+map-short : (m : ℕ) → m ≤ maxStations → mapWidth m ≤ 5
 unfolding mapWidth
 map-short m h = omega arith
 
-row-short : (t : Tables) (set : ℕ → ℕ → Bool) → length (t .asks) ≤ 40 → (i : ℕ) → length (row t set i) ≤ 167
+row-short : (t : Tables) (set : ℕ → ℕ → Bool) → length (t .asks) ≤ maxStations → (i : ℕ) → length (row t set i) ≤ 167
 unfolding row
 row-short t set h i =
     simp length-append (omega (
@@ -43,7 +44,7 @@ row-short t set h i =
     ))
 
 layout-short :
-    (t : Tables) (set : ℕ → ℕ → Bool) → length (t .amounts) ≤ 200 → length (t .asks) ≤ 40
+    (t : Tables) (set : ℕ → ℕ → Bool) → length (t .amounts) ≤ maxGuests → length (t .asks) ≤ maxStations
     → length (layout t set) ≤ maxSheet
 unfolding layout
 layout-short t set n m =

@@ -1,4 +1,4 @@
--- Laws of rows: their faults, one by one and all sumAll, and what their absence gives.
+-- Laws of rows: their faults, one by one and all together, and what their absence gives.
 use Prim.Native.Nat.{ℕ, zero, suc, _+_, _*_, _/_, _^_, _≤_, _<_}
 use mathlib.Core.List.{List, [], _∷_}
 use mathlib.Core.Logic.{⊎-elim}

@@ -6,6 +6,7 @@ use mathlib.Core.Path.{_≡_, refl, sym, _∙_}
 use native.Mathlib.Omega.{arith}
 use lib.ListN.{length}
 use lib.Seq.{paste}
+use Rattle.model.specs.Limits.{maxGuests, maxStations, maxBids}
 use Rattle.model.specs.Counting.{_=?_, _or_, list, joined}
 use Rattle.model.specs.Verdicts.{_gives_, accepted, refused, firstFault}
 use Rattle.model.proofs.market.Acceptance.{product-fits}
@@ -28,14 +29,14 @@ abbrev pub first-places : (xs l : List ℕ) → List ℕ
 first-places xs l = paste l 0 xs (length xs)
 
 -- room for the table
-pub room-for : (n m k : ℕ) → n ≤ 200 → m ≤ 40 → k ≡ 8000 → n * m ≤ k
+pub room-for : (n m k : ℕ) → n ≤ maxGuests → m ≤ maxStations → k ≡ maxBids → n * m ≤ k
 room-for n m k h g e = omega (arith, product-fits n m h g)
 
 pub lent-lengths :
-    (a b c d : ℕ) → tableLengths a b c d ≡ (false gives 10) → (a ≡ 200) × (b ≡ 40) × (c ≡ 40) × (d ≡ 8000)
+    (a b c d : ℕ) → tableLengths a b c d ≡ (false gives 10) → (a ≡ maxGuests) × (b ≡ maxStations) × (c ≡ maxStations) × (d ≡ maxBids)
 unfolding tableLengths
 lent-lengths a b c d e =
-    let t : (not (a =? 200) or not (b =? 40) or not (c =? 40) or not (d =? 8000)) ≡ false = cc in
+    let t : (not (a =? maxGuests) or not (b =? maxStations) or not (c =? maxStations) or not (d =? maxBids)) ≡ false = cc in
     let (t1, t2) = or-no _ _ t in let (t3, t4) = or-no _ _ t1 in let (t5, t6) = or-no _ _ t3 in
     (eq-yes _ _ (is _ t5), eq-yes _ _ (is _ t6), eq-yes _ _ (is _ t4), eq-yes _ _ (is _ t2))
   where

@@ -1,4 +1,4 @@
--- The book as it is listLengths: the station accounts are a row of records.
+-- The book as it is lent: the station accounts are a row of records.
 use Prim.Native.Nat.{ℕ}
 use mathlib.Core.List.{List, map}
 use lib.ListN.{getD}
@@ -42,6 +42,6 @@ plain B =
     record
     { guests = B .guests; sold = soldOf (B .stations); paid = paidOf (B .stations); house = B .house; last = B .last }
 
--- it leaves nothing of the listLengths book out
+-- it leaves nothing of the lent book out
 abbrev pub PlainDetermines : Type 0
 PlainDetermines = (B C : Book) → plain B ≡ plain C → B ≡ C

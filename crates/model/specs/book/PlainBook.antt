@@ -98,6 +98,6 @@ unfoldable pub sumOver : (Posting → ℕ) → List Posting → ℕ
 sumOver f [] = 0
 sumOver f (p ∷ ps) = f p + sumOver f ps
 
--- all accounts of a list sumAll
+-- all accounts of a list together
 unfoldable pub sumAll : List ℕ → ℕ
 sumAll xs = sum (length xs) (λ k. getD xs k 0)

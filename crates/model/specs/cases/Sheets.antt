@@ -68,6 +68,6 @@ FaultsRefused = map readSheet (
     ∷ (take 18 sheetE ++ (4 ∷ [])) ∷ (sheetE ++ (0 ∷ [])) ∷ [])
     ≡ (refused 2 ∷ refused 2 ∷ refused 2 ∷ refused 3 ∷ refused 4 ∷ [])
 
--- no listLengths table at all, and no sheet
+-- no lent table at all, and no sheet
 abbrev pub LengthsRefused : Type 0
 LengthsRefused = readVerdict (lentTables [] [] [] []) [] ≡ refused 10

@@ -18,14 +18,14 @@ pub data PostedInTurn : Book → List Posting → List Verdict → Book → Type
       {B C D : Book} {p : Posting} {v : Verdict} {ps : List Posting} {vs : List Verdict} → Posts B p v C
       → PostedInTurn C ps vs D → PostedInTurn B (p ∷ ps) (v ∷ vs) D
 
--- after the calls ps, answered vs, on the emptyPlain book of g guest and s station accounts
+-- after the calls ps, answered vs, on the empty book of g guest and s station accounts
 pub record WellKept (g s : ℕ) (ps : List Posting) (vs : List Verdict) (B : Book) : Type 0 where
   -- each is answered as the plain book answers it, and the book equals the plain book in every number
   pub as-answered : vs ≡ answers (emptyPlain g s) ps
   pub as-plain : plain B ≡ final (emptyPlain g s) ps
   pub guest-count : length (B .guests) ≡ g
   pub station-count : length (B .stations) ≡ s
-  -- each account is the sum of its posted postedRounds
+  -- each account is the sum of its posted rounds
   pub guest-sum : (i : ℕ) → i < g → getD (B .guests) i 0 ≡ sumOver (toGuest i) (postedRounds ps vs)
   pub sold-sum : (j : ℕ) → j < s → accountAt (B .stations) j .sold ≡ sumOver (toSold j) (postedRounds ps vs)
   pub paid-sum : (j : ℕ) → j < s → accountAt (B .stations) j .paid ≡ sumOver (toPaid j) (postedRounds ps vs)

@@ -1,10 +1,10 @@
 -- 'Each well-formed sheet is read as exactly the market it states', over calls of `read`: from the sheet, the answer and
--- the listLengths tables alone.
-use Prim.Native.Nat.{ℕ, _*_}
+-- the lent tables alone.
+use Prim.Native.Nat.{ℕ}
 use mathlib.Core.List.{List}
 use mathlib.Core.Path.{_≡_}
 use lib.ListN.{length}
-use Rattle.model.specs.Limits.{maxGuests, maxStations}
+use Rattle.model.specs.Limits.{maxGuests, maxStations, maxBids}
 use Rattle.model.specs.Numbers.{answerOfReading}
 use Rattle.model.specs.Verdicts.{accepted}
 use Rattle.model.specs.market.Market.{Tables}
@@ -17,7 +17,7 @@ pub record RightSizes (l : LentTables) : Type 0 where
   pub amounts-long : length (l .amounts) ≡ maxGuests
   pub asks-long : length (l .asks) ≡ maxStations
   pub bays-long : length (l .bays) ≡ maxStations
-  pub bids-long : length (l .bids) ≡ maxGuests * maxStations
+  pub bids-long : length (l .bids) ≡ maxBids
 
 -- a call that read t: it answers n and m and leaves t over the first places of the tables
 pub record ReadAs (t : Tables) (entry : LentTables) (answer : Reading) (exit : LentTables) : Type 0 where

@@ -1,11 +1,11 @@
--- What reading a sheet into listLengths tables gives.
-use Prim.Native.Nat.{ℕ, _*_}
+-- What reading a sheet into lent tables gives.
+use Prim.Native.Nat.{ℕ}
 use mathlib.Core.Bool.{not}
 use mathlib.Core.List.{List, _∷_}
 use mathlib.Core.Path.{_≡_}
 use lib.ListN.{length}
 use lib.Seq.{paste}
-use Rattle.model.specs.Limits.{maxGuests, maxStations}
+use Rattle.model.specs.Limits.{maxGuests, maxStations, maxBids}
 use Rattle.model.specs.Counting.{_=?_, _or_}
 use Rattle.model.specs.Numbers.{answerOfReading}
 use Rattle.model.specs.Verdicts.{Row, _gives_, Verdict, firstFault, giving, updated}
@@ -13,7 +13,7 @@ use Rattle.model.specs.market.Market.{Tables}
 use Rattle.model.specs.sheet.Content.{guests, stations, sheetFaults, tablesOf}
 use Rattle.model.specs.declared.answers.Reading.{Reading}
 
--- the tables that the reader is listLengths
+-- the tables that the reader is lent
 pub record LentTables : Type 0 where
   pub amounts : List ℕ
   pub asks : List ℕ
@@ -27,14 +27,14 @@ lentTables amounts asks bays bids = record { amounts = amounts; asks = asks; bay
 unfoldable pub tableLengths : (amounts asks bays bids : ℕ) → Row
 tableLengths amounts asks bays bids =
     (not (amounts =? maxGuests) or not (asks =? maxStations) or not (bays =? maxStations) or not
-    (bids =? maxGuests * maxStations)) gives 10
+    (bids =? maxBids)) gives 10
 
--- what a call of the reader finds: it looks at the listLengths tables first
+-- what a call of the reader finds: it looks at the lent tables first
 unfoldable pub readVerdict : LentTables → (sheet : List ℕ) → Verdict
 readVerdict l s = firstFault
     (tableLengths (length (l .amounts)) (length (l .asks)) (length (l .bays)) (length (l .bids)) ∷ sheetFaults s)
 
--- the listLengths tables with a market over their first places
+-- the lent tables with a market over their first places
 unfoldable pub filled : Tables → LentTables → LentTables
 filled t l = record {
   amounts = paste (l .amounts) 0 (t .amounts) (length (t .amounts));
@@ -43,7 +43,7 @@ filled t l = record {
   bids = paste (l .bids) 0 (t .bids) (length (t .bids));
 }
 
--- a call of `read`: the listLengths tables at entry, the answer, the tables at exit
+-- a call of `read`: the lent tables at entry, the answer, the tables at exit
 pub record Reads (sheet : List ℕ) (entry : LentTables) (answer : Reading) (exit : LentTables) : Type 0 where
   pub answered : answerOfReading answer ≡ giving (readVerdict entry sheet) (guests sheet, stations sheet)
   pub left : exit ≡ updated (readVerdict entry sheet) (filled (tablesOf sheet) entry) entry

@@ -8,7 +8,7 @@ use Rattle.model.specs.Counting.{_≤?_, _and_}
 use Rattle.model.specs.market.Market.{Tables, bidAt}
 use Rattle.model.specs.market.Faults.{Accepted}
 
--- a list where a test passes, the emptyPlain list where not
+-- a list where a test passes, the empty list where not
 unfoldable pub shown : Bool → List ℕ → List ℕ
 shown true l = l
 shown false l = []

@@ -49,7 +49,7 @@ verdict t = firstFault (marketFaults t)
 abbrev pub Accepted : Tables → Type 0
 Accepted t = verdict t ≡ accepted tt
 
--- a clearing call, with the result lists that it is listLengths
+-- a clearing call, with the result lists that it is lent
 unfoldable pub clearingFaults : Tables → Results → List Row
 clearingFaults t r =
     counts (length (t .amounts)) (length (t .asks))

@@ -6,7 +6,7 @@ use mathlib.Core.List.{List}
 use lib.ListN.{getD, length}
 use Rattle.model.specs.Counting.{_<?_, _≤?_, _=?_, _and_, _or_, only, greatest, count}
 
--- a market as it is listLengths: four tables of any lengths and values, and the row width of the bid table
+-- a market as it is lent: four tables of any lengths and values, and the row width of the bid table
 pub record Tables : Type 0 where
   pub asks : List ℕ
   pub bays : List ℕ

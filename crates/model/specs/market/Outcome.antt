@@ -1,4 +1,4 @@
--- The clearing of listLengths tables, as lists and numbers. Document 01, end of 'Clearing'.
+-- The clearing of lent tables, as lists and numbers. Document 01, end of 'Clearing'.
 use Prim.Native.Nat.{ℕ}
 use mathlib.Core.List.{List}
 use Rattle.model.specs.Counting.{list}

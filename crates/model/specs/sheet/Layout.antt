@@ -4,6 +4,7 @@ use mathlib.Core.Bool.{Bool, true, false}
 use mathlib.Core.List.{List, [], _∷_, _++_}
 use mathlib.Core.Path.{_≡_}
 use lib.ListN.{length, getD}
+use Rattle.model.specs.Limits.{maxSheet}
 use Rattle.model.specs.Counting.{only, joined}
 use Rattle.model.specs.market.Market.{Tables, bidAt}
 use Rattle.model.specs.market.Shape.{Shaped}
@@ -70,9 +71,6 @@ ReadsExactlyWhatIsStated =
 abbrev pub StatesOneMarket : Type 0
 StatesOneMarket = (s : List ℕ) (t u : Tables) → States s t → States s u → t ≡ u
 
--- no sheet is longer: 4 bytes, 40 stations of 6, and 200 rows of 2 + 5 + 40 * 4
-abbrev pub maxSheet : ℕ
-maxSheet = 33_644
-
+-- no sheet is longer than the largest
 abbrev pub SheetsAreShort : Type 0
 SheetsAreShort = (s : List ℕ) (t : Tables) → States s t → length s ≤ maxSheet

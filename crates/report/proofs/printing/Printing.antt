@@ -19,7 +19,8 @@ use Rattle.report.proofs.lines.Lines.{length-guest-lines, length-statio
 use Rattle.model.specs.text.Text.{cutWord, marginWord, refusedWord, text, refusalText}
 use Rattle.model.proofs.contracts.Clears.{ClearedAs}
 use Rattle.model.specs.text.MarketText.{marketText, marketTextOf}
-use Rattle.model.specs.contracts.Prints.{maxText, Prints}
+use Rattle.model.specs.contracts.Prints.{Prints}
+use Rattle.model.specs.Limits.{maxText}
 
 pub prints : {t l l′ : List ℕ} {q : ℕ} → Wrote l 0 t l′ q → length t ≤ maxText → Prints t l q l′
 prints {t} {l} {l′} {q} w h =

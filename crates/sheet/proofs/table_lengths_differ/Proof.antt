@@ -1,6 +1,5 @@
 -- The test is that of `tableLengths`.
 use mathlib.Core.Path.{refl}
-use borrow.Author.Needs.{needs}
 use Rattle.model.specs.Counting.{_=?_, _or_}
 use Rattle.model.specs.contracts.Reads.{tableLengths}
 use Rattle.sheet.proofs.table_lengths_differ.Statement.{statement}
@@ -11,4 +10,4 @@ unfolding tableLengths _=?_ _or_
 returns c = refl
 
 pub table-lengths-differ-spec : {M : Type 1} → statement M
-table-lengths-differ-spec = tie.close (tie.spec (λ c. search needs) returns)
+table-lengths-differ-spec = tie.close (tie.spec returns)

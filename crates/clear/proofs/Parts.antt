@@ -4,9 +4,9 @@ use mathlib.Core.List.{List}
 use mathlib.Core.Path.{_≡_}
 use native.Mathlib.Omega.{arith}
 use lib.ListN.{length, take, length-take}
-use Rattle.console.specs.Input.{Within}
-use Rattle.console.specs.declared.Input.{Input}
-use Rattle.console.specs.declared.Input.the-variants.{Bytes}
+use Rattle.clear.specs.Input.{Within}
+use Rattle.clear.specs.declared.Input.{Input}
+use Rattle.clear.specs.declared.Input.the-variants.{Bytes}
 
 pub bytes-within : (r : Input) (n size : ℕ) → Within r size → r ≡ Bytes n → n ≤ size
 bytes-within r n size w e = rw e at w

@@ -1,7 +1,7 @@
 -- What reading standard input finds.
 use Prim.Native.Nat.{ℕ, _≤_}
-use Rattle.console.specs.declared.Input.{Input}
-use Rattle.console.specs.declared.Input.the-variants.{Bytes, Failed}
+use Rattle.clear.specs.declared.Input.{Input}
+use Rattle.clear.specs.declared.Input.the-variants.{Bytes, Failed}
 
 -- the bytes that were read lie within the buffer
 abbrev pub Within : Input → ℕ → Type 0

@@ -1,15 +1,17 @@
+use Prim.Native.Nat.{_+_}
 use native.Mathlib.Omega.{arith}
 use borrow.Author.Needs.{needs}
-use Rattle.console.proofs.Parts.{bytes-within, part-long}
-use Rattle.console.proofs.run.Statement.{statement}
-use Rattle.console.proofs.run.Tie as tie
+use Rattle.model.specs.Limits.{maxSheet}
+use Rattle.clear.proofs.Parts.{bytes-within, part-long}
+use Rattle.clear.proofs.main.Statement.{statement}
+use Rattle.clear.proofs.main.Tie as tie
 
 array-share-prefix-sheet : tie.Need-array-share-prefix-sheet
 array-share-prefix-sheet c =
     let at-read-input = c .before .before .before .before in
     omega (
       arith,
-      bytes-within _ _ 33645 (at-read-input .read-input .ensures) (c .before .input .given .1),
+      bytes-within _ _ (maxSheet + 1) (at-read-input .read-input .ensures) (c .before .input .given .1),
       at-read-input .read-input .kept .0,
     )
 
@@ -18,7 +20,7 @@ slice-aggregate-print-clearing c =
     let at-read-input = c .before .before .before .before .before in
     part-long _ _ (omega (
       arith,
-      bytes-within _ _ 33645 (at-read-input .read-input .ensures) (c .before .before .input .given .1),
+      bytes-within _ _ (maxSheet + 1) (at-read-input .read-input .ensures) (c .before .before .input .given .1),
       at-read-input .read-input .kept .0,
     ))
 
@@ -27,8 +29,8 @@ slice-aggregate-write-all-2 c =
     part-long _ _
     (omega (arith, c .before .before .print-clearing .ensures .fits, c .before .before .print-clearing .kept .1 .0))
 
-pub run-spec : {M : Type 1} → statement M
-run-spec =
+pub main-spec : {M : Type 1} → statement M
+main-spec =
     tie.close
     (tie.spec
     (λ c. search needs) (λ c κs. search needs) (λ c. search needs) (λ c. search needs) (λ c κs. search needs)

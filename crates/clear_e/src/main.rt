@@ -1,4 +1,0 @@
-// Case E through the clearing program.
-fn main() {
-    console::run();
-}

@@ -1,4 +1,0 @@
-// A refused sheet through the clearing program.
-fn main() {
-    console::run();
-}
