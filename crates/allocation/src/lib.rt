@@ -2,6 +2,7 @@
 pub mod assignment;
 mod offers;
 mod selection;
+mod signed;
 mod ties;
 mod totals;
 mod turns;

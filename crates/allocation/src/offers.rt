@@ -1,6 +1,6 @@
 // Offers of a station's places to guests.
+use crate::signed;
 use model::money::Mills;
-use model::signed;
 ghost use Prim.Native.Nat.{_+_, _-_, _^_, _<_, _≤_};
 ghost use mathlib.Core.Bool.{true};
 ghost use mathlib.Core.Path.{_≡_};
@@ -27,7 +27,7 @@ fn wins(total: Mills, critical: Mills, k: u32, bound: u32) -> bool
     requires { ⌜ (k < 2 ^ 31) × (bound < 2 ^ 31) × (total .0 ≤ maxTotal) × (critical .0 ≤ maxTotal) ⌝ }
     ensures { λ r. ⌜ r ≡ wonBy (total .0) (critical .0) k bound ⌝ }
 {
-    bar(critical, k, bound).below_small(total)
+    signed::below_small(bar(critical, k, bound), total)
 }
 
 // One more than total less charge where a place is won, so that 0 is no place.
@@ -46,7 +46,7 @@ fn pick(old: Mills, new: Mills, a: u32, b: u32) -> u32
     requires { ⌜ (old .0 ≤ maxTotal + 1) × (new .0 ≤ maxTotal + 1) ⌝ }
     ensures { λ r. ⌜ r ≡ picked (old .0 <? new .0) a b ⌝ }
 {
-    if old.below_small(new) { a } else { b }
+    if signed::below_small(old, new) { a } else { b }
 }
 
 // One station's offers to every guest: where an offer gains more than the best so far, it is chosen. What it requires
@@ -67,11 +67,11 @@ pub fn offer(
     let mut i = 0;
     while i < totals.len() {
         let total = Mills::wide(totals[i]);
-        let charge = Mills::wide(least[i]).larger_small(critical);
+        let charge = signed::larger_small(Mills::wide(least[i]), critical);
         let gain = gain_for(wins(total, critical, i as u32, bound), total, charge);
         let old = Mills::wide(gains[i]);
         chosen[i] = pick(old, gain, station, chosen[i]);
-        gains[i] = old.larger_small(gain).narrow();
+        gains[i] = signed::larger_small(old, gain).narrow();
         i += 1;
     }
 }

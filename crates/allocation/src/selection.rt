@@ -1,4 +1,5 @@
 // The critical total of a station: bisection over its guests' totals.
+use crate::signed;
 use model::money::Mills;
 ghost use Prim.Native.Nat.{_+_, _-_, _/_, _<_, _≤_};
 ghost use mathlib.Core.Path.{_≡_};
@@ -15,7 +16,7 @@ fn count_above(xs: &[u32], t: Mills) -> u32
     let mut n: u32 = 0;
     let mut i = 0;
     while i < xs.len() {
-        if t.below_small(Mills::wide(xs[i])) {
+        if signed::below_small(t, Mills::wide(xs[i])) {
             n += 1;
         }
         i += 1;
@@ -27,7 +28,11 @@ fn capped(x: Mills, t: Mills) -> Mills
     requires { ⌜ (x .0 ≤ maxTotal) × (t .0 ≤ maxTotal) ⌝ }
     ensures { λ r. ⌜ r .0 ≡ only (x .0 ≤? t .0) (x .0) ⌝ }
 {
-    if t.below_small(x) { Mills(0) } else { x }
+    if signed::below_small(t, x) {
+        Mills(0)
+    } else {
+        x
+    }
 }
 
 // The greatest element that is at most t, 0 for none.
@@ -38,7 +43,7 @@ fn largest_at_most(xs: &[u32], t: Mills) -> Mills
     let mut r = Mills(0);
     let mut i = 0;
     while i < xs.len() {
-        r = r.larger_small(capped(Mills::wide(xs[i]), t));
+        r = signed::larger_small(r, capped(Mills::wide(xs[i]), t));
         i += 1;
     }
     r

@@ -1,5 +1,6 @@
 // Guests' totals at one station, in a table of 32-bit numbers, and the greatest. What is required holds in an accepted
 // market.
+use crate::signed;
 use model::money::Mills;
 use model::money::UnitPrice;
 ghost use Prim.Native.Nat.{ℕ, _+_, _*_, _<_, _≤_};
@@ -41,7 +42,7 @@ pub fn gather(
         let bid = bids[i * m + j];
         let total = total_for(UnitPrice(bid), amounts[i], cut);
         totals[i] = total.narrow();
-        top = top.larger_small(total);
+        top = signed::larger_small(top, total);
         i += 1;
     }
     top

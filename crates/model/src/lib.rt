@@ -1,8 +1,7 @@
-// All that is believed of the bay market, and the theorems about it: definitions and statements in specs/, proofs in proofs/.
-// Here stand the types that they cite.
+// All that is believed of the bay market, and the theorems about it: definitions and statements in specs/, proofs in
+// proofs/. Here stand the types that they cite.
 pub mod account;
 pub mod answers;
 pub mod limits;
 pub mod money;
 pub mod refusal;
-pub mod signed;

@@ -1,6 +1,5 @@
 // Unit prices and whole mills. Tables between loops hold them as plain numbers: the borrow checker does not cover a
 // slice of structs.
-use crate::signed;
 ghost use Prim.Native.Nat.{_+_, _*_, _-_, _<_, _≤_, _^_, max};
 ghost use mathlib.Core.Path.{_≡_};
 ghost use Rattle.model.specs.Counting.{_<?_};
@@ -60,20 +59,5 @@ impl Mills {
         ensures { λ r. ⌜ r .0 ≡ max (self .0) (other .0) ⌝ }
     {
         if self.0 < other.0 { other } else { self }
-    }
-
-    // Of numbers below 2^31, compared in 32 bits as signed ones, so that a loop over a table takes four at once.
-    pub fn below_small(self, other: Mills) -> bool
-        requires { ⌜ (self .0 < 2 ^ 31) × (other .0 < 2 ^ 31) ⌝ }
-        ensures { λ r. ⌜ r ≡ self .0 <? other .0 ⌝ }
-    {
-        signed::below(self.narrow(), other.narrow())
-    }
-
-    pub fn larger_small(self, other: Mills) -> Mills
-        requires { ⌜ (self .0 < 2 ^ 31) × (other .0 < 2 ^ 31) ⌝ }
-        ensures { λ r. ⌜ r .0 ≡ max (self .0) (other .0) ⌝ }
-    {
-        Mills::wide(signed::larger(self.narrow(), other.narrow()))
     }
 }

@@ -1,8 +1,8 @@
 use mathlib.Core.Path.{ap₂, _∙_}
 use borrow.Author.Needs.{needs}
 use Rattle.model.specs.Counting.{_<?_}
-use Rattle.model.proofs.money.Mills.below_small.Statement.{statement}
-use Rattle.model.proofs.money.Mills.below_small.Tie as tie
+use Rattle.allocation.proofs.signed.below_small.Statement.{statement}
+use Rattle.allocation.proofs.signed.below_small.Tie as tie
 
 returns : tie.Need-returns
 returns c = c .below .ensures ∙ ap₂ _<?_ (c .before .before .narrow .ensures) (c .before .narrow2 .ensures)

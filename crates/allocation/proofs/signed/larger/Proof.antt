@@ -1,8 +1,8 @@
 use mathlib.Core.Path.{sym, _∙_}
 use native.Mathlib.Omega.{arith}
 use Rattle.model.proofs.Tests.{lt-yes, lt-no}
-use Rattle.model.proofs.signed.larger.Statement.{statement}
-use Rattle.model.proofs.signed.larger.Tie as tie
+use Rattle.allocation.proofs.signed.larger.Statement.{statement}
+use Rattle.allocation.proofs.signed.larger.Tie as tie
 
 below-requires : tie.Need-below-requires
 below-requires c κs = (omega arith, omega arith)

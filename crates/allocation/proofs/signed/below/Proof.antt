@@ -3,9 +3,9 @@ use lib.Signed.{ltZ}
 use mir.Syntax.{w32}
 use mir.ValLaws.{toZ-pos}
 use borrow.Author.Needs.{needs}
 use Rattle.model.specs.Counting.{_<?_}
-use Rattle.model.proofs.signed.below.Statement.{statement}
-use Rattle.model.proofs.signed.below.Tie as tie
+use Rattle.allocation.proofs.signed.below.Statement.{statement}
+use Rattle.allocation.proofs.signed.below.Tie as tie
 
 returns : tie.Need-returns
 unfolding _<?_
