@@ -19,6 +19,7 @@ for folder in crates/*/; do
 done
 rt fmt --check
 scripts/refusals --check
+tests/lines.py
 cargo fmt --all --check --manifest-path rust/Cargo.toml
 if command -v shellcheck >/dev/null; then
     shellcheck clear test bench scripts/* tests/*.sh tests/wrong_program .ci/run

@@ -19,7 +19,12 @@ pub extern "C" fn bay_market_clear(
     cut: &mut u32,
     margin: &mut u64,
 ) -> u8
-    ensures { λ r. ⌜ ClearsOut (tables (now (asks .entry)) (now (bays .entry)) (now (amounts .entry)) (now (bids .entry)) width) (results (now (stations .entry)) (now (charges .entry)) (now (sold .entry)) (now (paid .entry))) (now (cut .entry)) (now (margin .entry)) r (results (now (stations .exit)) (now (charges .exit)) (now (sold .exit)) (now (paid .exit))) (now (cut .exit)) (now (margin .exit)) ⌝ }
+    ensures { λ r. ⌜ ClearsOut
+        (tables (now (asks .entry)) (now (bays .entry)) (now (amounts .entry)) (now (bids .entry)) width)
+        (results (now (stations .entry)) (now (charges .entry)) (now (sold .entry)) (now (paid .entry)))
+        (now (cut .entry)) (now (margin .entry)) r
+        (results (now (stations .exit)) (now (charges .exit)) (now (sold .exit)) (now (paid .exit)))
+        (now (cut .exit)) (now (margin .exit)) ⌝ }
 {
     let answer = view_clearing::clear_through_view(
         asks,

@@ -32,8 +32,10 @@ pub extern "C" fn bay_market_post(
     house: &mut u64,
     last: &mut u32,
 ) -> u8
-    ensures { λ k. ⌜ PostsOut (book (now (guests .entry)) (now (stations .entry)) (now (house .entry)) (now (last .entry)))
-        (posting (tables (now (asks .entry)) (now (bays .entry)) (now (amounts .entry)) (now (bids .entry)) width) round)
+    ensures { λ k. ⌜ PostsOut
+        (book (now (guests .entry)) (now (stations .entry)) (now (house .entry)) (now (last .entry)))
+        (posting
+        (tables (now (asks .entry)) (now (bays .entry)) (now (amounts .entry)) (now (bids .entry)) width) round)
         (book (now (guests .exit)) (now (stations .exit)) (now (house .exit)) (now (last .exit))) k ⌝ }
 {
     let reply = ledger::post(

@@ -6,7 +6,7 @@ use model::limits::MAX_AMOUNT;
 use model::limits::MAX_BAYS;
 use model::limits::MAX_PRICE;
 use model::refusal::Refusal;
-ghost use Prim.Native.Nat.{_*_, _<_, _≤_};
+ghost use Prim.Native.Nat.{_*_, _≤_};
 ghost use mathlib.Core.Bool.{not};
 ghost use mathlib.Core.Path.{_≡_};
 ghost use Rattle.model.specs.Limits.{maxGuests, maxStations};

@@ -124,7 +124,8 @@ unfolding adding posted toGuest toSold toPaid toHouse
 same-adding t n = refl
 
 -- nothing is added past its stations
-none-past : (m k : ℕ) (f : ℕ → ℕ) → m ≤ k → only (k <? maxStations) (getD (list maxStations (λ j. only (j <? m) (f j))) k 0) ≡ 0
+none-past :
+    (m k : ℕ) (f : ℕ → ℕ) → m ≤ k → only (k <? maxStations) (getD (list maxStations (λ j. only (j <? m) (f j))) k 0) ≡ 0
 none-past m k f h = ⊎-elim
     (λ (l : k < maxStations).
     only-yes _ _ (is-lt k maxStations l) ∙ getD-list maxStations _ k l ∙ only-no _ _ (not-lt k m h))
@@ -213,8 +214,10 @@ module _ (p : Posting) (L : Book) where
     unfolding noRoom adding posted toGuest toSold toPaid toHouse overLimit entered after-limit plain
     room-is = rw (
       exceeding-is (adding p) (L .stations) (z .2),
-      exceeding-raised m (sold (screened (p .tables)) (decision (p .tables))) (soldOf (L .stations)) maxStations sold-size,
-      exceeding-raised m (paid (screened (p .tables)) (decision (p .tables))) (paidOf (L .stations)) maxStations paid-size,
+      exceeding-raised m (sold (screened (p .tables)) (decision (p .tables)))
+          (soldOf (L .stations)) maxStations sold-size,
+      exceeding-raised m (paid (screened (p .tables)) (decision (p .tables)))
+          (paidOf (L .stations)) maxStations paid-size,
       exceeding-raised (length (p .tables .amounts)) (charged (screened (p .tables)) (decision (p .tables)))
           (L .guests) maxGuests (z .0),
     )
@@ -282,7 +285,8 @@ module _ (p : Posting) (L : Book) where
       -- the book at exit, by the verdict
       left-by :
           (v : Verdict) → answer B p ≡ v
-          → Settled v r (p .round) (L .guests) (L .house) (L .last) s guests′ house′ last′ → plain exit ≡ updated v (entered (p .tables) (p .round) B) B
+          → Settled v r (p .round) (L .guests) (L .house) (L .last) s guests′ house′ last′
+          → plain exit ≡ updated v (entered (p .tables) (p .round) B) B
       unfolding updated plain entered adding posted toHouse creditedTo
       left-by (accepted _) e h =
           let z = accepted-sized e in
@@ -298,7 +302,8 @@ module _ (p : Posting) (L : Book) where
           let paid-is = ap paidOf stations-are ∙ paid-credited (adding p) (L .stations) m (z .1) (z .2) o (no-sales p)
           (no-payments p) ∙ plus-adding z .2 in
           let house-is = h .house-is ∙ ap (λ r. L .house + r .margin .0) k in
-          λ x. record { guests = guests-are x; sold = sold-is x; paid = paid-is x; house = house-is x; last = h .last-is x }
+          λ x. record
+          { guests = guests-are x; sold = sold-is x; paid = paid-is x; house = house-is x; last = h .last-is x }
       left-by (refused x) e h =
           let none : min (length (L .stations)) (s .credits) ≡ 0 = omega (arith, h .credits-are) in
           let stations-are : stations′ ≡ L .stations = es ∙ ap (λ n. creditedTo r n (L .stations)) none in
@@ -313,7 +318,8 @@ module _ (p : Posting) (L : Book) where
       pub posts : Posts L p (answerOfVerdict (s .reply)) exit
       unfolding after
       posts =
-          let h = subst (λ v. Settled v r (p .round) (L .guests) (L .house) (L .last) s guests′ house′ last′) ruled-is t in
+          let h = subst (λ v. Settled v r (p .round) (L .guests) (L .house) (L .last) s guests′ house′ last′) ruled-is
+          t in
           record {
             answered = h .says;
             left = left-by (answer B p) refl h;

@@ -37,7 +37,8 @@ ruled r full stations round guests house last = followed (answerOfVerdict (r .re
 unfoldable pub refusal : Refusal → Ruling
 refusal x = record { reply = verdict.Refused x; credits = 0 }
 
--- what settling leaves by a verdict: the ruling, which adds a posted round to its own stations, the guests' accounts, the
+-- what settling leaves by a verdict: the ruling, which adds a posted round to its own stations, the
+-- guests' accounts, the
 -- house's and the last round
 pub record Settled (v : Verdict) (r : Round) (round : ℕ) (guests : List ℕ) (house last : ℕ) (s : Ruling)
     (guests′ : List ℕ) (house′ last′ : ℕ) : Type 0 where

@@ -12,7 +12,8 @@ ghost use Rattle.ledger.specs.Plans.{Planned};
 
 // The round that the market clears to, or a refused one.
 pub fn plan(asks: &[u32], bays: &[u16], amounts: &[u16], bids: &[u32], width: usize) -> Round
-    ensures { λ r. ⌜ Planned (tables (now (asks .entry)) (now (bays .entry)) (now (amounts .entry)) (now (bids .entry)) width) r ⌝ }
+    ensures { λ r. ⌜ Planned
+        (tables (now (asks .entry)) (now (bays .entry)) (now (amounts .entry)) (now (bids .entry)) width) r ⌝ }
 {
     let n = amounts.len();
     let m = asks.len();

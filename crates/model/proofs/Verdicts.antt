@@ -39,7 +39,8 @@ fault-second ((true gives r) ∷ xs) ys e = let z : _≡_ {A = ℕ} 0 1 = cc in 
 fault-second ((false gives r) ∷ xs) ys e = fault-second xs ys e
 
 pub no-faults :
-    (xs ys : List Row) → firstFault (xs ++ ys) ≡ accepted tt → (firstFault xs ≡ accepted tt) × (firstFault ys ≡ accepted tt)
+    (xs ys : List Row) → firstFault (xs ++ ys) ≡ accepted tt
+    → (firstFault xs ≡ accepted tt) × (firstFault ys ≡ accepted tt)
 unfolding firstFault
 no-faults [] ys e = (refl, e)
 no-faults ((true gives r) ∷ xs) ys e = let z : _≡_ {A = ℕ} 0 1 = cc in absurd (omega arith)

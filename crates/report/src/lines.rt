@@ -27,10 +27,13 @@ fn station_line(out: &mut [u8], at: usize, station: u64, sold: u64, paid: u64) -
     text::put(out, r, 10)
 }
 
-// For `page`, whose lists are those of a cleared market and whose places are far below what is required.
+// The lists are those of a cleared market.
 pub fn guest_lines(out: &mut [u8], at: usize, stations: &[u16], charges: &[u32]) -> usize
-    requires { ⌜ (at < 2 ^ 16) × (length (now stations) ≤ maxGuests) × (length (now charges) ≡ length (now stations)) ⌝ }
-    ensures { λ r. ⌜ Wrote (now (out .entry)) at (guestLines (now (stations .entry)) (now (charges .entry)) (length (now (stations .entry)))) (now (out .exit)) r ⌝ }
+    requires { ⌜ (at < 2 ^ 16) × (length (now stations) ≤ maxGuests)
+        × (length (now charges) ≡ length (now stations)) ⌝ }
+    ensures { λ r. ⌜ Wrote (now (out .entry)) at
+        (guestLines (now (stations .entry)) (now (charges .entry)) (length (now (stations .entry))))
+        (now (out .exit)) r ⌝ }
 {
     let mut p = at;
     let mut k = 0;
@@ -43,10 +46,10 @@ pub fn guest_lines(out: &mut [u8], at: usize, stations: &[u16], charges: &[u32])
     p
 }
 
-// Required as in `guest_lines`.
 pub fn station_lines(out: &mut [u8], at: usize, sold: &[u32], paid: &[u64]) -> usize
     requires { ⌜ (at < 2 ^ 16) × (length (now sold) ≤ maxStations) × (length (now paid) ≡ length (now sold)) ⌝ }
-    ensures { λ r. ⌜ Wrote (now (out .entry)) at (stationLines (now (sold .entry)) (now (paid .entry)) (length (now (sold .entry)))) (now (out .exit)) r ⌝ }
+    ensures { λ r. ⌜ Wrote (now (out .entry)) at
+        (stationLines (now (sold .entry)) (now (paid .entry)) (length (now (sold .entry)))) (now (out .exit)) r ⌝ }
 {
     let mut p = at;
     let mut k = 0;

@@ -20,7 +20,7 @@ pub fn refusal_text(refusal: Refusal, out: &mut [u8]) -> usize
     text::put(out, p, 10)
 }
 
-// For `printing`, whose lists are those of a cleared market, which is what it requires.
+// The lists are those of a cleared market.
 pub fn clearing_text(
     cut: UnitPrice,
     margin: Mills,
@@ -30,8 +30,11 @@ pub fn clearing_text(
     paid: &[u64],
     out: &mut [u8],
 ) -> usize
-    requires { ⌜ (length (now stations) ≤ maxGuests) × (length (now charges) ≡ length (now stations)) × (length (now sold) ≤ maxStations) × (length (now paid) ≡ length (now sold)) ⌝ }
-    ensures { λ r. ⌜ Wrote (now (out .entry)) 0 (text (outcomeOf (cut .0) (margin .0) (now (stations .entry)) (now (charges .entry)) (now (sold .entry)) (now (paid .entry)))) (now (out .exit)) r ⌝ }
+    requires { ⌜ (length (now stations) ≤ maxGuests) × (length (now charges) ≡ length (now stations))
+        × (length (now sold) ≤ maxStations) × (length (now paid) ≡ length (now sold)) ⌝ }
+    ensures { λ r. ⌜ Wrote (now (out .entry)) 0
+        (text (outcomeOf (cut .0) (margin .0) (now (stations .entry)) (now (charges .entry)) (now (sold .entry))
+        (now (paid .entry)))) (now (out .exit)) r ⌝ }
 {
     let a = text::put_field(out, 0, b"cut ", cut.0 as u64);
     let b = text::put(out, a, 10);

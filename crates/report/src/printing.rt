@@ -7,7 +7,7 @@ ghost use Prim.Native.Nat.{_≤_};
 ghost use mathlib.Core.Path.{_≡_};
 ghost use lib.ListN.{length};
 ghost use Rattle.model.specs.Limits.{maxGuests, maxStations};
-ghost use Rattle.model.specs.market.Market.{tables};
+ghost use Rattle.model.specs.market.Market.{regular};
 ghost use Rattle.model.specs.text.MarketText.{marketTextOf};
 ghost use Rattle.model.specs.contracts.Prints.{Prints};
 
@@ -24,8 +24,11 @@ fn print_cleared(
     out: &mut [u8],
 ) -> usize
     requires { ⌜ (length (now amounts) ≤ maxGuests) × (length (now asks) ≤ maxStations) ⌝ }
-    requires { ⌜ (length (now stations) ≡ length (now amounts)) × (length (now charges) ≡ length (now amounts)) × (length (now sold) ≡ length (now asks)) × (length (now paid) ≡ length (now asks)) ⌝ }
-    ensures { λ r. ⌜ Prints (marketTextOf (tables (now (asks .entry)) (now (bays .entry)) (now (amounts .entry)) (now (bids .entry)) (length (now (asks .entry))))) (now (out .entry)) r (now (out .exit)) ⌝ }
+    requires { ⌜ (length (now stations) ≡ length (now amounts)) × (length (now charges) ≡ length (now amounts))
+        × (length (now sold) ≡ length (now asks)) × (length (now paid) ≡ length (now asks)) ⌝ }
+    ensures { λ r. ⌜ Prints
+        (marketTextOf (regular (now (asks .entry)) (now (bays .entry)) (now (amounts .entry)) (now (bids .entry))))
+        (now (out .entry)) r (now (out .exit)) ⌝ }
 {
     let answer = clearing::clear(
         asks,
@@ -52,7 +55,7 @@ fn print_cleared(
     }
 }
 
-// For `print_clearing`, whose market was read from a sheet and so has counts within the limits, which is what it requires.
+// The market was read from a sheet, so that its counts are within the limits.
 pub fn print_market(
     asks: &[u32],
     bays: &[u16],
@@ -61,7 +64,9 @@ pub fn print_market(
     out: &mut [u8],
 ) -> usize
     requires { ⌜ (length (now amounts) ≤ maxGuests) × (length (now asks) ≤ maxStations) ⌝ }
-    ensures { λ r. ⌜ Prints (marketTextOf (tables (now (asks .entry)) (now (bays .entry)) (now (amounts .entry)) (now (bids .entry)) (length (now (asks .entry))))) (now (out .entry)) r (now (out .exit)) ⌝ }
+    ensures { λ r. ⌜ Prints
+        (marketTextOf (regular (now (asks .entry)) (now (bays .entry)) (now (amounts .entry)) (now (bids .entry))))
+        (now (out .entry)) r (now (out .exit)) ⌝ }
 {
     let n = amounts.len();
     let m = asks.len();

@@ -5,7 +5,7 @@ ghost use lib.ListN.{length};
 ghost use Rattle.model.specs.text.Decimal.{digits, field};
 ghost use Rattle.report.specs.Wrote.{Wrote};
 
-// A byte at a place, if the buffer reaches that far. For `lines` and `page`, whose places are far below what is required.
+// A byte at a place, if the buffer reaches that far.
 pub fn put(out: &mut [u8], at: usize, b: u8) -> usize
     requires { ⌜ at + 1 < 2 ^ 64 ⌝ }
     ensures { λ r. ⌜ Wrote (now (out .entry)) at (b ∷ []) (now (out .exit)) r ⌝ }
@@ -33,7 +33,8 @@ fn put_word(out: &mut [u8], at: usize, word: &[u8]) -> usize
 // A number in decimal.
 fn put_number(out: &mut [u8], at: usize, x: u64) -> usize
     requires { ⌜ at + 20 < 2 ^ 64 ⌝ }
-    ensures { λ r. ⌜ ((k : ℕ) → x < 10 ^ (k + 1) → Wrote (now (out .entry)) at (digits (k + 1) x) (now (out .exit)) r) ⌝ }
+    ensures { λ r. ⌜ ((k : ℕ) → x < 10 ^ (k + 1)
+        → Wrote (now (out .entry)) at (digits (k + 1) x) (now (out .exit)) r) ⌝ }
 {
     let digit = 48 + (x % 10) as u8;
     if x < 10 {
@@ -43,7 +44,7 @@ fn put_number(out: &mut [u8], at: usize, x: u64) -> usize
     put(out, p, digit)
 }
 
-// A word and a number. Required as in `put`.
+// A word and a number.
 pub fn put_field(out: &mut [u8], at: usize, word: &[u8], x: u64) -> usize
     requires { ⌜ at + length (now word) + 20 < 2 ^ 64 ⌝ }
     ensures { λ r. ⌜ Wrote (now (out .entry)) at (field (now (word .entry)) x) (now (out .exit)) r ⌝ }

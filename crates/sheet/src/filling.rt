@@ -81,7 +81,8 @@ fn fill_some(
 // The same where the bits of all stations are set.
 fn fill_all(s: &[u8], c: Cursor, stations: usize, base: usize, bids: &mut [u32]) -> Cursor
     requires { ⌜ (c .at + 4 * stations ≤ length (now s)) × (base + stations ≤ length (now bids)) ⌝ }
-    ensures { λ r. ⌜ RowFilled (c .at + 4 * stations) base stations (λ j. littleEndian (now (s .entry)) (c .at + 4 * j) 4)
+    ensures { λ r. ⌜ RowFilled (c .at + 4 * stations) base stations
+        (λ j. littleEndian (now (s .entry)) (c .at + 4 * j) 4)
         (now (bids .entry)) r (now (bids .exit)) ⌝ }
 {
     let mut d = c;

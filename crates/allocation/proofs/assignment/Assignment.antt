@@ -117,7 +117,8 @@ module _ (t : Tables) {c : ℕ} {least chosen gains criticals : List ℕ} (A : A
   charged-by k (suc j) l e =
       only-yes _ _ (is-lt 0 (suc j) (omega arith)) ∙ ap₂ max (least-here k l) (critical-at j (within t k j e))
 
-  charged-here : (k : ℕ) → k < length (t .amounts) → chargedAt chosen least criticals k ≡ charged (screened t) (decision t) k
+  charged-here :
+      (k : ℕ) → k < length (t .amounts) → chargedAt chosen least criticals k ≡ charged (screened t) (decision t) k
   unfolding chargedAt charged
   charged-here k l = rw (choice k l) (charged-by k _ l refl)
 

@@ -156,7 +156,8 @@ closed-critical : (M : Market) (j : ℕ) → cut M ≤ M .ask j → 0 ≡ critic
 unfolding critical queue screen opens
 closed-critical M j h =
     le-antisymm (omega arith)
-    (greatest-le (M .guestCount) _ 0 (λ k _. only-le _ _ _ (λ p. absurd (clash (first _ _ p) (and-no _ _ (not-lt _ _ h))))))
+    (greatest-le (M .guestCount) _ 0
+    (λ k _. only-le _ _ _ (λ p. absurd (clash (first _ _ p) (and-no _ _ (not-lt _ _ h))))))
 
 pub after-closed :
     (M : Market) (n j : ℕ) {chosen gains criticals : List ℕ} → cut M ≤ M .ask j
@@ -222,12 +223,14 @@ module _ (t : Tables) (c : ℕ) (least : List ℕ) (A : AtCut t c least) (j : �
       won-here k lk = provisional-is Q totals shows k f e lk (rw capacity-is few) (rw capacity-is tied)
 
       charge-here :
-          (k : ℕ) → k < length (t .amounts) → chargeAt least f k ≡ max ((screened t) .cut * (screened t) .amount k) (critical Q)
+          (k : ℕ) → k < length (t .amounts)
+          → chargeAt least f k ≡ max ((screened t) .cut * (screened t) .amount k) (critical Q)
       unfolding chargeAt screened screen market marketBy
       charge-here k lk =
           ap₂ max (element _ _ (A .least-are) k lk ∙ ap (λ x. x * getD (t .amounts) k 0) (A .is-cut)) critical-here
 
-      total-here : (k : ℕ) → k < length (t .amounts) → provisional Q k ≡ true → getD totals k 0 ≡ (screened t) .total k j
+      total-here :
+          (k : ℕ) → k < length (t .amounts) → provisional Q k ≡ true → getD totals k 0 ≡ (screened t) .total k j
       unfolding queue screened screen market marketBy
       total-here k lk p = shows .some k lk (provisional-candidate Q k p)
 

@@ -13,7 +13,7 @@ use Rattle.model.specs.declared.refusal.Refusal.{Refusal}
 use Rattle.model.specs.declared.refusal.Refusal.the-variants.{CountsOutOfRange}
 use Rattle.model.specs.Counting.{_<?_, _=?_, _or_, only, list}
 use Rattle.model.specs.Numbers.{number, answerOfVerdict}
-use Rattle.model.specs.Verdicts.{accepted, refused, firstFault}
+use Rattle.model.specs.Verdicts.{accepted, refused}
 use Rattle.model.proofs.Verdicts.{fault-here}
 use Rattle.model.specs.market.Market.{Tables, market, marketBy, screen, tables}
 use Rattle.model.specs.market.Mechanism.{charged, sold, paid}

@@ -59,7 +59,8 @@ module _ (r : Round) (full : Bool) (stations round : ℕ) (guests : List ℕ) (h
   test-is crowded rich p q = rw (← p, ← q, ← or-is full crowded) (or-is (full || crowded) rich)
 
   -- the verdict, from what the code knows of its tests
-  pub ruled-refused : (x : Refusal) → r .reply ≡ verdicts.Refused x → ruled r full stations round guests house last ≡ refused (number x)
+  pub ruled-refused :
+      (x : Refusal) → r .reply ≡ verdicts.Refused x → ruled r full stations round guests house last ≡ refused (number x)
   unfolding ruled answerOfVerdict followed
   ruled-refused x e = rw e
 
@@ -118,7 +119,8 @@ module _ (r : Round) (full : Bool) (stations round : ℕ) (guests : List ℕ) (h
 
       pub settled-posted :
           (s : Ruling) (guests′ : List ℕ) (house′ : ℕ) → late ≡ false → noRoom r full guests house ≡ false
-          → s .reply ≡ verdicts.Accepted → s .credits ≡ r .stations → guests′ ≡ plus guests (r .charges) → house′ ≡ house + r .margin .0
+          → s .reply ≡ verdicts.Accepted → s .credits ≡ r .stations → guests′ ≡ plus guests (r .charges)
+          → house′ ≡ house + r .margin .0
           → Settled (ruled r full stations round guests house last) r round guests house last s guests′ house′ round
       unfolding firstFault answerOfVerdict
       settled-posted s guests′ house′ l o q k g h =

@@ -14,7 +14,8 @@ use Rattle.model.specs.cases.Cases.{tableI, pair, caseE, caseG, single, 
 pub cases-hold : CasesHold
 unfolding _<?_ _≤?_ _=?_ _and_ _or_ only sum greatest count some any list firstFault giving bidAt marketBy median
     byNumber market cut opens screen queue before rank provisional critical at charge charged sold paid margin better
-    best surplus truthful outcomeBy screened decision outcome outside counts lengths values listLengths marketFaults verdict
+    best surplus truthful outcomeBy screened decision outcome outside counts lengths values
+    listLengths marketFaults verdict
     clearingFaults raised entered overLimit bookSize outOfTurn postingFaults tableI pair caseE caseG single lone found
     expected cases
 cases-hold = refl

@@ -30,21 +30,24 @@ plain-twice :
     (answers (emptyPlain 2 2) twice ≡ accepted tt ∷ refused 11 ∷ []) × (final (emptyPlain 2 2) twice ≡ plain once)
 unfolding _<?_ _≤?_ _=?_ _and_ _or_ only sum greatest count some any list firstFault bidAt marketBy median byNumber
     market cut opens screen queue before rank provisional critical at charge charged sold paid margin better best
-    surplus truthful outcomeBy screened decision outside counts lengths values marketFaults raised entered overLimit bookSize
+    surplus truthful outcomeBy screened decision outside counts lengths values marketFaults raised
+    entered overLimit bookSize
     outOfTurn postingFaults pair caseE emptyPlain answer updated after answers final plain soldOf paidOf
 plain-twice = (refl, refl)
 
 posted-once : Posts (emptyBook 2 2) (posting caseE 1) (accepted tt) once
 unfolding _<?_ _≤?_ _=?_ _and_ _or_ only sum greatest count some any list firstFault bidAt marketBy median byNumber
     market cut opens screen queue before rank provisional critical at charge charged sold paid margin better best
-    surplus truthful outcomeBy screened decision outside counts lengths values marketFaults raised entered overLimit bookSize
+    surplus truthful outcomeBy screened decision outside counts lengths values marketFaults raised
+    entered overLimit bookSize
     outOfTurn postingFaults pair caseE emptyPlain answer updated after plain soldOf paidOf emptyBook
 posted-once = record { answered = refl; left = refl }
 
 refused-again : Posts once (posting caseE 1) (refused 11) once
 unfolding _<?_ _≤?_ _=?_ _and_ _or_ only sum greatest count some any list firstFault bidAt marketBy median byNumber
     market cut opens screen queue before rank provisional critical at charge charged sold paid margin better best
-    surplus truthful outcomeBy screened decision outside counts lengths values marketFaults raised entered overLimit bookSize
+    surplus truthful outcomeBy screened decision outside counts lengths values marketFaults raised
+    entered overLimit bookSize
     outOfTurn postingFaults pair caseE emptyPlain answer updated after plain soldOf paidOf
 refused-again = record { answered = refl; left = refl }
 

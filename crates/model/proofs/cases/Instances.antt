@@ -41,7 +41,8 @@ pub record Numbers : Type 0 where
 numbers : Numbers
 unfolding _<?_ _≤?_ _=?_ _and_ _or_ only sum greatest count some any firstFault bidAt marketBy median byNumber market
     cut opens screen queue before rank provisional critical at charge charged obtained sold paid margin better best
-    surplus truthful screened decision outside counts lengths values marketFaults verdict guestGain stationGain pair caseE
+    surplus truthful screened decision outside counts lengths values marketFaults verdict
+    guestGain stationGain pair caseE
     caseG overbid costly underasked without left-out pivot past bar menu
 numbers = record {
   accepted-G = refl;

@@ -56,9 +56,11 @@ called t cut margin exit c =
     }
 
 pub calls : ClearedCall honest × ClearedCall overbid × ClearedCall overask
-unfolding answerOfClearing giving updated firstFault clearingFaults counts lengths listLengths values outside any some _<?_ _≤?_ _=?_ _and_
+unfolding answerOfClearing giving updated firstFault clearingFaults counts lengths listLengths values outside any
+    some _<?_ _≤?_ _=?_ _and_
     _or_ only sum greatest count list bidAt marketBy median byNumber market cut opens screen queue before rank
-    provisional critical at charge charged sold paid margin better best surplus truthful outcomeBy screened decision outcome
+    provisional critical at charge charged sold paid margin better best surplus truthful outcomeBy
+    screened decision outcome
 calls = (
   called honest 6 2 (results (1 ∷ 0 ∷ []) (20 ∷ 0 ∷ []) (3 ∷ 0 ∷ []) (18 ∷ 0 ∷ []))
       (record { answered = refl; left = refl }),

@@ -1,6 +1,6 @@
 -- Demand 3's first two sentences, proved of calls: a call that was answered as cleared leaves the outcome.
 use Prim.Native.Nat.{ℕ, suc, _+_, _*_, _<_}
-use mathlib.Core.Path.{_≡_, refl, sym, ap, ap₂, _∙_}
+use mathlib.Core.Path.{_≡_, sym, ap, ap₂, _∙_}
 use native.Mathlib.Omega.{arith}
 use lib.IntN.{subℕ}
 use lib.ListN.{getD, length}
@@ -9,7 +9,7 @@ use Rattle.model.specs.Verdicts.{accepted, firstFault}
 use Rattle.model.proofs.Verdicts.{gave-accepted, gave-refused, updated-accepted, updated-refused}
 use Rattle.model.specs.market.Market.{Tables, bidAt, marketBy, median, market, screen}
 use Rattle.model.specs.market.Mechanism.{at, charged, obtained, served, sold, paid, margin}
-use Rattle.model.specs.market.Outcome.{Results, outcomeBy, screened, decision, outcome}
+use Rattle.model.specs.market.Outcome.{outcomeBy, screened, decision, outcome}
 use Rattle.model.specs.market.Faults.{Accepted, clearingFaults}
 use Rattle.model.specs.market.Gains.{guestGain, stationGain}
 use Rattle.model.specs.claims.Truth.{ClearsWithin}
@@ -61,12 +61,14 @@ module _ (t : Tables) (k : ClearedCall t) where
 
   -- the gains that the lists show are those of the definitions
   guest-gain :
-      (w : ℕ → ℕ) (i : ℕ) → i < length (t .amounts) → guestGain (screened t) (decision t) w i ≡ guestGainIn t (k .exit) w i
+      (w : ℕ → ℕ) (i : ℕ) → i < length (t .amounts)
+      → guestGain (screened t) (decision t) w i ≡ guestGainIn t (k .exit) w i
   unfolding guestGain guestGainIn obtained screened screen market marketBy
   guest-gain w i l = ap₂ subℕ (ap (at (λ j. w j * getD (t .amounts) i 0)) (sym (station-of i l))) (sym (charge-of i l))
 
   station-gain :
-      (cost j : ℕ) → j < length (t .asks) → stationGain (screened t) (decision t) cost j ≡ stationGainIn (k .exit) cost j
+      (cost j : ℕ) → j < length (t .asks)
+      → stationGain (screened t) (decision t) cost j ≡ stationGainIn (k .exit) cost j
   unfolding stationGain stationGainIn
   station-gain cost j l = ap₂ subℕ (sym (paid-of j l)) (ap (λ x. cost * x) (sym (sold-of j l)))
 

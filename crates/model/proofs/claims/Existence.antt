@@ -59,7 +59,8 @@ by-verdict b p e (accepted _) = length-raised _ _ _ ∙ e ∙ sym (length-raised
 by-verdict b p e (refused r) = e
 
 even-after :
-    (b : PlainBook) (p : Posting) → length (b .sold) ≡ length (b .paid) → length (after b p .sold) ≡ length (after b p .paid)
+    (b : PlainBook) (p : Posting) → length (b .sold) ≡ length (b .paid)
+    → length (after b p .sold) ≡ length (after b p .paid)
 unfolding after
 even-after b p e = by-verdict b p e (answer b p)
 

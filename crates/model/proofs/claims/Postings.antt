@@ -1,11 +1,10 @@
 -- Demand 3, third sentence, proved: by induction over the list, one law for each kind of number that the book keeps.
 use Prim.Native.Nat.{ℕ, _+_, _<_, _≤_}
-use mathlib.Core.Bool.{false}
 use mathlib.Core.List.{List, [], _∷_}
 use mathlib.Core.Path.{_≡_, refl, sym, ap, ap₂, _∙_}
 use native.Mathlib.Omega.{arith}
 use lib.ListN.{getD, length, replicate, length-replicate, getD-replicate}
-use Rattle.model.specs.Counting.{_<?_, any}
+use Rattle.model.specs.Counting.{any}
 use Rattle.model.specs.market.Mechanism.{charged, paid}
 use Rattle.model.specs.market.Outcome.{screened, decision}
 use Rattle.model.specs.Verdicts.{Verdict, accepted, refused, updated}
@@ -13,8 +12,6 @@ use Rattle.model.specs.book.PlainBook.{PlainBook, entered, emptyPlain, a
 use Rattle.model.specs.book.PlainBook.{postedRounds, sumOver, sumAll}
 use Rattle.model.specs.Limits.{maxAccount}
 use Rattle.model.specs.claims.Meaning.{AccountsWithin, PostingWithinLimits}
-use Rattle.model.proofs.Tests.{neither, not-lt}
-use Rattle.model.proofs.Counting.{none-any}
 use Rattle.model.proofs.market.Acceptance.{posting-accepted-iff-within-limits}
 use Rattle.model.proofs.claims.Truth.{balanced}
 use Rattle.model.proofs.book.Records.{length-sold, getD-sold, getD-paid}
@@ -40,7 +37,8 @@ module _ (P : PlainBook → Type 0) (value : PlainBook → ℕ) (more : Posting 
     (raises : (B : PlainBook) (p : Posting) → Fits B p → P B
     → value (entered (p .tables) (p .round) B) ≡ value B + more p) where
   step : (ps : List Posting) (B : PlainBook) (p : Posting) → P B
-      → ((C : PlainBook) → P C → P (final C ps) × (value (final C ps) ≡ value C + sumOver more (postedRounds ps (answers C ps))))
+      → ((C : PlainBook) → P C
+      → P (final C ps) × (value (final C ps) ≡ value C + sumOver more (postedRounds ps (answers C ps))))
       → (v : Verdict) → answer B p ≡ v
       → P (final (after B p) ps)
       × (value (final (after B p) ps)

@@ -1,13 +1,12 @@
 -- Reading over calls, proved: a call on tables of the right sizes finds the sheet's own faults.
-use Prim.Native.Nat.{ℕ, _*_}
-use mathlib.Core.List.{List, _∷_}
-use mathlib.Core.Path.{_≡_, sym, ap, ap₂, _∙_, refl}
+use Prim.Native.Nat.{ℕ}
+use mathlib.Core.List.{List}
+use mathlib.Core.Path.{_≡_, sym, ap, ap₂, _∙_}
 use lib.ListN.{length}
 use Rattle.model.specs.Verdicts.{accepted, firstFault, giving}
-use Rattle.model.specs.Numbers.{answerOfReading}
 use Rattle.model.specs.market.Market.{Tables}
-use Rattle.model.specs.sheet.Content.{guests, stations, tablesOf, sheetFaults, readSheet}
-use Rattle.model.specs.contracts.Reads.{LentTables, filled, readVerdict, tableLengths, Reads}
+use Rattle.model.specs.sheet.Content.{tablesOf, sheetFaults, readSheet}
+use Rattle.model.specs.contracts.Reads.{LentTables, readVerdict, tableLengths, Reads}
 use Rattle.model.specs.claims.Sheets.{RightSizes, ReadAs, StatedIsRead, ReadIsStated}
 use Rattle.model.specs.declared.answers.Reading.{Reading}
 use Rattle.model.proofs.Counting.{length-list}

@@ -8,7 +8,7 @@ use Rattle.model.specs.declared.money.Mills.{Mills}
 use Rattle.model.proofs.Verdicts.{gave-accepted, gave-refused, number-accepted, number-refused, updated-accepted}
 use Rattle.model.proofs.Verdicts.{updated-refused}
 use Rattle.model.specs.market.Market.{Tables}
-use Rattle.model.specs.market.Outcome.{Results, outcome}
+use Rattle.model.specs.market.Outcome.{Results}
 use Rattle.model.specs.contracts.Clears.{Clears}
 use Rattle.model.specs.declared.answers.Clearing.{Clearing}
 use Rattle.model.specs.declared.answers.Clearing.the-variants as clearing

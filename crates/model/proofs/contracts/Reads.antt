@@ -1,7 +1,7 @@
 -- What a caller of `read` learns from its answer.
 use Prim.Native.Nat.{ℕ, _*_, _≤_}
 use mathlib.Core.Bool.{false, not}
-use mathlib.Core.List.{List, _∷_}
+use mathlib.Core.List.{List}
 use mathlib.Core.Path.{_≡_, refl, sym, ap, ap₂, _∙_}
 use native.Mathlib.Nat.{le-refl}
 use native.Mathlib.Omega.{arith}
@@ -56,7 +56,8 @@ pub lent-good :
     (a b c d : ℕ) → a ≡ maxGuests → b ≡ maxStations → c ≡ maxStations → d ≡ maxBids
     → (not (a =? maxGuests) or not (b =? maxStations) or not (c =? maxStations) or not (d =? maxBids)) ≡ false
 lent-good a b c d la lb lc ld =
-    neither (neither (neither (ap not (is-eq a maxGuests la)) (ap not (is-eq b maxStations lb))) (ap not (is-eq c maxStations lc)))
+    neither (neither (neither (ap not (is-eq a maxGuests la)) (ap not (is-eq b maxStations lb)))
+    (ap not (is-eq c maxStations lc)))
     (ap not (is-eq d maxBids ld))
 
 module _ (s : List ℕ) (entry exit : LentTables) (r : Reading) (k : Reads s entry r exit) where

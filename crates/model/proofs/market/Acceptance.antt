@@ -85,12 +85,15 @@ accept : (t : Tables) → WithinLimits t → Accepted t
 unfolding verdict marketFaults counts lengths values
 accept t w =
     fault-free _ _ (neither
-    (neither (not-lt _ _ (w .shape .guests-most)) (not-eq (length (t .asks)) 0 (λ q. omega (arith, w .shape .stations-least))))
+    (neither (not-lt _ _ (w .shape .guests-most))
+    (not-eq (length (t .asks)) 0 (λ q. omega (arith, w .shape .stations-least))))
     (not-lt _ _ (w .shape .stations-most)))
-    (fault-free _ _ (neither (neither (not-unequal _ _ (w .shape .bays-length)) (not-unequal _ _ (w .shape .bids-length)))
+    (fault-free _ _ (neither
+    (neither (not-unequal _ _ (w .shape .bays-length)) (not-unequal _ _ (w .shape .bids-length)))
     (not-unequal _ _ (w .shape .width-is)))
     (fault-free _ _ (none-any (t .asks) _ (λ j lj. not-outside 0 maxPrice _ (omega arith) (w .ask-most j lj)))
-    (fault-free _ _ (none-any (t .bays) _ (λ j lj. let l : j < length (t .asks) = omega (arith, w .shape .bays-length) in
+    (fault-free _ _ (none-any (t .bays) _ (
+    λ j lj. let l : j < length (t .asks) = omega (arith, w .shape .bays-length) in
     not-outside _ _ _ (w .bays-least j l) (w .bays-most j l)))
     (fault-free _ _ (none-any (t .amounts) _ (λ i li. not-outside _ _ _ (w .amount-least i li) (w .amount-most i li)))
     (fault-free _ _ (none-any (t .bids) _ (λ q lq. not-outside 0 maxPrice _ (omega arith) (w .bid-most q lq)))

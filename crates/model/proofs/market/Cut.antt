@@ -175,7 +175,8 @@ module _ (M : Market) (l s : List ℕ) (rs : Rising s) (rl : Rearranged s l) (sm
 
   at-position : cut M ≡ getD s p 0
   unfolding cut
-  at-position = le-antisymm (greatest-le (M .stationCount) _ _ (λ j lj. only-le _ _ _ (λ q. upper j (lt-yes _ _ q)))) lower
+  at-position =
+      le-antisymm (greatest-le (M .stationCount) _ _ (λ j lj. only-le _ _ _ (λ q. upper j (lt-yes _ _ q)))) lower
     where
       upper : (j : ℕ) → count (M .stationCount) (λ k. M .ask k <? M .ask j) < M .position → M .ask j ≤ getD s p 0
       upper j h = ⊎-elim

@@ -13,7 +13,8 @@ use Rattle.model.proofs.Counting.{sum-zero, sum-cong, sum-add, sum-scal
 
 -- only candidates are assigned
 abbrev pub Candidates : Screened → Decision → Type 0
-Candidates S D = (i j : ℕ) → i < S .guestCount → D .assigned i ≡ suc j → (j < S .stationCount) × (S .candidate i j ≡ true)
+Candidates S D =
+    (i j : ℕ) → i < S .guestCount → D .assigned i ≡ suc j → (j < S .stationCount) × (S .candidate i j ≡ true)
 
 -- and no more than a station has bays, each at a total no lower than the critical total
 pub record Fair (S : Screened) (D : Decision) : Type 0 where
@@ -52,8 +53,10 @@ module _ (S : Screened) (D : Decision) (C : Candidates S D) where
   pub balance : sum (S .guestCount) (charged S D) ≡ sum (S .stationCount) (paid S D) + margin S D
   unfolding paid sold margin part
   balance =
-      let payments : sum (S .stationCount) (paid S D) ≡ sum (S .guestCount) (λ i. S .cut * sum (S .stationCount) (part i)) =
-      sum-scale (S .stationCount) (S .cut) (sold S D) ∙ ap (λ x. S .cut * x) (sym (sum-swap (S .guestCount) (S .stationCount) part))
+      let payments : sum (S .stationCount) (paid S D)
+      ≡ sum (S .guestCount) (λ i. S .cut * sum (S .stationCount) (part i)) =
+      sum-scale (S .stationCount) (S .cut) (sold S D)
+      ∙ ap (λ x. S .cut * x) (sym (sum-swap (S .guestCount) (S .stationCount) part))
       ∙ sym (sum-scale (S .guestCount) (S .cut) (λ i. sum (S .stationCount) (part i))) in
       sum-cong (S .guestCount) _ _ charge-parts ∙ sum-add (S .guestCount) _ _ ∙ ap (λ x. x + margin S D) (sym payments)
 
@@ -70,7 +73,8 @@ module _ (M : Market) (D : Decision) (C : Candidates (screen M) D) where
   pub closed-sells-nothing : (j : ℕ) → opens M j ≡ false → sold (screen M) D j ≡ 0
   unfolding sold screen
   closed-sells-nothing j o =
-      sum-zero (M .guestCount) _ (λ i li. only-no _ _ (not-eq _ _ (λ e. clash (candidate-open M i j (C i j li e .1)) o)))
+      sum-zero (M .guestCount) _
+      (λ i li. only-no _ _ (not-eq _ _ (λ e. clash (candidate-open M i j (C i j li e .1)) o)))
 
   -- a station is paid at least what it asks for what it sold
   pub payment-covers-ask : (j : ℕ) → M .ask j * sold (screen M) D j ≤ paid (screen M) D j

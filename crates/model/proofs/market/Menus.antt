@@ -128,7 +128,8 @@ module _ (M : Market) (K : Keys (M .key) (M .guestCount)) (i : ℕ) (li : i < M 
 
 module _ (M : Market) (K : Keys (M .key) (M .guestCount)) (i : ℕ) (li : i < M .guestCount) (some : 1 ≤ M .amount i)
     (bays : (j : ℕ) → j < M .stationCount → 1 ≤ M .bays j)
-    (b : ℕ → ℕ → ℕ) (alike : (k j : ℕ) → k < M .guestCount → j < M .stationCount → (k ≡ i → ⊥) → b k j ≡ M .bid k j) where
+    (b : ℕ → ℕ → ℕ)
+    (alike : (k j : ℕ) → k < M .guestCount → j < M .stationCount → (k ≡ i → ⊥) → b k j ≡ M .bid k j) where
   abbrev S′ : Screened
   S′ = screen (rebid M b)
 
@@ -140,7 +141,8 @@ module _ (M : Market) (K : Keys (M .key) (M .guestCount)) (i : ℕ) (li : i < M 
       (λ k lk n. alike k j lk lj n)
       (menu-provisional M K i li some b j (bays j lj) (λ k lk n. alike k j lk lj n) ∙ h)))
 
-  pub menu-charged : charged S′ (truthful S′) i ≡ at ((menu M i) .price) (choice (M .stationCount) (menu M i) (S′ .total i))
+  pub menu-charged :
+      charged S′ (truthful S′) i ≡ at ((menu M i) .price) (choice (M .stationCount) (menu M i) (S′ .total i))
   unfolding charged at screen
   menu-charged = go ((truthful S′) .assigned i) refl ∙ ap (at ((menu M i) .price)) menu-assigned
     where

@@ -102,14 +102,16 @@ is-left-out Q i k n c r = both (without-candidate Q i k n c) (is-le _ _ r)
 
 pub le-pivot : (Q : Queue) (i k : ℕ) → k < Q .guestCount → left-out Q i k ≡ true → Q .total k ≤ pivot Q i
 unfolding pivot
-le-pivot Q i k lk e = le-trans (le-only _ _ e) (le-greatest (Q .guestCount) (λ k. only (left-out Q i k) (Q .total k)) k lk)
+le-pivot Q i k lk e =
+    le-trans (le-only _ _ e) (le-greatest (Q .guestCount) (λ k. only (left-out Q i k) (Q .total k)) k lk)
 
 pub past-le-bar : (Q : Queue) (i k : ℕ) → k < Q .guestCount → left-out Q i k ≡ true → past Q i k ≤ bar Q i
 unfolding bar
 past-le-bar Q i k lk e =
     le-trans (le-only _ _ e) (le-greatest (Q .guestCount) (λ k. only (left-out Q i k) (past Q i k)) k lk)
 
-pub bar-le : (Q : Queue) (i t : ℕ) → ((k : ℕ) → k < Q .guestCount → left-out Q i k ≡ true → past Q i k ≤ t) → bar Q i ≤ t
+pub bar-le :
+    (Q : Queue) (i t : ℕ) → ((k : ℕ) → k < Q .guestCount → left-out Q i k ≡ true → past Q i k ≤ t) → bar Q i ≤ t
 unfolding bar
 bar-le Q i t h = greatest-le (Q .guestCount) _ t (λ k lk. only-le _ _ _ (h k lk))
 

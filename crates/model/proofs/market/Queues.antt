@@ -86,7 +86,8 @@ unfolding provisional
 is-provisional Q i c r = both c (is-lt _ _ r)
 
 -- a candidate that stands before i has a lower rank
-pub rank-lt : (Q : Queue) (k i : ℕ) → k < Q .guestCount → Q .candidate k ≡ true → before Q k i ≡ true → rank Q k < rank Q i
+pub rank-lt :
+    (Q : Queue) (k i : ℕ) → k < Q .guestCount → Q .candidate k ≡ true → before Q k i ≡ true → rank Q k < rank Q i
 unfolding rank
 rank-lt Q k i lk ck e = count-strict (Q .guestCount) _ _
     (λ l ll p. both (first _ _ p) (before-trans Q l k i (second _ _ p) e))
@@ -133,7 +134,8 @@ module _ (Q : Queue) (D : Distinct Q) where
 
 -- ---- the ranks are 0, 1, 2 .. without gaps
 
-rank-below : (Q : Queue) (k : ℕ) → k < Q .guestCount → Q .candidate k ≡ true → rank Q k < count (Q .guestCount) (Q .candidate)
+rank-below :
+    (Q : Queue) (k : ℕ) → k < Q .guestCount → Q .candidate k ≡ true → rank Q k < count (Q .guestCount) (Q .candidate)
 unfolding rank
 rank-below Q k lk c =
     count-strict (Q .guestCount) _ _ (λ l ll p. first _ _ p) k lk
@@ -207,7 +209,8 @@ module _ (Q : Queue) (D : Distinct Q) where
       let r : Q .bays ≤ rank Q k = lt-no _ _ (not-true _ (second _ _ p)) in
       absurd (omega (arith, rank-below Q k lk (first _ _ p)))))) (omega arith)
 
-  pub critical-is-first-out : ((k : ℕ) → k < Q .guestCount → Q .candidate k ≡ true → 0 < Q .total k) → CriticalIsFirstOut Q
+  pub critical-is-first-out :
+      ((k : ℕ) → k < Q .guestCount → Q .candidate k ≡ true → 0 < Q .total k) → CriticalIsFirstOut Q
   critical-is-first-out positive = record {
     first-out = first-out;
     zero-if-none = zero-if-none;

@@ -36,7 +36,9 @@ cut-le-where-open M a j alike o =
     (λ k lk. only-le _ _ _ (λ p. each k lk (lt-yes _ _ p))) in
     omega (arith, lt-yes _ _ o)
   where
-    each : (k : ℕ) → k < M .stationCount → count (M .stationCount) (λ x. a x <? a k) < M .position → a k ≤ max (cut M) (a j)
+    each :
+        (k : ℕ) → k < M .stationCount → count (M .stationCount) (λ x. a x <? a k) < M .position
+        → a k ≤ max (cut M) (a j)
     each k lk h = ⊎-elim
         (λ (above : a j < a k).
         let n : k ≡ j → ⊥ = λ e. let z : a k ≡ a j = ap a e in omega arith in

@@ -67,7 +67,8 @@ truthful-fair S K = record {
 
 -- a winner is charged at most its total
 pub charge-held :
-    (M : Market) → Keys (M .key) (M .guestCount) → (i j : ℕ) → i < M .guestCount → provisional (queue (screen M) j) i ≡ true
+    (M : Market) → Keys (M .key) (M .guestCount) → (i j : ℕ) → i < M .guestCount
+    → provisional (queue (screen M) j) i ≡ true
     → charge (screen M) (truthful (screen M)) i j ≤ M .bid i j * M .amount i
 unfolding charge screen
 charge-held M K i j li h =

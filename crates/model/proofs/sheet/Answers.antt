@@ -1,7 +1,7 @@
 -- The answer of the checking pass, and what it tells.
 use Prim.Native.Nat.{ℕ}
 use mathlib.Core.List.{List}
-use mathlib.Core.Path.{_≡_, refl, sym, ap, ap₂, _∙_}
+use mathlib.Core.Path.{_≡_, sym, ap, _∙_}
 use Rattle.model.specs.declared.refusal.Refusal.{Refusal}
 use Rattle.model.specs.Numbers.{number, answerOfReading}
 use Rattle.model.specs.Verdicts.{Verdict, accepted, refused, firstFault, giving}

@@ -31,7 +31,8 @@ number-turn s at left k x b h l e f =
     let e2 : at + (left - 1) + 1 ≡ at + left = omega arith in
     rw (e1, e2) (omega arith)
 
-pub number-end : (s : List ℕ) (at left k x : ℕ) → left ≤ 0 → x ≡ littleEndian s (at + left) (k - left) → x ≡ littleEndian s at k
+pub number-end :
+    (s : List ℕ) (at left k x : ℕ) → left ≤ 0 → x ≡ littleEndian s (at + left) (k - left) → x ≡ littleEndian s at k
 number-end s at left k x h e =
     let e1 : at + left ≡ at = omega arith in
     let e2 : k - left ≡ k = omega arith in
@@ -51,7 +52,9 @@ bytes-pow (suc k) =
 pub number-four : (s : List ℕ) → ((i : ℕ) → getD s i 0 < 256) → (p k : ℕ) → k ≤ 4 → littleEndian s p k < 4294967296
 number-four s h p k l = omega (arith, number-low s h p k, bytes-pow k, pow-mono {i = 8 * k} {j = 32} (omega arith))
 
-pub number-halves : (s : List ℕ) (p a b : ℕ) → a ≡ littleEndian s p 2 → b ≡ littleEndian s (p + 2) 2 → a + 65536 * b ≡ littleEndian s p 4
+pub number-halves :
+    (s : List ℕ) (p a b : ℕ) → a ≡ littleEndian s p 2 → b ≡ littleEndian s (p + 2) 2
+    → a + 65536 * b ≡ littleEndian s p 4
 unfolding littleEndian
 number-halves s p a b e f =
     let e1 : p + 1 + 1 ≡ p + 2 = omega arith in

@@ -57,4 +57,5 @@ layout-short t set n m =
     ))
 
 pub sheets-are-short : SheetsAreShort
-sheets-are-short s t w = rw (w .is) (layout-short t (w .set) (w .fitting .shape .guests-most) (w .fitting .shape .stations-most))
+sheets-are-short s t w =
+    rw (w .is) (layout-short t (w .set) (w .fitting .shape .guests-most) (w .fitting .shape .stations-most))

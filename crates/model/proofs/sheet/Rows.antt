@@ -146,7 +146,8 @@ sound-at s m (suc n) i p e l g = ⊎-elim
 
 -- and they end within the sheet
 pub rows-within :
-    (s : List ℕ) (m n : ℕ) → rowAt s m 0 ≤ length s → firstFault (rowsFaults s m n) ≡ accepted tt → rowAt s m n ≤ length s
+    (s : List ℕ) (m n : ℕ) → rowAt s m 0 ≤ length s → firstFault (rowsFaults s m n) ≡ accepted tt
+    → rowAt s m n ≤ length s
 unfolding rowAt
 rows-within s m zero h e = h
 rows-within s m (suc n) h e = row-sound s m (rowAt s m n) (rows-split s m n e .1) .bids-in

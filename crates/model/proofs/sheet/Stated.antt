@@ -142,7 +142,8 @@ module _ (t : Tables) (s : List ℕ) (j p : ℕ) where
   ask-long = omega (arith, bytes-length 4 (getD (t .asks) j 0))
 
   station-holds :
-      Bytes s → littleEndian s p 4 ≡ getD (t .asks) j 0 → littleEndian s (p + 4) 2 ≡ getD (t .bays) j 0 → Holds s p (station t j)
+      Bytes s → littleEndian s p 4 ≡ getD (t .asks) j 0 → littleEndian s (p + 4) 2 ≡ getD (t .bays) j 0
+      → Holds s p (station t j)
   unfolding station
   station-holds y a b =
       holds-then s p (p + 4) (askBytes t j) _ (number-holds s y p 4 _ a) ask-long (number-holds s y (p + 4) 2 _ b)

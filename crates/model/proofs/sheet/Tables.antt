@@ -1,7 +1,7 @@
 -- The tables, as `read` makes them.
 use Prim.Native.Nat.{ℕ, _*_, _≤_}
 use mathlib.Core.Bool.{Bool, true, false, not}
-use mathlib.Core.List.{List, _∷_}
+use mathlib.Core.List.{List}
 use mathlib.Core.Path.{_≡_, refl, sym, _∙_}
 use native.Mathlib.Omega.{arith}
 use lib.ListN.{length}
@@ -33,10 +33,12 @@ pub room-for : (n m k : ℕ) → n ≤ maxGuests → m ≤ maxStations → k ≡
 room-for n m k h g e = omega (arith, product-fits n m h g)
 
 pub lent-lengths :
-    (a b c d : ℕ) → tableLengths a b c d ≡ (false gives 10) → (a ≡ maxGuests) × (b ≡ maxStations) × (c ≡ maxStations) × (d ≡ maxBids)
+    (a b c d : ℕ) → tableLengths a b c d ≡ (false gives 10)
+    → (a ≡ maxGuests) × (b ≡ maxStations) × (c ≡ maxStations) × (d ≡ maxBids)
 unfolding tableLengths
 lent-lengths a b c d e =
-    let t : (not (a =? maxGuests) or not (b =? maxStations) or not (c =? maxStations) or not (d =? maxBids)) ≡ false = cc in
+    let t : (not (a =? maxGuests) or not (b =? maxStations) or not (c =? maxStations) or not (d =? maxBids)) ≡ false
+    = cc in
     let (t1, t2) = or-no _ _ t in let (t3, t4) = or-no _ _ t1 in let (t5, t6) = or-no _ _ t3 in
     (eq-yes _ _ (is _ t5), eq-yes _ _ (is _ t6), eq-yes _ _ (is _ t4), eq-yes _ _ (is _ t2))
   where
@@ -73,7 +75,8 @@ module _ (s a b c d : List ℕ) where
     pub read-all :
         (n m : ℕ) (a′ b′ c′ d′ : List ℕ) → firstFault (sheetFaults s) ≡ accepted tt → n ≡ guests s → m ≡ stations s
         → a′ ≡ first-places (list n (amountOf s m)) a → b′ ≡ first-places (list m (askOf s)) b
-        → c′ ≡ first-places (list m (baysOf s)) c → d′ ≡ first-places (joined n (λ i. list m (bidOf s m i))) d → Reads s entry (Read n m) (lentTables a′ b′ c′ d′)
+        → c′ ≡ first-places (list m (baysOf s)) c → d′ ≡ first-places (joined n (λ i. list m (bidOf s m i))) d
+        → Reads s entry (Read n m) (lentTables a′ b′ c′ d′)
     unfolding answerOfReading filled tablesOf
     read-all n m a′ b′ c′ d′ e f g i j k l =
         let h : readVerdict entry s ≡ accepted tt = as-sheet ∙ e in

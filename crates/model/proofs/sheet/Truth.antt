@@ -77,7 +77,8 @@ within s m zero h e = omega (arith, first-row s m)
 within s m (suc n) h e = omega (arith, row-suc s m n, sound-at s m (suc n) n (rowAt s m n) e here refl .bids-in)
 
 all-sound :
-    (s : List ℕ) (m n : ℕ) → ((i : ℕ) → i < n → RowSound s m (rowAt s m i)) → firstFault (rowsFaults s m n) ≡ accepted tt
+    (s : List ℕ) (m n : ℕ) → ((i : ℕ) → i < n → RowSound s m (rowAt s m i))
+    → firstFault (rowsFaults s m n) ≡ accepted tt
 all-sound s m zero h = rows-none s m
 all-sound s m (suc n) h = rows-suc s m n (all-sound s m n (λ i l. h i (up l))) ∙ sound-row (h n here)
 
@@ -120,7 +121,8 @@ module _ (s : List ℕ) (t : Tables) (set : ℕ → ℕ → Bool) (g : Fitting t
       asks = list-is (m t) (λ j. littleEndian s (4 + 6 * j) 4) (t .asks) refl (f .ask-is) x;
       bays = list-is (m t) (λ j. littleEndian s (8 + 6 * j) 2) (t .bays) (g .shape .bays-length) (f .bays-are) x;
       amounts = list-is (n t) (λ i. littleEndian s (rowAt s (m t) i) 2) (t .amounts) refl (f .amount-is) x;
-      bids = joined-is (n t) (m t) (bidOf s (m t)) (t .bids) (g .shape .stations-least) (g .shape .bids-length) bid-same x;
+      bids = joined-is (n t) (m t) (bidOf s (m t)) (t .bids) (g .shape .stations-least)
+          (g .shape .bids-length) bid-same x;
       width = sym (g .shape .width-is) x;
     })
 

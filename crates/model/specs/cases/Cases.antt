@@ -9,7 +9,7 @@ use Rattle.model.specs.market.Market.{Tables, tables, regular}
 use Rattle.model.specs.market.Mechanism.{charge}
 use Rattle.model.specs.market.Outcome.{results, Outcome, outcomeOf, screened, decision, outcome}
 use Rattle.model.specs.market.Faults.{verdict, clearingFaults}
-use Rattle.model.specs.book.PlainBook.{PlainBook, postingFaults}
+use Rattle.model.specs.book.PlainBook.{postingFaults}
 
 -- Table I of document 000
 unfoldable pub tableI : Tables

@@ -39,7 +39,8 @@ pub record StationInstance : Type 0 where
   pub alike : AlikeButForStation costly underasked 0
   pub truth-gains : stationGain (screened costly) (decision costly) 5 0 ≡ pos 0
   pub underasked-gains : stationGain (screened underasked) (decision underasked) 5 0 ≡ negsuc 1
-  pub no-more : stationGain (screened underasked) (decision underasked) 5 0 ≤ℤ stationGain (screened costly) (decision costly) 5 0
+  pub no-more :
+      stationGain (screened underasked) (decision underasked) 5 0 ≤ℤ stationGain (screened costly) (decision costly) 5 0
 
 -- guest 2's menu in case G: station 1 for 27, from a total of 28 on, since guest 1 wins a tie
 pub record MenuInstance : Type 0 where

@@ -44,7 +44,8 @@ pub record CallWithinLimits (t : Tables) (r : Results) : Type 0 where
   pub lists-fit : RightLengths t r
 
 abbrev pub CallAcceptedIffWithinLimits : Type 0
-CallAcceptedIffWithinLimits = (t : Tables) (r : Results) → (firstFault (clearingFaults t r) ≡ accepted tt) ↔ CallWithinLimits t r
+CallAcceptedIffWithinLimits =
+    (t : Tables) (r : Results) → (firstFault (clearingFaults t r) ≡ accepted tt) ↔ CallWithinLimits t r
 
 -- every account and kWh sum of a book is within its limit
 pub record AccountsWithin (B : PlainBook) : Type 0 where

@@ -37,11 +37,13 @@ pub record WellKept (g s : ℕ) (ps : List Posting) (vs : List Verdict) (B : Boo
 
 abbrev pub BooksAreWellKept : Type 0
 BooksAreWellKept =
-    (g s : ℕ) (ps : List Posting) (vs : List Verdict) (B : Book) → PostedInTurn (emptyBook g s) ps vs B → WellKept g s ps vs B
+    (g s : ℕ) (ps : List Posting) (vs : List Verdict) (B : Book)
+    → PostedInTurn (emptyBook g s) ps vs B → WellKept g s ps vs B
 
 -- whatever is posted, there are such calls: the claim speaks of every list
 abbrev pub PostedInTurnExists : Type 0
-PostedInTurnExists = (g s : ℕ) (ps : List Posting) → (vs : List Verdict) × (B : Book) × PostedInTurn (emptyBook g s) ps vs B
+PostedInTurnExists =
+    (g s : ℕ) (ps : List Posting) → (vs : List Verdict) × (B : Book) × PostedInTurn (emptyBook g s) ps vs B
 
 -- document 01's example: case E as round 1, and once more. There are such calls, and all of them come to the same
 abbrev pub ExampleIsPosted : Type 0
@@ -50,5 +52,6 @@ ExampleIsPosted =
     (book (24 ∷ 0 ∷ []) (account 3 18 ∷ account 0 0 ∷ []) 6 1)
 
 abbrev pub ExampleEndsSo : Type 0
-ExampleEndsSo = (vs : List Verdict) (B : Book) → PostedInTurn (emptyBook 2 2) (posting caseE 1 ∷ posting caseE 1 ∷ []) vs B
+ExampleEndsSo =
+    (vs : List Verdict) (B : Book) → PostedInTurn (emptyBook 2 2) (posting caseE 1 ∷ posting caseE 1 ∷ []) vs B
     → (vs ≡ accepted tt ∷ refused 11 ∷ []) × (B ≡ book (24 ∷ 0 ∷ []) (account 3 18 ∷ account 0 0 ∷ []) 6 1)

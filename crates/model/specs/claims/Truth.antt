@@ -43,7 +43,8 @@ GuestTruthfulBy rule =
 abbrev pub StationTruthfulBy : (rule : ℕ → ℕ) → Type 0
 StationTruthfulBy rule =
     (t t′ : Tables) (j : ℕ) → Accepted t → Accepted t′ → j < length (t .asks) → AlikeButForStation t t′ j
-    → stationGain (screenedBy rule t′) (truthful (screenedBy rule t′)) (getD (t .asks) j 0) j ≤ℤ stationGain (screenedBy rule t)
+    → stationGain (screenedBy rule t′) (truthful (screenedBy rule t′)) (getD (t .asks) j 0) j ≤ℤ
+    stationGain (screenedBy rule t)
     (truthful (screenedBy rule t)) (getD (t .asks) j 0) j
 
 -- at any position of the cut that depends on the number of stations alone, document 01's among them
@@ -86,7 +87,8 @@ pub record ClearsWithin (t : Tables) : Type 0 where
   pub charge-within-bid : (i j : ℕ) → i < length (t .amounts) → (decision t) .assigned i ≡ suc j
       → charged (screened t) (decision t) i ≤ bidAt t i j * getD (t .amounts) i 0
   pub unassigned-free : (i : ℕ) → (decision t) .assigned i ≡ 0 → charged (screened t) (decision t) i ≡ 0
-  pub payment-covers-ask : (j : ℕ) → getD (t .asks) j 0 * sold (screened t) (decision t) j ≤ paid (screened t) (decision t) j
+  pub payment-covers-ask :
+      (j : ℕ) → getD (t .asks) j 0 * sold (screened t) (decision t) j ≤ paid (screened t) (decision t) j
   pub sold-as-assigned :
       (j : ℕ)
       → sold (screened t) (decision t) j
@@ -96,7 +98,8 @@ pub record ClearsWithin (t : Tables) : Type 0 where
       sum (length (t .amounts)) (charged (screened t) (decision t))
       ≡ sum (length (t .asks)) (paid (screened t) (decision t)) + margin (screened t) (decision t)
   pub covered :
-      sum (length (t .asks)) (paid (screened t) (decision t)) ≤ sum (length (t .amounts)) (charged (screened t) (decision t))
+      sum (length (t .asks)) (paid (screened t) (decision t))
+      ≤ sum (length (t .amounts)) (charged (screened t) (decision t))
 
 abbrev pub ClearingLimits : Type 0
 ClearingLimits = (t : Tables) → Accepted t → ClearsWithin t

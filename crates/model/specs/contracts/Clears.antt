@@ -1,5 +1,4 @@
 -- What `clear` promises.
-use Prim.Native.Nat.{ℕ}
 use mathlib.Core.Path.{_≡_}
 use Rattle.model.specs.Numbers.{answerOfClearing}
 use Rattle.model.specs.Verdicts.{firstFault, giving, updated}

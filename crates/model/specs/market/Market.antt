@@ -65,7 +65,9 @@ market t = marketBy median byNumber t
 -- 1. the cut: the greatest ask that fewer than `position` asks lie below (`CutIsAskAtPosition`: the ask at that
 -- position in rising order)
 unfoldable pub cut : Market → ℕ
-cut M = greatest (M .stationCount) (λ j. only (count (M .stationCount) (λ k. M .ask k <? M .ask j) <? M .position) (M .ask j))
+cut M =
+    greatest (M .stationCount)
+    (λ j. only (count (M .stationCount) (λ k. M .ask k <? M .ask j) <? M .position) (M .ask j))
 
 -- 2. an open station
 unfoldable pub opens : Market → ℕ → Bool

@@ -65,7 +65,8 @@ Bytes s = (k : ℕ) → getD s k 0 < 256
 -- bytes are read as t exactly where they state t
 abbrev pub ReadsExactlyWhatIsStated : Type 0
 ReadsExactlyWhatIsStated =
-    (s : List ℕ) (t : Tables) → Bytes s → (readSheet s ≡ accepted t → States s t) × (States s t → readSheet s ≡ accepted t)
+    (s : List ℕ) (t : Tables) → Bytes s
+    → (readSheet s ≡ accepted t → States s t) × (States s t → readSheet s ≡ accepted t)
 
 -- two markets never share a sheet
 abbrev pub StatesOneMarket : Type 0

@@ -19,7 +19,8 @@ use Rattle.sheet.proofs.filling.Filled.{placed-cong, placed-set, placed
 
 -- where all bits are set the bids follow each other
 pub bid-full :
-    (s : List ℕ) (map q m : ℕ) → count m (hasBit map) ≡ m → (j : ℕ) → j < m → littleEndian s (q + 4 * j) 4 ≡ bidBy s map q j
+    (s : List ℕ) (map q m : ℕ) → count m (hasBit map) ≡ m → (j : ℕ) → j < m
+    → littleEndian s (q + 4 * j) 4 ≡ bidBy s map q j
 unfolding bidBy
 bid-full s map q m e j l = let (c, b) = count-all m (hasBit map) e j l in rw c (sym (only-yes _ _ b))
 
@@ -93,7 +94,8 @@ module _ (s : List ℕ) (map m base q : ℕ) (l₀ : List ℕ) where
       walk-less = next .there
 
       pub walk-turn :
-          (v d′ left′ : ℕ) → base ≤ length l₀ → v ≡ littleEndian s d 4 → d′ ≡ d + 4 → left′ ≡ left - 2 ^ trailingZeros 64 left
+          (v d′ left′ : ℕ) → base ≤ length l₀ → v ≡ littleEndian s d 4 → d′ ≡ d + 4
+          → left′ ≡ left - 2 ^ trailingZeros 64 left
           → Walked s map m base q l₀ (set l (base + trailingZeros 64 left) v) d′ left′
       unfolding bidBy
       walk-turn v d′ left′ b e f g = record {

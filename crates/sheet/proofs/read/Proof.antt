@@ -23,7 +23,8 @@ got c = told-read _ _ _ _ _ _ (c .before .before .check .ensures) (c .guests .gi
 
 lengths : (c : tie.Else1) →
     let entry = c .before .before .before .before .before .before .before in
-    tableLengths (length (entry .args .amounts .now)) (length (entry .args .asks .now)) (length (entry .args .bays .now))
+    tableLengths (length (entry .args .amounts .now)) (length (entry .args .asks .now))
+    (length (entry .args .bays .now))
     (length (entry .args .bids .now)) ≡ (false gives 10)
 lengths c = c .before .table-lengths-differ .ensures ∙ ap (λ b. b gives 10) (c .if1 .left)
 

@@ -81,7 +81,12 @@ slice-write-criticals : tie.Need-slice-write-criticals
 slice-write-criticals c =
     let entry = entry-before-below
     (c .before .before .before .before .before .before .before .before .before .before .before) in
-    omega (arith, entry .pre .1 .0 .0, entry .pre .0 .within .shape .stations-most, long _ _ (entry .pre .1 .1 .criticals-are))
+    omega (
+      arith,
+      entry .pre .1 .0 .0,
+      entry .pre .0 .within .shape .stations-most,
+      long _ _ (entry .pre .1 .1 .criticals-are),
+    )
 
 cast-offer : tie.Need-cast-offer
 cast-offer c =

@@ -5,8 +5,10 @@ use Rattle.bay_market.proofs.clear.bay_market_clear.Tie as tie
 
 returns : tie.Need-returns
 returns c =
-    let at-clearing = c .before .before .before .before .before .before .before .before .before .before .before .before in
-    clears-refused _ _ _ _ (at-clearing .clear-through-view .ensures) _ _ _ _ (c .before .before .answer .given .1) (c .number .ensures)
+    let at-clearing = c .before .before .before .before .before .before .before .before .before
+    .before .before .before in
+    clears-refused _ _ _ _ (at-clearing .clear-through-view .ensures) _ _ _ _
+    (c .before .before .answer .given .1) (c .number .ensures)
 
 returns-2 : tie.Need-returns-2
 returns-2 c =

@@ -12,7 +12,8 @@ unfolding clearingFaults counts lengths listLengths answerOfVerdict
 returns c = sym ((fault-here _ (sym (c .before .counts-out-of-range .ensures) ∙ c .if1 .taken)))
 
 lengths-differ-requires : tie.Need-lengths-differ-requires
-lengths-differ-requires c κs = let k = counted _ _ (sym (c .before .counts-out-of-range .ensures) ∙ c .if1 .left) in (k .0, k .2)
+lengths-differ-requires c κs =
+    let k = counted _ _ (sym (c .before .counts-out-of-range .ensures) ∙ c .if1 .left) in (k .0, k .2)
 
 returns-2 : tie.Need-returns-2
 unfolding clearingFaults counts lengths listLengths answerOfVerdict

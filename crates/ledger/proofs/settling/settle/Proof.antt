@@ -24,7 +24,8 @@ returns : tie.Need-returns
 returns c =
     let entry = c .before .before .before .before .before .before in
     settled-size (entry .args .t1) (entry .args .full) (entry .args .stations) _ _ _ _ _
-    (c .before .before .before .enum-told .given .1) (c .before .before .book-size-differs .ensures) _ (c .before .if1 .taken)
+    (c .before .before .before .enum-told .given .1) (c .before .before .book-size-differs .ensures)
+    _ (c .before .if1 .taken)
     (c .refusing2 .ensures)
 
 returns-2 : tie.Need-returns-2
@@ -33,7 +34,8 @@ returns-2 c =
     let entry = at-book-size-differs .before .before .before .before in
     settled-late (entry .args .t1) (entry .args .full) (entry .args .stations) _ _ _ _ _
     (at-book-size-differs .before .enum-told .given .1) (at-book-size-differs .book-size-differs .ensures) _
-    (c .before .before .before .before .if1 .left) (c .before .before .round-out-of-turn .ensures) _ (c .before .if2 .taken)
+    (c .before .before .before .before .if1 .left) (c .before .before .round-out-of-turn .ensures)
+    _ (c .before .if2 .taken)
     (c .refusing3 .ensures)
 
 any-exceeds-requires : tie.Need-any-exceeds-requires

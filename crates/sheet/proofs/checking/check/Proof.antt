@@ -1,7 +1,7 @@
 -- Each return is a row of `sheetFaults`, in its order.
 use Prim.Native.Nat.{_+_, _*_, _≤_}
 use mathlib.Core.Bool.{false}
-use mathlib.Core.Path.{_≡_, _∙_, sym, ap}
+use mathlib.Core.Path.{_≡_, _∙_, sym}
 use native.Mathlib.Omega.{arith}
 use lib.ListN.{length}
 use borrow.Author.Needs.{needs}

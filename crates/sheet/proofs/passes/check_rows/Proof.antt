@@ -14,7 +14,8 @@ use Rattle.sheet.proofs.passes.check_rows.Tie as tie
 
 abbrev Inv-loop : tie.InvT-loop
 Inv-loop s guests stations d₀ i₀ d i =
-    (i ≤ guests) × (d .at ≡ rowAt s stations i) × (d .at ≤ length s) × (firstFault (rowsFaults s stations i) ≡ accepted tt)
+    (i ≤ guests) × (d .at ≡ rowAt s stations i) × (d .at ≤ length s)
+    × (firstFault (rowsFaults s stations i) ≡ accepted tt)
 
 abbrev μ-loop : tie.MeasureT-loop
 μ-loop s guests stations d₀ i₀ d i = guests - i

@@ -1,5 +1,4 @@
 -- The two counts are a sheet's first fields.
-use mathlib.Core.Path.{_≡_}
 use native.Mathlib.Omega.{arith}
 use borrow.Author.Needs.{needs}
 use Rattle.model.specs.sheet.Content.{guests, stations}

@@ -1,0 +1,31 @@
+#!/usr/bin/env python3
+"""Looks at the text of the crates: no line over 120 columns in src/, specs/ and proofs/ but in a file that a generator
+made, and at most 100 must-fail edits. Prints what is believed, file by file, with its lines (comments and blanks
+aside)."""
+import glob
+import sys
+
+WIDTH, EDITS = 120, 100
+owed = []
+for path in sorted(glob.glob('crates/*/**/*', recursive=True)):
+    if path.endswith(('.rt', '.antt')):
+        text = open(path, encoding='utf8').read()
+        wide = [n for n, line in enumerate(text.split('\n'), 1) if len(line) > WIDTH]
+        if wide and 'generated' not in text[:400]:
+            owed.append(f'{path}: over {WIDTH} columns in lines {wide}')
+edits = glob.glob('crates/*/must-fail/*.edit')
+if len(edits) > EDITS:
+    owed.append(f'{len(edits)} must-fail edits, at most {EDITS} are wanted')
+
+print('believed: the definitions and statements of crates/model/specs')
+total = 0
+for path in sorted(glob.glob('crates/model/specs/**/*.antt', recursive=True)):
+    lines = [line.strip() for line in open(path, encoding='utf8')]
+    count = sum(1 for line in lines if line and not line.startswith(('--', 'use ', 'pub mod ')))
+    if count:
+        total += count
+        print(f'{count:6} {path[len("crates/model/specs/"):]}')
+print(f'{total:6} in all')
+for line in owed:
+    print(line, file=sys.stderr)
+sys.exit(1 if owed else 0)
