@@ -103,7 +103,7 @@ for program in 'kill -9 $$' 'exit 1' 'echo oops >&2'; do
     printf '#!/bin/sh\n%s\n' "$program" >"$copy/prebuilt/x86_64-linux/clear"
     expect 3 '' 'clear: the program failed: *' "$copy/clear $copy/examples/case_e.sheet"
 done
-echo '// another text' >>"$copy/crates/console/src/lib.rt"
+echo '// another text' >>"$copy/crates/clear/src/main.rt"
 no_kit='PATH=/usr/bin:/bin'
 if ! PATH=/usr/bin:/bin command -v rt >/dev/null; then
     expect 3 '' 'clear: the sources are not those of prebuilt/*' "$no_kit $copy/clear $copy/examples/case_e.sheet"
