@@ -67,9 +67,9 @@ pub fn settle(
             if round_out_of_turn(round, *last) {
                 return refusing(Refusal::RoundOutOfTurn);
             }
-            let crowded = room::any_exceeds(guests, &r.charges);
-            let rich = room::mills_exceed(Mills(*house), r.margin);
-            if full | crowded | rich {
+            let guests_full = room::any_exceeds(guests, &r.charges);
+            let house_full = room::mills_exceed(Mills(*house), r.margin);
+            if full | guests_full | house_full {
                 return refusing(Refusal::AccountOverLimit);
             }
             accounts::add(guests, &r.charges);

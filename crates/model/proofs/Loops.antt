@@ -179,9 +179,6 @@ filling-turn h l e =
 pub filling-end : {n : ℕ} {f : ℕ → ℕ} {l₀ l : List ℕ} {i : ℕ} → Filling n f l₀ l i → n ≤ i → l ≡ list n f
 filling-end {n} h b = filled-list n (h .filled) (h .long) b
 
-pub filling-long : {n : ℕ} {f : ℕ → ℕ} {l₀ l : List ℕ} {i : ℕ} → Filling n f l₀ l i → length l ≡ n
-filling-long h = h .filled .same ∙ h .long
-
 -- row i, column j of a table of n rows of m is within the table
 pub in-table : (n m i j : ℕ) → i < n → j < m → i * m + j < n * m
 in-table n m i j hi hj = omega (arith, mul-le-mul-right m hi)

@@ -246,20 +246,21 @@ module _ (t : Tables) (c : ℕ) (least : List ℕ) (A : AtCut t c least) (j : �
       unfolding gainAt gainFor
       gain-here k lk = rw (won-here k lk) (only-cong _ _ _ (λ p. ap (λ x. x + 1) (surplus-here k lk p)))
 
-      pub turned : (s : ℕ) {chosen₀ gains₀ criticals chosen gains : List ℕ} → s ≡ j + 1
+      pub after-open-turn : (s : ℕ) {chosen₀ gains₀ criticals chosen gains : List ℕ} → s ≡ j + 1
           → After (screened t) (length (t .amounts)) j chosen₀ gains₀ criticals
           → Offered totals least f e s chosen₀ gains₀ chosen gains
           → After (screened t) (length (t .amounts)) (j + 1) chosen gains (set criticals s f)
-      turned s es h o =
+      after-open-turn s es h o =
           after-offers (screened t) (length (t .amounts)) j totals least f e s _ _ _ (long _ _ gathered) es
           (omega (arith, A .within .shape .stations-most)) gain-here critical-here all-low h o
 
 -- the turn of a station that is not open
-pub shut : (t : Tables) (c j : ℕ) {least chosen gains criticals : List ℕ} → AtCut t c least → c ≤ getD (t .asks) j 0
+pub after-closed-turn :
+    (t : Tables) (c j : ℕ) {least chosen gains criticals : List ℕ} → AtCut t c least → c ≤ getD (t .asks) j 0
     → After (screened t) (length (t .amounts)) j chosen gains criticals
     → After (screened t) (length (t .amounts)) (j + 1) chosen gains criticals
 unfolding screened market marketBy
-shut t c j A h a = after-closed (market t) (length (t .amounts)) j (omega (arith, A .is-cut)) a
+after-closed-turn t c j A h a = after-closed (market t) (length (t .amounts)) j (omega (arith, A .is-cut)) a
 
 -- what `offer` asks of its lists
 total-covers : (bid amount cut : ℕ) → 0 < totalFor bid amount cut → cut * amount ≤ totalFor bid amount cut

@@ -53,10 +53,10 @@ sized n m guests stations a e z =
 module _ (r : Round) (full : Bool) (stations round : ℕ) (guests : List ℕ) (house last : ℕ) where
   -- the code's test
   pub test-is :
-      (crowded rich : Bool) → crowded ≡ exceeding guests (r .charges) → rich ≡ (maxAccount <? house + r .margin .0)
-      → (full || crowded || rich) ≡ noRoom r full guests house
+      (guests-full house-full : Bool) → guests-full ≡ exceeding guests (r .charges) → house-full ≡ (maxAccount <? house + r .margin .0)
+      → (full || guests-full || house-full) ≡ noRoom r full guests house
   unfolding noRoom
-  test-is crowded rich p q = rw (← p, ← q, ← or-is full crowded) (or-is (full || crowded) rich)
+  test-is guests-full house-full p q = rw (← p, ← q, ← or-is full guests-full) (or-is (full || guests-full) house-full)
 
   -- the verdict, from what the code knows of its tests
   pub ruled-refused :

@@ -10,8 +10,9 @@ use Rattle.model.proofs.Tests.{lt-yes, lt-no}
 use Rattle.model.proofs.Loops.{long}
 use Rattle.allocation.specs.Totals.{Totals, totalAt, Gathered}
 use Rattle.allocation.specs.Stages.{gatheredIf, turnTotals}
-use Rattle.allocation.proofs.turns.Turns.{few-above, offerable, all-low, none-above, top-low, critical-low, shut}
-use Rattle.allocation.proofs.turns.Turns.{turned}
+use Rattle.allocation.proofs.turns.Turns.{few-above, offerable, all-low, none-above, top-low, critical-low}
+use Rattle.allocation.proofs.turns.Turns.{after-closed-turn}
+use Rattle.allocation.proofs.turns.Turns.{after-open-turn}
 use Rattle.allocation.proofs.turns.station.Statement.{statement}
 use Rattle.allocation.proofs.turns.station.Tie as tie
 
@@ -118,7 +119,7 @@ returns c =
     let entry = entry-before-below at-below in
     let g = at-gather .gather .ensures in
     let critical = at-critical-total .critical-total .ensures in (
-      rw (at-narrow .narrow .ensures) (turned (regular _ _ _ _) _ _ (entry .pre .0) _
+      rw (at-narrow .narrow .ensures) (after-open-turn (regular _ _ _ _) _ _ (entry .pre .0) _
           (entry .pre .1 .0 .0) (opened at-gather)
           _ (g .totals-are) _ _ _ refl (critical .least-few)
           (rw (← critical .counted) (at-tie-bound .tie-bound .ensures)) _ refl (entry .pre .1 .1)
@@ -130,7 +131,7 @@ returns-2 : tie.Need-returns-2
 unfolding turnTotals gatheredIf
 returns-2 c =
     let entry = entry-before-below (c .before) in (
-      shut (regular _ _ _ _) _ _ (entry .pre .0)
+      after-closed-turn (regular _ _ _ _) _ _ (entry .pre .0)
           (lt-no _ _ (sym (c .before .below .ensures) ∙ c .if1 .left)) (entry .pre .1 .1),
       rw (sym (c .before .below .ensures) ∙ c .if1 .left) refl,
     )
