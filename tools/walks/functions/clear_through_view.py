@@ -2,14 +2,13 @@
 to `clear_table`; each `&mut` goes to it at its own lifetime, share and name, and is not needed after the call. All that
 the proof knows of `bid_table` and of `clear_table` is that each meets its contract."""
 from context import Walk
-from frame import by_place, Callee, formulas, Function, Lent, Number, projection, Shared, tokens, View
+from frame import by_place, Callee, formulas, Function, Lent, Number, projection, tokens, View
 from layout import fill, laid, text
-from market import ASKS, BIDS, RESULTS
+from market import ASKS, BIDS, RESULTS, SLICES
 
 MAKE = Callee('clearing', 'views.bid_table', 't', 'Table')
 CLEAR = Callee('clearing', 'view_clearing.clear_table', 'g', 'Clear')
 WIDTH = Number('width', 'usize', 'fits')
-SLICES = [*ASKS, BIDS]
 FUNCTION = Function('clearing', 'view_clearing.clear_through_view', 8, [*SLICES, WIDTH, *RESULTS], [MAKE, CLEAR], uses='''\
 Rattle.model.specs.market.Outcome: results
 Rattle.model.specs.market.Market: tables
