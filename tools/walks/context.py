@@ -1,8 +1,9 @@
-"""`Walk`: what a walk has at each step, by names, and the steps of types.Kit and types.Run with their positions counted.
+"""`Walk`: what a walk has at each step, by names; the steps of types.Kit and types.Run with their positions counted.
 
 A walk's context is a list of items, and most steps work on its first items or name one by its position. Here each item
-has a name, so a description says `w.join_('tokens', 'Own')` and never counts. Of a local i there are two items: `_i`,
-its cell (room, or the value in it), and `†i`, what frees it. `holding` has the locals that hold a value.
+has a name, so a description says `w.join('token', 'true', 'tokens')` and never counts. Of a local i there are two
+items: `_i`, its cell (room, or the value in it), and `†i`, what frees it. `holding` has the locals that hold a value;
+those after the parameters are taken in the order in which the code has them: its `let`s, and then its temporaries.
 """
 
 
@@ -16,10 +17,11 @@ def death(i):
 
 class Walk:
     def __init__(self, *items):
-        self.items, self.steps, self.holding, self.count = list(items), [], set(), 0
+        self.items, self.steps, self.holding, self.count, self.taken = list(items), [], set(), 0, 1
 
     # positions
     def at(self, name):
+        assert self.items.count(name) == 1, f'{name} is not one of {self.items}'
         return self.items.index(name)
 
     # any step: it takes the first `takes` items, and puts `gives` in their place; `binds` opens `(λ x.`
@@ -87,6 +89,16 @@ class Walk:
     def nothing(self, name):
         return self.step('nothing !', 0, (name,))
 
+    # one more item before those of a chain, had or made
+    def add(self, name, *made, to='owns'):
+        if made:
+            self.owned(name, *made)
+        return self.fjoin(name, to, to)
+
+    # the goal's first part is what stands first
+    def frame(self):
+        return self.step('frame !', 1)
+
     # plain data owns nothing but its facts: an item made from them
     def owned(self, name, row, makes, of, value, fact):
         return self.step(f'owned ! {row} (Is {row}) {makes} {of} {value} {fact}', 0, (name,))
@@ -119,9 +131,14 @@ class Walk:
     # the parameters' values: the facts that each is of its type
     def passes(self, *typed):
         self.step('params1 !')
-        for i, fact in enumerate(typed):
-            self.step(f'pass1 ! ({self.put(local(i + 1), fact)})')
+        for fact in typed:
+            self.step(f'pass1 ! ({self.put(self.take(), fact)})')
         return self.step('pass0 !')
+
+    # the next local
+    def take(self):
+        self.taken += 1
+        return local(self.taken - 1)
 
     # reading
     def load(self, name):
@@ -164,15 +181,32 @@ class Walk:
     def rewrite(self, name, motive, equality):
         return self.step(f'rewrite ! {self.at(name)} ({motive}) {equality} refl')
 
-    # a `&mut [T]` in a local, lent on: its pointer, and the slice of it
-    def lend_slice(self, source, pointer, to, fits):
+    # a value copied into the next local, which is returned
+    def copied(self, load, typed):
+        to = self.take()
+        self.copy(load, to, typed)
+        return to
+
+    # a `&mut [T]` in a local, lent on: its pointer in the next local, the slice of it in one more, which is returned
+    def lend_slice(self, source, fits):
+        pointer, to = self.take(), self.take()
         self.assign(f'addr ! (from ! (fld ! refl (hop ! ({self.part(source, 0)}) (stop !))))', pointer, 'tt, tt')
         both = self.operands(self.load(pointer), self.field(source, 1))
-        return self.assign(f'agg ! {both}', to, f'tt, (tt, (record {{ fits = {fits} }}, tt))')
+        self.assign(f'agg ! {both}', to, f'tt, (tt, (record {{ fits = {fits} }}, tt))')
+        return to
 
-    # a `&mut T` in a local, lent on
-    def lend_ref(self, source, to):
-        return self.assign(f'addr ! (from ! (hop ! (look ! {self.at(source)} refl) (stop !)))', to, 'tt, tt')
+    # a `&mut T` in a local, lent on in the next local, which is returned
+    def lend_ref(self, source):
+        to = self.take()
+        self.assign(f'addr ! (from ! (hop ! (look ! {self.at(source)} refl) (stop !)))', to, 'tt, tt')
+        return to
+
+    # what a callee asks, from what is had, and what is kept
+    def asked(self, names, callee, to, law, kept=None):
+        asked = f'raw ({callee.contract} 𝓤 H A mem run .pre {to})'
+        if kept:
+            return self.use(names, f'{asked} ⊛ ‵ {kept}', law, 'asked', kept).show()
+        return self.use(names, asked, law, 'asked').show()
 
     # a call: the first item is what the callee asks, and after it stand what it ensures and what it gives back
     def call(self, callee, to, arguments, value, result, type, tokens, row, lifetimes, args):
@@ -215,6 +249,11 @@ class Walk:
             self.move(name)
         return self.drop(name)
 
+    # what the callee gives back: the tokens, and what its result owns
+    def given(self, tokens, result):
+        self.split('given back', tokens, result)
+        return self.drop(tokens) if tokens == 'true' else self.move(result)
+
     # what the answer owns: a fact of it, kept (`peeks`) or used up (`facts`)
     def learn(self, how, row, result, value, name):
         return self.step(f'{how} ! {row} (Is {row}) (shows 𝓤 H A {row}) {result} ({value} ∷ [])',
@@ -230,6 +269,7 @@ class Walk:
 
     # the end: the result is read, and every local is forgotten and freed
     def leave(self):
+        assert self.taken in (1, self.count), f'{self.count} locals, of which {self.taken} are taken'
         self.step(f"returns ! (look ! {self.at('_0')} refl)").forget()
         for i in range(self.count):
             self.move(local(i), death(i)).step('free1 !', 2)

@@ -49,6 +49,25 @@ def formulas(parts):
     return text
 
 
+def lasts(parameters, name):
+    """Of the last values of a callee's parameters, those of its `&mut`s."""
+    return ' '.join(f'({name}{projection(i)})' for i, p in enumerate(parameters) if p.last != 'plain')
+
+
+def rows(parameters, naming):
+    return ' ∷ '.join(p.row(naming) for p in parameters) + ' ∷ []'
+
+
+def arrows(facts, indent):
+    """a → b → c, a fact on each line where they do not fit on one"""
+    return fill([facts[0], *(f'→ {x}' for x in facts[1:])], indent)
+
+
+def owns(parameters, naming, lifetime=None):
+    """What each parameter owns, under a name."""
+    return '\n'.join(f'  abbrev Own-{p.label} : Fml\n  Own-{p.label} = {p.own(naming, lifetime)}\n' for p in parameters)
+
+
 class Parameter:
     """Each kind has: its row (what the type owns), what of it stays, goes, its values and what they tell, the fact that
     the walk is given of it (`given`, from `are` at its place), and the fact that its value is of its type (`typed`)."""
@@ -56,7 +75,7 @@ class Parameter:
     last = 'plain'
 
     def __init__(self, name, type=None, lifetime=None, value=None):
-        self.name, self.type, self.lifetime, self.shown = name, type, lifetime, value
+        self.name, self.type, self.lifetime, self.shown, self.label = name, type, lifetime, value, name
 
     def row(self, naming, lifetime=None):
         return self.type
@@ -249,7 +268,8 @@ class View(Parameter):
         return f'Holds (hasTy (T′.mir (named {self.lifetime})) mach) × WT mach'
 
     def given(self, place):
-        return f'(LL.lawful (T.the-type {self.lft}) (T′.the-laws {self.lft}) 𝓤 H A W .typed (a{place}) _ (are{place}) .0)'
+        laws = f'(T.the-type {self.lft}) (T′.the-laws {self.lft})'
+        return f'(LL.lawful {laws} 𝓤 H A W .typed (a{place}) _ (are{place}) .0)'
 
     def typed(self, naming):
         return 'wt'
@@ -292,8 +312,8 @@ class Function:
 
     def uses(self):
         m = self.module
-        return (self.more + ''.join(c.uses() for c in self.callees)
-                + f'{m} as f\n{m}.Statement as stated\n{m}.Code as code\n{m}.Code.Mir as mirᶜ\n{m}.Key: name=#{self.key}\n')
+        own = f'{m} as f\n{m}.Statement as stated\n{m}.Code as code\n{m}.Code.Mir as mirᶜ\n{m}.Key: name=#{self.key}\n'
+        return self.more + ''.join(c.uses() for c in self.callees) + own
 
     # by name
     def parameter(self, name):
@@ -302,9 +322,21 @@ class Function:
     def place(self, name):
         return projection([p.name for p in self.parameters].index(name))
 
+    # the local that holds it
+    def local(self, name):
+        return f'_{[p.label for p in self.parameters].index(name) + 1}'
+
+    def locals(self, parameters):
+        return [self.local(p.label) for p in parameters]
+
+    # the arguments of a walk over all parameters: their values, and what is given of each
+    def arguments(self, before, between):
+        values = ' '.join(f'(a{self.place(p.name)})' for p in self.parameters)
+        return f"{before} {values} {between} {' '.join(p.given(self.place(p.name)) for p in self.parameters)}"
+
     # lists over the parameters
     def rows(self):
-        return ' ∷ '.join(p.row(self.naming) for p in self.parameters) + ' ∷ []'
+        return rows(self.parameters, self.naming)
 
     def values(self):
         return ' ∷ '.join(p.value() for p in self.parameters) + ' ∷ []'
@@ -316,7 +348,10 @@ class Function:
         return ('abbrev stayed : Stays (f.ended .signature .params) (f.ended .kept)\n'
                 + laid([p.stay() for p in self.parameters], 0, 'stayed = ') + '\n')
 
-    def ends(self, values, lengths, bound, value, result):
+    # what is left to show at the end: of each `&mut`, its last value, and of a slice that its length is as it was
+    def ends(self, bound, value, result):
+        values = [f'{p.label}′' if p.last != 'plain' else 'tt' for p in self.parameters]
+        lengths = [f'l-{p.label}' if p.last == 'slice' else 'tt' for p in self.parameters]
         return (f'suffices ! _ (ends-at 𝓤 H A f.ended stayed {CLAUSES} W {bound} {value} {result} {pairs(values)} '
                 f'{pairs(lengths)}) $')
 
@@ -324,8 +359,8 @@ class Function:
     def contracts(self):
         text = hang(f'module _ {BASE} {RUNS} where', 0) + '\n'
         text += f"  -- the contract{'s' if len(self.callees) > 1 else ''} that the proof cites\n"
-        return text + '\n'.join(f'  abbrev {c.contract} : Contract 𝓤\n  {c.contract} = tripleOf 𝓤 H A {c.alias}.signature '
-                                f'({c.alias}.spec 𝓤 H A mem run)\n' for c in self.callees)
+        return text + '\n'.join(f'  abbrev {c.contract} : Contract 𝓤\n  {c.contract} = tripleOf 𝓤 H A '
+                                f'{c.alias}.signature ({c.alias}.spec 𝓤 H A mem run)\n' for c in self.callees)
 
     # a module over all that a walk is given
     def module_over(self, more=''):

@@ -125,7 +125,7 @@ def broken(items, indent, end):
 
 
 def pieces(text, room, depth=0):
-    """The text cut where a line may end, no deeper within brackets than is needed: not within a pair or a record, and not
+    """The text cut where a line may end, no deeper within brackets than is needed: not within a pair or a record, nor
     after λ."""
     opened, closed = [], set()
     for i, c in enumerate(text):

@@ -64,8 +64,9 @@ def loop(types, held, head, test, start, loop, after, more, where, ends):
         return fill([f'(j : Upto){over} → {test} ≡ {t}', f'→ {runs}'], 10)
 
     return text(TEMPLATE, names=names(types), env=fill(env, 10), invariant=invariant(types, held, head), after=after,
-                start=start, loop=loop, runs=runs, is_true=case('true'), is_false=case('false'), is_t=case('t', ' (t : Bool)'),
-                test=test if test[0] == '(' else f'({test})', more=fill(more, 10), where=where, ends=fill(ends, 10))
+                start=start, loop=loop, runs=runs, is_true=case('true'), is_false=case('false'),
+                is_t=case('t', ' (t : Bool)'), test=test if test[0] == '(' else f'({test})', more=fill(more, 10),
+                where=where, ends=fill(ends, 10))
 
 
 # the types of the locals, and the machine values of a record and of a round

@@ -1,5 +1,5 @@
-"""`stations::add_sales` meets its contract: each turn opens the borrow, takes record j out of the row, has `credited` make
-the new one, stores that, and closes the borrow."""
+"""`stations::add_sales` meets its contract: each turn opens the borrow, takes record j out of the row, has `credited`
+make the new one, stores that, and closes the borrow."""
 import loop
 from context import Walk
 from frame import alone, Callee, Function, Kept, Number, Record
@@ -8,7 +8,8 @@ from layout import fill, text
 CREDITED = Callee('ledger', 'stations.credited', 'g', 'Credited')
 ROW, ROUND = Kept('x', 'T.the-row', 0, value='sliceVal (b, o) n'), Record('d', 'R', value='v')
 CREDITS = Number('k', 'usize')
-FUNCTION = Function('ledger', 'stations.add_sales', 1, [ROW, ROUND, CREDITS], [CREDITED], loops=True, naming=alone, uses='''\
+FUNCTION = Function('ledger', 'stations.add_sales', 1, [ROW, ROUND, CREDITS], [CREDITED], loops=True, naming=alone,
+                    uses='''\
 Rattle.ledger.specs.declared.round.Round: Round
 Rattle.ledger.proofs.round.Round as R
 Rattle.ledger.proofs.round.Round.Laws as R′
@@ -31,24 +32,25 @@ LAWFUL = 'LL.lawful T.the-type T′.the-laws 𝓤 H A W .typed r _ is .0'
 
 def exits():
     w = Walk(*HEAD).step('says ! e')
-    w.nothing('true').join('the token', 'true', 'tokens').step('frame !', 1).fjoin('obs', 'the borrow', 'row')
-    w.step('pureI ! (at-slice T.the-row (x zs) (at .0)) (tt, (tt, tt)) (ap (λ (m : ℕ). sliceVal (b, o) m ∷ []) (sym len), '
-           'subst (Room T.the-row) (sym len) gn)', 0, ('place',)).fjoin('place', 'row', 'row')
-    w.nothing('owns').owned('k', *CREDITS.made()).fjoin('k', 'owns', 'owns')
-    w.owned('round', *ROUND.made('gd')).fjoin('round', 'owns', 'owns').fjoin('row', 'owns', 'owns').step('frame !', 1)
+    w.nothing('true').join('the token', 'true', 'tokens').frame().fjoin('obs', 'the borrow', 'row')
+    w.step('pureI ! (at-slice T.the-row (x zs) (at .0)) (tt, (tt, tt)) (ap (λ (m : ℕ). sliceVal (b, o) m ∷ []) '
+           '(sym len), subst (Room T.the-row) (sym len) gn)', 0, ('place',)).fjoin('place', 'row', 'row')
+    w.nothing('owns').add('k', *CREDITS.made())
+    w.add('round', *ROUND.made('gd')).add('row').frame()
     return w.step('feqI ! (List Val) (vunit ∷ []) (vunit ∷ []) refl', 0, ('result',)).end('done !')
 
 
 def goes():
-    w = Walk('record').nothing('owns').owned('j', *COUNT.made()).fjoin('j', 'owns', 'owns')
-    w.owned('round', *ROUND.made('gd')).fjoin('round', 'owns', 'owns').fjoin('record', 'owns', 'owns')
-    return w.nothing('true').join('true', 'owns', 'asked').step('frame !', 1).end('done !')
+    w = Walk('record').nothing('owns').add('j', *COUNT.made())
+    w.add('round', *ROUND.made('gd')).add('record')
+    return w.nothing('true').join('true', 'owns', 'asked').frame().end('done !')
 
 
 def tested():
     w = Walk(*HEAD).within(14, (f'_{i}' for i in HELD))
     w.copy(w.field('_1', 1), LENGTH, 'tt, record { fits = gn .0 }')
-    w.binary(w.load(AT), w.load(LENGTH), 'tt', IN_ROW, 'tt, tt').binary(w.load(AT), w.load('_3'), 'tt', IN_CREDITS, 'tt, tt')
+    w.binary(w.load(AT), w.load(LENGTH), 'tt', IN_ROW, 'tt, tt')
+    w.binary(w.load(AT), w.load('_3'), 'tt', IN_CREDITS, 'tt, tt')
     w.binary(w.load(IN_ROW), w.load(IN_CREDITS), 'tt', BOTH, 'tt, tt')
     return w.rewrite(BOTH, f"λ (t : Bool). {loop.cell(TYPES, 8, '(vbool t)')}", 'e')
 
@@ -60,11 +62,11 @@ def more():
     w.step('opens-slice ! tt T.the-row (L (j .0)) b o', 3, ('the row', 'the open borrow', 'obs', 'auth'))
     loop.read(loop.out(w, 'fullShare', '(L (j .0))', 'within'), POINTER, TAKEN)
     at = '(elemAt (j .0)) (j .0)'
-    w.use(['what it owns'], f'raw (Credited 𝓤 H A mem run .pre (to {at}))', f'(goes {at} j-fits)', 'asked').show()
-    w.call(CREDITED, f'(to {at})', w.arguments(TAKEN, '_2', AT), 'u', 'r', 'StationAccount', '‵ ftrue', 'T.the-row', 'tt',
-           f'(args {at})')
+    w.asked(['what it owns'], CREDITED, f'(to {at})', f'(goes {at} j-fits)')
+    w.call(CREDITED, f'(to {at})', w.arguments(TAKEN, '_2', AT), 'u', 'r', 'StationAccount', '‵ ftrue', 'T.the-row',
+           'tt', f'(args {at})')
     w.hear('r ≡ credited d (j .0) (elemAt (j .0))', f'said {at} r', 'e′')
-    w.split('given back', 'true', 'the new record').drop('true').show().learn('peeks', 'T.the-row', 'r', 'u', 'is')
+    w.given('true', 'the new record').show().learn('peeks', 'T.the-row', 'r', 'u', 'is')
     w.land(NEW, LAWFUL)
     loop.place(w, TYPES, 4, 12, 13)
     w.step(f"assigns ! (of-opd ! ({w.load(NEW)})) (from ! (hop ! (look ! {w.at(TO)} refl) (stop !))) "
@@ -102,19 +104,21 @@ def walk():
 def proof():
     f = FUNCTION
     looped = loop.loop(TYPES, HELD, ['‵ (Obs (L (j .0)))', '‵ (Bor (L (j .0)))', '‵ (flft κ q)'],
-                       '(ltb (j .0) n && ltb (j .0) k)', '(0, zero-le, zero-le)', 't-2', 't-3', more(), WHERE + loop.FITS,
-                       ends())
+                       '(ltb (j .0) n && ltb (j .0) k)', '(0, zero-le, zero-le)', 't-2', 't-3', more(),
+                       WHERE + loop.FITS, ends())
     return text(TEMPLATE, stayed=f.stayed(), contracts=f.contracts(), exits=fill(exits(), 6), goes=fill(goes(), 6),
-                values=text(loop.VALUES, kind='mut'), upto=text(loop.UPTO, upto='(j : ℕ) × (j ≤ n) × (j ≤ k)'), loop=looped,
-                module=f.module_over('(κ : Lft) (q : Share) (b o : ℕ) (γ : GName) (ys : List StationAccount) (d : Round) '
-                                     '(v : Val) (gd : Is R.the-row d (v ∷ [])) (k : ℕ) (k-fits : k < 2 ^ 64)'),
+                values=text(loop.VALUES, kind='mut'), upto=text(loop.UPTO, upto='(j : ℕ) × (j ≤ n) × (j ≤ k)'),
+                loop=looped,
+                module=f.module_over('(κ : Lft) (q : Share) (b o : ℕ) (γ : GName) (ys : List StationAccount) '
+                                     '(d : Round) (v : Val) (gd : Is R.the-row d (v ∷ [])) (k : ℕ) '
+                                     '(k-fits : k < 2 ^ 64)'),
                 tables=f.over_tables('(gn : Room T.the-row n) (wt : Holds (hasTy R′.mir v) × WT v)'),
                 goal=fill(f.goal('(κ, tt)', '(q, tt)', 'a', 'at'), 8),
                 given=fill(f'qed W ((‵ (flft κ q) ⊛ ‵ ftrue) ∷ ‵ (owns ({f.rows()}) a at) ∷ []) ∵', 8),
                 enter=fill(f.enter(), 8), walk=fill(walk(), 8),
                 walks=f.walks('(κs .0) (qs .0) (a .0 .ptr .0) (a .0 .ptr .1) (a .0 .name) (a .0 .now) (a .1 .0) '
-                              '(valR (a .1 .0)) (are .1 .0) (a .1 .1 .0) (are .1 .1 .0 .1) 𝓣 known-credited (are .0 .0 .1) '
-                              + ROUND.given(f.place('d'))))
+                              '(valR (a .1 .0)) (are .1 .0) (a .1 .1 .0) (are .1 .1 .0 .1) 𝓣 known-credited '
+                              f"(are .0 .0 .1) {ROUND.given(f.place('d'))}"))
 
 
 WHERE = '''\

@@ -1,7 +1,7 @@
-"""`post::bay_market_post` meets its contract: every `&mut` goes to `post` at its own lifetime, share and name, for good;
-its reply goes to `reply_number`."""
+"""`post::bay_market_post` meets its contract: every `&mut` goes to `post` at its own lifetime, share and name, for
+good; its reply goes to `reply_number`."""
 from context import Walk
-from frame import Callee, each, formulas, Function, Lent, projection, tokens
+from frame import arrows, Callee, each, formulas, Function, lasts, Lent, owns, projection, tokens
 from layout import fill, laid, text
 from market import BOOK, GUESTS, HOUSE, LAST, LIFETIMES, POSTED, ROUND, SLICES, WIDTH
 
@@ -9,8 +9,8 @@ POST = Callee('ledger', 'post', 'post', 'Post', own=False)
 NUMBER = Callee('bay_market', 'post.reply_number', 'number', 'Number')
 STATIONS = Lent('stations', 'T.the-row', 5)
 LENT = [GUESTS, STATIONS, HOUSE, LAST]
-FUNCTION = Function('bay_market', 'post.bay_market_post', 8, [*SLICES, WIDTH, ROUND, *LENT], [POST, NUMBER], naming=each,
-                    uses='''\
+FUNCTION = Function('bay_market', 'post.bay_market_post', 8, [*SLICES, WIDTH, ROUND, *LENT], [POST, NUMBER],
+                    naming=each, uses='''\
 Rattle.model.specs.Verdicts: numberOf
 Rattle.model.specs.Verdicts as answers
 Rattle.model.specs.market.Market: tables
@@ -25,10 +25,8 @@ Rattle.model.specs.book.Book: Book book
 Rattle.model.specs.contracts.Posts: Posts
 Rattle.model.specs.contracts.PostsOut: PostsOut
 ''')
-LASTS = ' '.join(f'(ls{projection(i)})' for i, p in enumerate(FUNCTION.parameters) if p in LENT)
+LASTS = lasts(FUNCTION.parameters, 'ls')
 LEFT = [p.name for p in LENT]
-# the locals: the reply, and what is lent on
-REPLY, G_P, G_S, S_P, S_S, H_, L_ = (f'_{i}' for i in range(11, 18))
 
 
 def goes_post():
@@ -41,43 +39,40 @@ def goes_post():
             w.drop(p.name)
         w.move('owns')
     for p in reversed(FUNCTION.parameters):
-        if p in (WIDTH, ROUND):
-            w.owned(p.name, *p.made())
-        w.fjoin(p.name, 'owns', 'owns')
-    w.use(['tokens', 'owns'], 'raw (Post 𝓤 H A mem run .pre to-post)', 'post-asked', 'asked').step('frame !', 1)
+        w.add(p.name, *(p.made() if p in (WIDTH, ROUND) else ()))
+    w.asked(['tokens', 'owns'], POST, 'to-post', 'post-asked').frame()
     return w.unchain('Market', *(f'kept {p.name}' for p in SLICES)).end('done !')
 
 
 def goes_number():
-    w = Walk('reply').nothing('owns').fjoin('reply', 'owns', 'owns').nothing('true').join('true', 'owns', 'asked')
-    return w.step('frame !', 1).end('done !')
+    w = Walk('reply').nothing('owns').add('reply').nothing('true').join('true', 'owns', 'asked')
+    return w.frame().end('done !')
 
 
 def exits():
-    w = Walk('tokens', 'Market', *LEFT, 'number').step('says ! (posted-out said e)').step('frame !', 1)
+    w = Walk('tokens', 'Market', *LEFT, 'number').step('says ! (posted-out said e)').frame()
     w.chain('Market', *(p.name for p in SLICES)).move('bids').nothing('owns')
     for p in reversed(FUNCTION.parameters):
-        if p in (WIDTH, ROUND):
-            w.owned(p.name, *p.made())
-        w.fjoin(p.name, 'owns', 'owns')
-    return w.step('frame !', 1).end('done !')
+        w.add(p.name, *(p.made() if p in (WIDTH, ROUND) else ()))
+    return w.frame().end('done !')
 
 
 def walk():
     w = Walk('entry').allocate(18).passes(*(p.typed(each) for p in FUNCTION.parameters))
-    w.note('`post`').lend_slice('_7', G_P, G_S, 'g-guests .0').lend_slice('_8', S_P, S_S, 'g-stations .0')
-    w.lend_ref('_9', H_).lend_ref('_10', L_)
-    w.use(['entry'], 'raw (Post 𝓤 H A mem run .pre to-post) ⊛ ‵ Market', 'goes-post', 'asked', 'Market').show()
-    w.call(POST, 'to-post', w.arguments(*(f'_{i}' for i in range(1, 7)), G_S, S_S, H_, L_), 'u₀', 'r', 'Verdict', 'tokens',
-           'S.the-row', 'κs', 'a')
+    reply = w.note('`post`').take()
+    lent = [w.lend_slice(FUNCTION.local(p.name), f'g-{p.name} .0') for p in (GUESTS, STATIONS)]
+    lent += [w.lend_ref(FUNCTION.local(p.name)) for p in (HOUSE, LAST)]
+    w.asked(['entry'], POST, 'to-post', 'goes-post', 'Market')
+    w.call(POST, 'to-post', w.arguments(*FUNCTION.locals([*SLICES, WIDTH, ROUND]), *lent), 'u₀', 'r', 'Verdict',
+           'tokens', 'S.the-row', 'κs', 'a')
     w.hear_lasts(POST, 'κs', 'a', 'ls', f'Said r {LASTS}', 'said')
     w.take_lasts([(p.last, p.name, f'l-{p.name}') for p in FUNCTION.parameters])
-    w.split('given back', 'tokens', 'reply').move('reply').show().learn('peeks', 'S.the-row', 'r', 'u₀', 'is₀')
-    w.land(REPLY, 'EL.lawful S.the-type S′.the-laws 𝓤 H A W tt .typed r _ is₀ .0')
+    w.given('tokens', 'reply').show().learn('peeks', 'S.the-row', 'r', 'u₀', 'is₀')
+    w.land(reply, 'EL.lawful S.the-type S′.the-laws 𝓤 H A W tt .typed r _ is₀ .0')
     w.note('`reply_number`')
-    w.use(['reply'], 'raw (Number 𝓤 H A mem run .pre (to-number r u₀))', '(goes-number r u₀)', 'asked')
-    w.call(NUMBER, '(to-number r u₀)', w.arguments(REPLY), 'u₁', 'k', 'ℕ', '‵ ftrue', 'u8', 'tt', '(r, tt)')
-    w.hear('k ≡ numberOf (answerOfVerdict r)', 'number-said r k', 'e').split('given back', 'true', 'number').drop('true')
+    w.asked(['reply'], NUMBER, '(to-number r u₀)', '(goes-number r u₀)')
+    w.call(NUMBER, '(to-number r u₀)', w.arguments(reply), 'u₁', 'k', 'ℕ', '‵ ftrue', 'u8', 'tt', '(r, tt)')
+    w.hear('k ≡ numberOf (answerOfVerdict r)', 'number-said r k', 'e').given('true', 'number')
     w.learn('peeks', 'u8', 'k', 'u₁', 'is₁').land('_0', 'uint-lawful 𝓤 H A W w8 .typed k _ is₁ .0')
     w.note('the number').leave().keep('tokens', 'Market', *LEFT, 'number')
     return w.end(f'by ! (exits r {LASTS} k u₁ said e l-guests l-stations)')
@@ -85,24 +80,21 @@ def walk():
 
 def proof():
     f = FUNCTION
-    owns = '\n'.join(f'  abbrev Own-{p.name} : Fml\n  Own-{p.name} = {p.own(each)}\n' for p in SLICES)
     given = [p for p in f.parameters if p.fact(each)]
-    facts = [*(f'→ {p.fact(each)}' for p in given), '→ ' + f.goal('κs', 'qs', 'a', 'at', 'Ends')]
-    facts[0] = facts[0][2:]
+    facts = [*(p.fact(each) for p in given), f.goal('κs', 'qs', 'a', 'at', 'Ends')]
     arguments = [f'({x}{projection(i)})' for x in ('κs', 'qs') for i in range(8)]
     for p in f.parameters:
         arguments += [f'(a{f.place(p.name)})', *([p.given(f.place(p.name))] if p in (WIDTH, ROUND) else [])]
     arguments += ['C Λ fm', *(c.known for c in f.callees), *(p.given(f.place(p.name)) for p in given)]
-    return text(TEMPLATE, stayed=f.stayed(), contracts=f.contracts(), owns=owns, tables=f.over_tables(),
+    return text(TEMPLATE, stayed=f.stayed(), contracts=f.contracts(), owns=owns(SLICES, each), tables=f.over_tables(),
                 goes_post=fill(goes_post(), 6), goes_number=fill(goes_number(), 6), exits=fill(exits(), 6),
                 module=f.module_over(f'{POSTED} (stations : Recs) (house last : Num)'), book=BOOK, lifetimes=LIFETIMES,
                 names=f.names(), at=laid([f'{p.value()} ∷ []' for p in f.parameters], 2, 'at = '),
                 tokens=fill(tokens(range(8), each), 6), Owned=fill(f'‵ (owns ({f.rows()}) a at)', 6),
                 Market=formulas([f'Own-{p.name}' for p in SLICES]),
-                ends=fill(f.ends(['tt'] * 6 + ['guests′', 'stations′', 'house′', 'last′'],
-                                 ['tt'] * 6 + ['l-guests', 'l-stations', 'tt', 'tt'], 'bound', 'v', 'k'), 6),
-                facts=fill(facts, 8), given=' '.join(f'g-{p.name}' for p in given), enter=fill(f.enter(), 8),
-                walk=fill(walk(), 8), walks=f.walks(' '.join(arguments)))
+                ends=fill(f.ends('bound', 'v', 'k'), 6), facts=arrows(facts, 8),
+                given=' '.join(f'g-{p.name}' for p in given), enter=fill(f.enter(), 8), walk=fill(walk(), 8),
+                walks=f.walks(' '.join(arguments)))
 
 
 TEMPLATE = '''
@@ -164,7 +156,8 @@ posted-out said e = record { number-is = e ∙ ap numberOf (said .answered); lef
   to-number r v = ((tt, tt, tt, (r, tt), (v ∷ [], tt)), tt)
 
   goes-number :
-      (r : Verdict) (v : Val) → ent 𝓤 (sem 𝓤 H A (S.the-row .own r (v ∷ []))) (Number 𝓤 H A mem run .pre (to-number r v))
+      (r : Verdict) (v : Val)
+      → ent 𝓤 (sem 𝓤 H A (S.the-row .own r (v ∷ []))) (Number 𝓤 H A mem run .pre (to-number r v))
   goes-number r v =
       qed W (‵ (S.the-row .own r (v ∷ [])) ∷ []) ∵
 «goes_number»

@@ -4,24 +4,19 @@ width."""
 from context import Walk
 from frame import alone, Function, Number, Shared
 from layout import fill, text
+from view import USES
 
 BIDS, WIDTH = Shared('s', 'u32', 0, value='v'), Number('m', 'usize', 'fits')
-FUNCTION = Function('clearing', 'views.bid_table', 1, [BIDS, WIDTH], naming=alone, uses='''\
-Rattle.clearing.specs.declared.views.BidTable: BidTable
-Rattle.clearing.proofs.views.BidTable as T
-Rattle.clearing.proofs.views.BidTable.Laws as T′
-''')
+FUNCTION = Function('clearing', 'views.bid_table', 1, [BIDS, WIDTH], naming=alone, uses=USES)
 TYPED = 'shr-slice-lawful 𝓤 H A W (named 0) κ u32 .typed s (v ∷ []) p .0'
 
 
 def exits():
     w = Walk('tokens', 'owns')
-    w.step('says ! (refl, refl)').step('frame !', 1)
-    w.fsplit('owns', 'bids', 'width').use(['bids'], *BIDS.twice(alone, 'Own'), 'bids', 'bids again')
-    # at exit: what bids owns beside the facts of width
-    w.fjoin('bids', 'width', 'exit').step('frame !', 1)
-    # in the result: the same, as what the struct owns
-    w.nothing('true').owned('width', *WIDTH.made()).fjoin('width', 'true', 'fields').fjoin('bids again', 'fields', 'fields')
+    w.step('says ! (refl, refl)').frame().fsplit('owns', 'bids', 'width')
+    w.use(['bids'], *BIDS.twice(alone, 'Own'), 'bids', 'bids again').fjoin('bids', 'width', 'owns').frame()
+    w.note("what the fields own together, of bids and of width's facts, is what the struct owns")
+    w.nothing('owns').add('width', *WIDTH.made()).add('bids again')
     return w.end('by ! (own-shut 𝓤 H A W (T.the-type α) (T′.the-laws α) (s, (m, tt)))')
 
 

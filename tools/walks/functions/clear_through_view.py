@@ -1,36 +1,23 @@
-"""`view_clearing::clear_through_view` meets its contract: the view that `bid_table` returns is held in a local and passed
-to `clear_table`; each `&mut` goes to it at its own lifetime, share and name, and is not needed after the call. All that
-the proof knows of `bid_table` and of `clear_table` is that each meets its contract."""
+"""`view_clearing::clear_through_view` meets its contract: the view that `bid_table` returns is held in a local and
+passed to `clear_table`; each `&mut` goes to it at its own lifetime, share and name, and is not needed after the call.
+All that the proof knows of `bid_table` and of `clear_table` is that each meets its contract."""
 from context import Walk
-from frame import by_place, Callee, formulas, Function, Lent, Number, projection, tokens, View
+from frame import arrows, by_place, Callee, formulas, Function, lasts, Number, owns, rows, tokens, View
 from layout import fill, laid, text
-from market import ASKS, BIDS, RESULTS, SLICES
+from market import ASKS, BIDS, CLEARS, had, KEEPS, LASTS, LENGTHS, RESULTS, SLICES
 
 MAKE = Callee('clearing', 'views.bid_table', 't', 'Table')
 CLEAR = Callee('clearing', 'view_clearing.clear_table', 'g', 'Clear')
 WIDTH = Number('width', 'usize', 'fits')
-FUNCTION = Function('clearing', 'view_clearing.clear_through_view', 8, [*SLICES, WIDTH, *RESULTS], [MAKE, CLEAR], uses='''\
-Rattle.model.specs.market.Outcome: results
-Rattle.model.specs.market.Market: tables
-Rattle.clearing.specs.declared.views.BidTable: BidTable
-Rattle.clearing.proofs.views.BidTable as T
-Rattle.clearing.proofs.views.BidTable.Laws as T′
-Rattle.model.specs.contracts.Clears: Clears
-Rattle.model.specs.declared.answers.Clearing: Clearing
-Rattle.model.proofs.answers.Clearing as S
-Rattle.model.proofs.answers.Clearing.Laws as S′
-''')
+FUNCTION = Function('clearing', 'view_clearing.clear_through_view', 8, [*SLICES, WIDTH, *RESULTS], [MAKE, CLEAR],
+                    uses=CLEARS)
 TABLE = View('r', 3, 8)
 PASSED = [*ASKS, TABLE, *RESULTS]
 TOKENS = [f'token {l}' for l in range(8)]
 κ, q = by_place(BIDS.lifetime)
 TOKEN = f'(‵ (flft {κ} {q}) ⊛ ‵ ftrue)'
-AT_TABLE = f'({κ}, tt)'.replace('((', '(').replace('),', ',')
-LISTS = ' '.join(f'(ls{projection(i)})' for i, p in enumerate(PASSED) if isinstance(p, Lent))
-LAST = ' '.join(f'{p.name}′' for p in RESULTS)
-LENGTHS = ' '.join(f'l-{p.name}' for p in RESULTS)
-LEFT = [f'‵ (finally {p.type} ({p.name} .name) {p.name}′)' for p in RESULTS]
-HAD = f"tokens ∷ {' ∷ '.join(LEFT)} ∷ ‵ (S.the-row .own a′ (u ∷ [])) ∷ ‵ Kept ∷ []"
+LISTS = lasts(PASSED, 'ls')
+HAD = had('a′')
 KEPT = [f'kept {p.name}' for p in SLICES]
 # what is kept while the view is made: the other lifetimes' tokens, and what the parameters own
 REST = [t for l, t in enumerate(TOKENS) if l != BIDS.lifetime] + [
@@ -42,12 +29,11 @@ def twice(w, p):
 
 
 def goes_table():
-    w = Walk('tokens', 'owns')
-    w.chain('tokens', *TOKENS, 'true', how='split').chain('owns', *(p.name for p in FUNCTION.parameters), 'rest')
+    w = Walk('tokens', 'all')
+    w.chain('tokens', *TOKENS, 'true', how='split').chain('all', *(p.name for p in FUNCTION.parameters), 'owns')
     twice(w.drop('width'), BIDS)
-    w.owned('width', *WIDTH.made()).fjoin('width', 'rest', 'owns').fjoin('bids', 'owns', 'owns')
-    w.join(TOKENS[BIDS.lifetime], 'true', 'token')
-    w.use(['token', 'owns'], 'raw (Table 𝓤 H A mem run .pre to-table)', 'asked-table', 'asked').step('frame !', 1)
+    w.add('width', *WIDTH.made()).add('bids').join(TOKENS[BIDS.lifetime], 'true', 'token')
+    w.asked(['token', 'owns'], MAKE, 'to-table', 'asked-table').frame()
     return w.unchain('Rest', *REST).end('done !')
 
 
@@ -58,38 +44,37 @@ def goes_clear():
         twice(w, p)
     w.nothing('owns')
     for p in reversed(PASSED):
-        w.fjoin(p.name, 'owns', 'owns')
+        w.add(p.name)
     w.unchain('tokens', *TOKENS, 'true', how='join')
-    w.use(['tokens', 'owns'], 'raw (Clear 𝓤 H A mem run .pre (to-clear r u))', '(asked-clear r u)', 'asked')
-    return w.step('frame !', 1).unchain('Kept', *KEPT).end('done !')
+    w.asked(['tokens', 'owns'], CLEAR, '(to-clear r u)', '(asked-clear r u)')
+    return w.frame().unchain('Kept', *KEPT).end('done !')
 
 
 def exits():
     w = Walk('tokens', *(p.name for p in RESULTS), 'result', 'Kept')
-    w.step('says ! e').step('frame !', 1).chain('Kept', *KEPT).nothing('owns')
+    w.step('says ! e').frame().chain('Kept', *KEPT).nothing('owns')
     for p in reversed(FUNCTION.parameters):
-        if p is WIDTH:
-            w.owned('kept width', *WIDTH.made())
-        w.fjoin(p.name if p in RESULTS else f'kept {p.name}', 'owns', 'owns')
-    return w.step('frame !', 1).end('done !')
+        w.add(p.name if p in RESULTS else f'kept {p.name}', *(p.made() if p is WIDTH else ()))
+    return w.frame().end('done !')
 
 
 def walk():
     w = Walk('entry').allocate(19).passes(*(p.typed(by_place) for p in FUNCTION.parameters))
-    w.use(['entry'], 'raw (Table 𝓤 H A mem run .pre to-table) ⊛ ‵ Rest', '(goes-table fits)', 'asked', 'Rest').show()
-    w.call(MAKE, 'to-table', w.arguments('_4', '_5'), 'v', 'r', 'BidTable', TOKEN, 'B κs', AT_TABLE, '(bids, (width, tt))')
-    w.hear('Made r', 'table-said r', 'e').split('given back', 'token', 'r').move('r')
+    w.asked(['entry'], MAKE, 'to-table', '(goes-table fits)', 'Rest')
+    w.call(MAKE, 'to-table', w.arguments(*FUNCTION.locals([BIDS, WIDTH])), 'v', 'r', 'BidTable', TOKEN, 'B κs',
+           f"({κ.strip('()')}, tt)", '(bids, (width, tt))')
+    w.hear('Made r', 'table-said r', 'e').given('token', 'r')
     w.learn('peeks', '(B κs)', 'r', 'v', 'is')
-    w.land('_10', 'LL.lawful (T.the-type αᵉ) (T′.the-laws αᵉ) 𝓤 H A W .typed r _ is .0')
-    for i, p in enumerate(RESULTS):
-        w.lend_slice(f'_{6 + i}', f'_{11 + 2 * i}', f'_{12 + 2 * i}', f'g-{p.name} .0')
+    table = w.take()
+    w.land(table, 'LL.lawful (T.the-type αᵉ) (T′.the-laws αᵉ) 𝓤 H A W .typed r _ is .0')
+    lent = [w.lend_slice(FUNCTION.local(p.name), f'g-{p.name} .0') for p in RESULTS]
     w.join('token', 'Rest', 'token and Rest')
-    w.use(['token and Rest', 'r'], 'raw (Clear 𝓤 H A mem run .pre (to-clear r v)) ⊛ ‵ Kept', '(goes-clear r v)', 'asked', 'Kept')
-    w.show().call(CLEAR, '(to-clear r v)', w.arguments('_1', '_2', '_3', '_10', '_12', '_14', '_16', '_18'), 'u', 'a′',
-                  'Clearing', 'tokens', 'S.the-row', 'κs', '(args r)')
+    w.asked(['token and Rest', 'r'], CLEAR, '(to-clear r v)', '(goes-clear r v)', 'Kept')
+    w.call(CLEAR, '(to-clear r v)', w.arguments(*FUNCTION.locals(ASKS), table, *lent), 'u', 'a′', 'Clearing', 'tokens',
+           'S.the-row', 'κs', '(args r)')
     w.hear_lasts(CLEAR, 'κs', '(args r)', 'ls', f'Said (r .bids) (r .width) a′ {LISTS}', 'said')
     w.take_lasts([(p.last, p.name, f'l-{p.name}') for p in PASSED])
-    w.split('given back', 'tokens', 'result').move('result').show().learn('peeks', 'S.the-row', 'a′', 'u', 'is′')
+    w.given('tokens', 'result').show().learn('peeks', 'S.the-row', 'a′', 'u', 'is′')
     w.land('_0', 'EL.lawful S.the-type S′.the-laws 𝓤 H A W tt .typed a′ _ is′ .0').leave()
     w.keep('tokens', *(p.name for p in RESULTS), 'result', 'Kept')
     return w.end(f'by ! (exits fits a′ u {LISTS} (of-view r e said) {LENGTHS})')
@@ -97,17 +82,16 @@ def walk():
 
 def proof():
     f = FUNCTION
-    owns = '\n'.join(f'  abbrev Own-{p.name} : Fml\n  Own-{p.name} = {p.own(by_place)}\n' for p in f.parameters if p is not WIDTH)
+    owning = [p for p in f.parameters if p is not WIDTH]
     kept = [f'(flft {by_place(l)[0]} {by_place(l)[1]})' for l in range(8) if l != BIDS.lifetime] + [
-        f'Own-{p.name}' for p in f.parameters if p is not WIDTH]
-    facts = [*(f"→ {p.fact(by_place) or 'width < 2 ^ 64'}" for p in f.parameters), '→ ' + f.goal('κs', 'qs', 'a', 'at')]
-    facts[0] = facts[0][2:]
-    asked = ('tokens ∷ ‵ (owns (' + ' ∷ '.join(p.row(by_place) for p in PASSED)
-             + ' ∷ []) (args r) (passed u)) ∷ []')
+        f'Own-{p.name}' for p in owning]
+    facts = [*(p.fact(by_place) or 'width < 2 ^ 64' for p in f.parameters), f.goal('κs', 'qs', 'a', 'at')]
+    asked = f'tokens ∷ ‵ (owns ({rows(PASSED, by_place)}) (args r) (passed u)) ∷ []'
     made = (f'{TOKEN} ∷ ‵ (owns (ShrSlice (named 0) {κ} u32 ∷ usize ∷ []) (bids, (width, tt)) '
             '(val bids ∷ [], (vint w64 width ∷ [], tt))) ∷ []')
     return text(TEMPLATE, stayed=f.stayed(), contracts=f.contracts(), exits=fill(exits(), 6), tables=f.over_tables(),
-                goes_table=fill(goes_table(), 6), goes_clear=fill(goes_clear(), 6), owns=owns, LAST=LAST, LENGTHS=LENGTHS,
+                goes_table=fill(goes_table(), 6), goes_clear=fill(goes_clear(), 6),
+                owns=owns(owning, by_place), LASTS=LASTS, LENGTHS=LENGTHS,
                 module=f.module_over('(κs : Lfts 8) (qs : Shares 8) (asks bays amounts bids : Nums) (width : ℕ) '
                                      '(stations charges sold paid : Nums)'),
                 names=f.names(), at=laid([f'{p.value()} ∷ []' for p in f.parameters], 2, 'at = '),
@@ -120,15 +104,12 @@ def proof():
                 asks=fill(f'qed W ({asked}) ∵ join ! $ frame ! $ done !', 6),
                 given=fill(f'qed W (tokens ∷ ‵ (owns ({f.rows()}) a at) ∷ []) ∵', 6),
                 TOKEN=TOKEN,
-                left=fill([*(f'→ length {p.name}′ ≡ length (now {p.name})' for p in RESULTS),
-                           f'→ ent 𝓤 (⋆ 𝓤 H A ({HAD})) (Post u)'], 6),
-                had=fill([f'qed W ({HAD}) ∵', f.ends(['tt'] * 5 + LAST.split(), ['tt'] * 5 + LENGTHS.split(),
-                                                     '((κs, qs, tt, a, at), tt)', 'u', 'a′')], 6),
-                facts=fill(facts, 8), given_names=' '.join('fits' if p is WIDTH else f'g-{p.name}' for p in f.parameters),
+                left=fill([*KEEPS, f'→ ent 𝓤 (⋆ 𝓤 H A ({HAD})) (Post u)'], 6),
+                had=fill([f'qed W ({HAD}) ∵', f.ends('((κs, qs, tt, a, at), tt)', 'u', 'a′')], 6),
+                facts=arrows(facts, 8),
+                given_names=' '.join('fits' if p is WIDTH else f'g-{p.name}' for p in f.parameters),
                 enter=fill(f.enter(), 8), walk=fill(walk(), 8),
-                walks=f.walks('κs qs ' + ' '.join(f'(a{f.place(p.name)})' for p in f.parameters)
-                              + ' C Λ fm known-table known-clear '
-                              + ' '.join(p.given(f.place(p.name)) for p in f.parameters)))
+                walks=f.walks(f.arguments('κs qs', 'C Λ fm known-table known-clear')))
 
 
 TEMPLATE = '''
@@ -234,22 +215,22 @@ val x = sliceVal (x .ptr) (length (x .now))
 
   -- what is ensured of the answer and the last lists, where the bids are x and the row width is w
   abbrev Said : Nums → ℕ → Clearing → List ℕ → List ℕ → List ℕ → List ℕ → Type 0
-  Said x w a′ «LAST» =
+  Said x w a′ «LASTS» =
       Clears (tables (now asks) (now bays) (now amounts) (now x) w)
-      (results (now stations) (now charges) (now sold) (now paid)) a′ (results «LAST»)
+      (results (now stations) (now charges) (now sold) (now paid)) a′ (results «LASTS»)
 
   of-view :
-      (r : BidTable) → Made r → {a′ : Clearing} {«LAST» : List ℕ}
-      → Said (r .bids) (r .width) a′ «LAST» → Said bids width a′ «LAST»
+      (r : BidTable) → Made r → {a′ : Clearing} {«LASTS» : List ℕ}
+      → Said (r .bids) (r .width) a′ «LASTS» → Said bids width a′ «LASTS»
   of-view r (e, q) {a′} {stations′} {charges′} {sold′} {paid′} said =
-      subst (λ w. Said bids w a′ «LAST») q
-      (subst (λ x. Said x (r .width) a′ «LAST») e said)
+      subst (λ w. Said bids w a′ «LASTS») q
+      (subst (λ x. Said x (r .width) a′ «LASTS») e said)
 
   exits :
-      width < 2 ^ 64 → (a′ : Clearing) (u : Val) («LAST» : List ℕ)
-      → Said bids width a′ «LAST»
+      width < 2 ^ 64 → (a′ : Clearing) (u : Val) («LASTS» : List ℕ)
+      → Said bids width a′ «LASTS»
 «left»
-  exits fits a′ u «LAST» e «LENGTHS» =
+  exits fits a′ u «LASTS» e «LENGTHS» =
 «had»
 «exits»
 

@@ -1,8 +1,8 @@
 """`post` meets its contract. The row of stations is lent as a `&` for a lifetime that is made for the call of
-`stations_exceed`, and comes back as it was; `guests`, `house` and `last` go to `settle`, and the row to `add_sales`, each
-for good."""
+`stations_exceed`, and comes back as it was; `guests`, `house` and `last` go to `settle`, and the row to `add_sales`,
+each for good."""
 from context import Walk
-from frame import Callee, each, formulas, Function, Lent, Number, projection, Record, tokens
+from frame import arrows, Callee, each, formulas, Function, Lent, Number, owns, projection, Record, tokens
 from layout import fill, laid, text
 from market import BOOK, GUESTS, HOUSE, LAST, LIFETIMES, POSTED, ROUND, SLICES, WIDTH
 
@@ -11,6 +11,7 @@ EXCEED = Callee('ledger', 'stations.stations_exceed', 'exceed', 'Exceed')
 SETTLE = Callee('ledger', 'settling.settle', 'settle', 'Settle')
 ADD = Callee('ledger', 'stations.add_sales', 'add', 'Add')
 ROW = Lent('(x γ)', 'T.the-row', 5, value='s')
+ROW.label = 'stations'
 FUNCTION = Function('ledger', 'post', 8, [*SLICES, WIDTH, ROUND, GUESTS, ROW, HOUSE, LAST], [PLAN, EXCEED, SETTLE, ADD],
                     naming=each, uses='''\
 Rattle.model.specs.market.Market: tables
@@ -32,15 +33,14 @@ Rattle.model.specs.book.Book: Book book
 Rattle.ledger.specs.Plans: Planned
 Rattle.ledger.proofs.Posting: posts
 ''')
-# what `settle` is passed: the round, whether an account is full, how many stations, the round's number, and three `&mut`
+# what `settle` is passed: the round, whether an account is full, how many stations, the round's number, three `&mut`s
 MADE = Record('d', 'R', value='v')
 STATIONS = Number('n', 'usize', 'n-fits')
 FULL = ('Boolean', '(bool-makes 𝓤 H A W)', '(exceedingTo d n ys)', '(vbool (exceedingTo d n ys) ∷ [])', 'refl')
 SETTLED = ['plain', 'plain', 'plain', 'plain', 'slice', 'ref', 'ref']
 LISTS = ' '.join(f'(ls{projection(i)})' for i, kind in enumerate(SETTLED) if kind != 'plain')
-# the locals
-(R_, FULL_, S_, ROW_P, ROW_S, LEN_, G_P, G_S, H_, L_, UNIT_, AGAIN_P, AGAIN_S) = (f'_{i}' for i in range(11, 24))
-OF_PLAN, OF_SETTLE, OF_ADD = range(4), (4, 6, 7), 5
+# the lifetimes whose tokens `plan` and `settle` are given
+OF_PLAN, OF_SETTLE = range(4), (4, 6, 7)
 KEPT = [p.name for p in SLICES]
 
 
@@ -48,34 +48,34 @@ def goes_plan():
     w = Walk('Market', 'tokens').chain('Market', *KEPT)
     for p in SLICES:
         w.use([p.name], *p.twice(each, f'Own-{p.name}', 0), p.name, f'kept {p.name}')
-    w.nothing('owns').owned('width', *WIDTH.made()).fjoin('width', 'owns', 'owns')
+    w.nothing('owns').add('width', *WIDTH.made())
     for p in reversed(SLICES):
-        w.fjoin(p.name, 'owns', 'owns')
-    w.use(['tokens', 'owns'], 'raw (Plan 𝓤 H A mem run .pre to-plan)', 'plan-asked', 'asked').step('frame !', 1)
+        w.add(p.name)
+    w.asked(['tokens', 'owns'], PLAN, 'to-plan', 'plan-asked').frame()
     return w.unchain('Market', *(f'kept {p.name}' for p in SLICES)).end('done !')
 
 
 def goes_exceed():
-    w = Walk('row', 'token').nothing('owns').owned('round', *MADE.made('gd')).fjoin('round', 'owns', 'owns')
-    w.fjoin('row', 'owns', 'owns').nothing('true').join('token', 'true', 'tokens').join('tokens', 'owns', 'asked')
-    return w.step('frame !', 1).end('done !')
+    w = Walk('row', 'token').nothing('owns').add('round', *MADE.made('gd'))
+    w.add('row').nothing('true').join('token', 'true', 'tokens').join('tokens', 'owns', 'asked')
+    return w.frame().end('done !')
 
 
 def goes_settle():
     w = Walk('tokens', 'guests', 'house and last').fsplit('house and last', 'house', 'last').nothing('owns')
     for p in (LAST, HOUSE, GUESTS):
-        w.fjoin(p.name, 'owns', 'owns')
+        w.add(p.name)
     for name, made in (('round', ROUND.made()), ('n', STATIONS.made()), ('full', FULL), ('made', MADE.made('gd'))):
-        w.owned(name, *made).fjoin(name, 'owns', 'owns')
-    return w.join('tokens', 'owns', 'asked').step('frame !', 1).end('done !')
+        w.add(name, *made)
+    return w.join('tokens', 'owns', 'asked').frame().end('done !')
 
 
 def goes_add():
     credits = Number('(c .credits)', 'usize', 'fits')
     w = Walk('tokens', 'row').nothing('owns')
     for name, made in (('credits', credits.made()), ('made', MADE.made('gd'))):
-        w.owned(name, *made).fjoin(name, 'owns', 'owns')
-    return w.fjoin('row', 'owns', 'owns').join('tokens', 'owns', 'asked').step('frame !', 1).end('done !')
+        w.add(name, *made)
+    return w.add('row').join('tokens', 'owns', 'asked').frame().end('done !')
 
 
 def exits():
@@ -88,15 +88,15 @@ def exits():
     w.join(token[5], 'tokens 6', 'tokens')
     for l in (4, 3, 2, 1, 0):
         w.join(token[l], 'tokens', 'tokens')
-    w.step('frame !', 1).nothing('owns')
+    w.frame().nothing('owns')
     for p, name in ((LAST, 'last'), (HOUSE, 'house'), (ROW, 'stations'), (GUESTS, 'guests')):
-        w.fjoin(name, 'owns', 'owns')
+        w.add(name)
     for p in (ROUND, WIDTH):
-        w.owned(p.name, *p.made()).fjoin(p.name, 'owns', 'owns')
+        w.owned(p.name, *p.made()).add(p.name)
     w.chain('Market', *KEPT)
     for p in reversed(SLICES):
-        w.fjoin(p.name, 'owns', 'owns')
-    w.step('frame !', 1).drop('true 5', 'true 4')
+        w.add(p.name)
+    w.frame().drop('true 5', 'true 4')
     w.owned('reply', 'S.the-row', '(EL.makes S.the-type S′.the-plain 𝓤 H A)', '(c .reply)', '(valS (c .reply) ∷ [])',
             '(LL.owed Q.the-type Q′.the-laws c _ is .0)')
     return w.end('done !')
@@ -106,21 +106,25 @@ def walk():
     w = Walk('tokens', 'owns').allocate(24)
     w.passes(*(p.typed(each, 'gg') if p is GUESTS else p.typed(each, 'gn') if p is ROW else p.typed(each)
                for p in FUNCTION.parameters))
+    made, full, ruling = w.take(), w.take(), w.take()
     w.note('what the parameters own and their tokens, apart; `plan`')
-    w.chain('owns', *(p.name for p in FUNCTION.parameters), 'true').drop('true', 'width', 'round').unchain('Market', *KEPT)
+    w.chain('owns', *(p.name for p in FUNCTION.parameters), 'true').drop('true', 'width', 'round')
+    w.unchain('Market', *KEPT)
     token = [f'token {l}' for l in range(8)]
     w.chain('tokens', *token[:6], 'tokens 6', how='split').join(token[4], 'tokens 6', 'of settle')
     w.nothing('of plan')
     for l in reversed(OF_PLAN):
         w.join(token[l], 'of plan', 'of plan')
-    w.use(['Market', 'of plan'], 'raw (Plan 𝓤 H A mem run .pre to-plan) ⊛ ‵ Market', 'goes-plan', 'asked', 'Market').show()
-    w.call(PLAN, 'to-plan', w.arguments('_1', '_2', '_3', '_4', '_5'), 'u₀', 'd', 'Round', '(tokens₄)', 'R.the-row', 'κs₄',
-           'plan-args')
-    w.hear('Plan₀ d', 'plan-said d', 'e₀').split('given back', 'of plan', 'result').move('result')
-    w.learn('facts', 'R.the-row', 'd', 'u₀', 'gd').land(R_, 'LL.lawful R.the-type R′.the-laws 𝓤 H A W .typed d _ gd .0')
+    w.asked(['Market', 'of plan'], PLAN, 'to-plan', 'goes-plan', 'Market')
+    w.call(PLAN, 'to-plan', w.arguments(*FUNCTION.locals([*SLICES, WIDTH])), 'u₀', 'd', 'Round', 'tokens₄', 'R.the-row',
+           'κs₄', 'plan-args')
+    w.hear('Plan₀ d', 'plan-said d', 'e₀').given('of plan', 'result')
+    w.learn('facts', 'R.the-row', 'd', 'u₀', 'gd')
+    w.land(made, 'LL.lawful R.the-type R′.the-laws 𝓤 H A W .typed d _ gd .0')
 
     w.note('`stations_exceed`, on a `&` of the row')
-    w.lend_slice('_8', ROW_P, ROW_S, 'gn .0')
+    stations = FUNCTION.local('stations')
+    row = w.lend_slice(stations, 'gn .0')
     w.fsplit('(x γ)', 'place', 'row').drop('place').fsplit('row', 'obs', 'bor').move('obs', 'bor', token[5])
     w.step('opens-slice ! tt T.the-row ys b o', 3, ('row', 'open', 'obs', 'auth'))
     w.step('feqI ! ℕ (length ys) (length ys) refl', 0, ('length',)).fjoin('length', 'row', 'parts')
@@ -128,81 +132,82 @@ def walk():
     w.step('use1 W (later (some (λ (δ : GName). ‵ (OwnS ν δ) ⊛ ‵ (flent (ν ∷ []) Parts)))) '
            '(lends-shr-slice 𝓤 H A W T.the-row (named 0) (ν ∷ []) fullShare ys b o gn)', 1, ('lending',))
     w.step('await ! tt').step('pick !', binds='δ').split('lending', 'lent row', 'lent')
-    w.use(['lent row', 'token ν'], 'raw (Exceed 𝓤 H A mem run .pre (to-exceed d u₀ ν δ))', '(goes-exceed d u₀ gd ν δ)', 'asked')
-    w.show().call(EXCEED, '(to-exceed d u₀ ν δ)', w.arguments(ROW_S, R_), 'u₁', 't', 'Bool',
-                  '(‵ (flft (ν ∷ []) fullShare) ⊛ ‵ ftrue)', 'Boolean', '(ν ∷ [], tt)', '(x δ, (d, tt))')
-    w.hear('t ≡ exceedingTo d n ys', 'exceed-said d ν δ t', 'e₁').split('given back', 'tokens ν', 'result').move('result')
-    w.learn('facts', 'Boolean', 't', 'u₁', 'is₁').land(FULL_, 'bool-lawful 𝓤 H A W .typed t _ is₁ .0')
-    w.rewrite(FULL_, 'λ (z : Val). ‵ (fat fullShare tyBool l12 0 z)', '(ap only is₁)')
-    w.rewrite(FULL_, 'λ (z : Bool). ‵ (fat fullShare tyBool l12 0 (vbool z))', 'e₁')
+    w.asked(['lent row', 'token ν'], EXCEED, '(to-exceed d u₀ ν δ)', '(goes-exceed d u₀ gd ν δ)')
+    w.call(EXCEED, '(to-exceed d u₀ ν δ)', w.arguments(row, made), 'u₁', 't', 'Bool',
+           '(‵ (flft (ν ∷ []) fullShare) ⊛ ‵ ftrue)', 'Boolean', '(ν ∷ [], tt)', '(x δ, (d, tt))')
+    w.hear('t ≡ exceedingTo d n ys', 'exceed-said d ν δ t', 'e₁').given('tokens ν', 'result')
+    w.learn('facts', 'Boolean', 't', 'u₁', 'is₁').land(full, 'bool-lawful 𝓤 H A W .typed t _ is₁ .0')
+    w.rewrite(full, f'λ (z : Val). ‵ (fat fullShare tyBool l{full[1:]} 0 z)', '(ap only is₁)')
+    w.rewrite(full, f'λ (z : Bool). ‵ (fat fullShare tyBool l{full[1:]} 0 (vbool z))', 'e₁')
     w.split('tokens ν', 'token ν', 'true').step('lft-end ! tt', 1, ('dead',)).move('dead', 'lent')
-    w.step('lent-back ! tt', 2, ('parts',)).fsplit('parts', 'length', 'row').drop('length').move('row', 'open', 'obs', 'auth')
+    w.step('lent-back ! tt', 2, ('parts',)).fsplit('parts', 'length', 'row').drop('length')
+    w.move('row', 'open', 'obs', 'auth')
     w.step('closes-slice ! tt T.the-row ys ys refl b o', 4, ('obs', 'bor', token[5])).show()
 
     w.note('`settle`')
-    w.copy(w.field('_8', 1), LEN_, 'tt, record { fits = gn .0 }').lend_slice('_7', G_P, G_S, 'gg .0')
-    w.lend_ref('_9', H_).lend_ref('_10', L_).fjoin('house', 'last', 'house and last')
-    w.use(['of settle', 'guests', 'house and last'], 'raw (Settle 𝓤 H A mem run .pre (to-settle d u₀))',
-          '(goes-settle d u₀ gd (gn .0))', 'asked').show()
-    w.call(SETTLE, '(to-settle d u₀)', w.arguments(R_, FULL_, LEN_, '_6', G_S, H_, L_), 'u₂', 'c', 'Ruling', '(tokens₃)',
-           'Q.the-row', 'κs₃', '(settle-args d)')
+    length = w.copied(w.field(stations, 1), 'tt, record { fits = gn .0 }')
+    lent = [w.lend_slice(FUNCTION.local('guests'), 'gg .0')]
+    lent += [w.lend_ref(FUNCTION.local('house')), w.lend_ref(FUNCTION.local('last'))]
+    w.fjoin('house', 'last', 'house and last')
+    w.asked(['of settle', 'guests', 'house and last'], SETTLE, '(to-settle d u₀)', '(goes-settle d u₀ gd (gn .0))')
+    w.call(SETTLE, '(to-settle d u₀)', w.arguments(made, full, length, FUNCTION.local('round'), *lent), 'u₂', 'c',
+           'Ruling', 'tokens₃', 'Q.the-row', 'κs₃', '(settle-args d)')
     w.hear_lasts(SETTLE, 'κs₃', '(settle-args d)', 'ls', f'Left d c {LISTS}', 'e₂')
-    w.take_lasts(zip(SETTLED, ['', '', '', '', 'guests', 'house', 'last'], ['', '', '', '', 'lg', '', '']))
-    w.split('given back', 'of settle', 'result').move('result').learn('facts', 'Q.the-row', 'c', 'u₂', 'is₂')
-    w.land(S_, 'LL.lawful Q.the-type Q′.the-laws 𝓤 H A W .typed c _ is₂ .0')
-    w.rewrite(S_, 'λ (z : Val). ‵ (fat fullShare Q′.mir l13 0 z)', '(ap only (LL.tells Q.the-type Q′.the-laws c _ is₂))')
+    w.take_lasts(zip(SETTLED, ['', '', '', '', 'guests', 'house', 'last'], ['', '', '', '', 'l-guests', '', '']))
+    w.given('of settle', 'result').learn('facts', 'Q.the-row', 'c', 'u₂', 'is₂')
+    w.land(ruling, 'LL.lawful Q.the-type Q′.the-laws 𝓤 H A W .typed c _ is₂ .0')
+    w.rewrite(ruling, f'λ (z : Val). ‵ (fat fullShare Q′.mir l{ruling[1:]} 0 z)',
+              '(ap only (LL.tells Q.the-type Q′.the-laws c _ is₂))')
 
     w.note('`add_sales`')
-    w.lend_slice('_8', AGAIN_P, AGAIN_S, 'gn .0').fjoin('obs', 'bor', 'row')
-    w.step('pureI ! (at-slice T.the-row (x γ) (s ∷ [])) (tt, (tt, tt)) (refl, gn)', 0, ('place',)).fjoin('place', 'row', 'row')
-    w.join(token[5], 'true', 'of add')
-    w.use(['of add', 'row'], 'raw (Add 𝓤 H A mem run .pre (to-add d u₀ c))',
-          '(goes-add d u₀ gd c (LL.owed Q.the-type Q′.the-laws c _ is₂ .1 .0 .1))', 'asked').show()
+    unit, row = w.take(), w.lend_slice(stations, 'gn .0')
+    w.fjoin('obs', 'bor', 'row')
+    w.step('pureI ! (at-slice T.the-row (x γ) (s ∷ [])) (tt, (tt, tt)) (refl, gn)', 0, ('place',))
+    w.fjoin('place', 'row', 'row').join(token[5], 'true', 'of add')
+    w.asked(['of add', 'row'], ADD, '(to-add d u₀ c)',
+            '(goes-add d u₀ gd c (LL.owed Q.the-type Q′.the-laws c _ is₂ .1 .0 .1))')
     at = ('(κ₅, tt)', '(x γ, (d, (c .credits, tt)))')
-    w.call(ADD, '(to-add d u₀ c)', w.operands(w.load(AGAIN_S), w.load(R_), w.field(S_, 1)), 'u₃', 'r', 'Unit {0}',
+    w.call(ADD, '(to-add d u₀ c)', w.operands(w.load(row), w.load(made), w.field(ruling, 1)), 'u₃', 'r', 'Unit {0}',
            '(‵ (flft κ₅ q₅) ⊛ ‵ ftrue)', 'Nothing', *at)
     w.hear_lasts(ADD, *at, 'zs', 'zs .0 ≡ creditedTo d (min n (c .credits)) ys', 'e₃')
-    w.fsplit('lasts', 'ended', 'rest').fsplit('ended', 'stations', 'length').move('length').step('feqL !', 1, binds='la')
-    w.drop('rest').split('given back', 'of add', 'result').move('result').learn('facts', 'Nothing', 'r', 'u₃', 'is₃')
-    w.land(UNIT_, 'nothing-lawful 𝓤 H A W .typed r _ is₃ .0')
+    w.take_lasts([('slice', 'stations', 'l-stations')]).given('of add', 'result')
+    w.learn('facts', 'Nothing', 'r', 'u₃', 'is₃').land(unit, 'nothing-lawful 𝓤 H A W .typed r _ is₃ .0')
 
     w.note('the reply')
-    w.copy(w.field(S_, 0), '_0', 'EL.lawful S.the-type S′.the-laws 𝓤 H A W tt .typed (c .reply) _ '
+    w.copy(w.field(ruling, 0), '_0', 'EL.lawful S.the-type S′.the-laws 𝓤 H A W tt .typed (c .reply) _ '
            '(LL.owed Q.the-type Q′.the-laws c _ is₂ .0) .0').leave()
     w.keep('of plan', 'Market', 'of add', 'stations', 'of settle', 'guests', 'house', 'last')
     guests, house, last = (f'(ls{projection(i)})' for i in (4, 5, 6))
-    return w.end(f'by ! (exits d c u₂ {guests} (zs .0) {house} {last} e₀ e₂ e₃ is₂ la lg)')
+    return w.end(f'by ! (exits d c u₂ {guests} (zs .0) {house} {last} e₀ e₂ e₃ is₂ l-stations l-guests)')
 
 
 def proof():
     f = FUNCTION
-    owns = '\n'.join(f'  abbrev {n} : Fml\n  {n} = {p.own(each, 0)}\n' for n, p in
-                     [*((f'Own-{p.name}', p) for p in SLICES), ('OwnA', ROW), ('OwnG', GUESTS), ('OwnH', HOUSE), ('OwnL', LAST)])
-    facts = [*(f'→ {p.fact(each)}' for p in SLICES), '→ Room u64 (length (now guests))', '→ Room T.the-row n',
-             '→ ' + f.goal('κs', 'qs', 'a', 'at')]
-    facts[0] = facts[0][2:]
+    facts = [*(p.fact(each) for p in [*SLICES, GUESTS]), 'Room T.the-row n', f.goal('κs', 'qs', 'a', 'at')]
     a = {p.name: f'(a{f.place(p.name)})' for p in f.parameters}
     row = f"a{f.place('(x γ)')}"
     fits = {p.name: p.given(f.place(p.name)) for p in f.parameters if p.fact(each) or p in (WIDTH, ROUND)}
-    lifetimes = ' '.join(f'(κs{projection(i)})' for i in range(8)) + ' ' + ' '.join(f'(qs{projection(i)})' for i in range(8))
+    lifetimes = ' '.join(f'({x}{projection(i)})' for x in ('κs', 'qs') for i in range(8))
     arguments = ' '.join([lifetimes, *(a[p.name] for p in SLICES), a['width'], fits['width'], a['round'], fits['round'],
-                          a['guests'], f'({row} .ptr .0) ({row} .ptr .1) ({row} .name) ({row} .now)', a['house'], a['last'],
-                          'C Λ fm', *(c.known for c in f.callees), *(fits[p.name] for p in [*SLICES, GUESTS, ROW])])
-    return text(TEMPLATE, stayed=f.stayed(), contracts=f.contracts(), owns=owns, tables=f.over_tables(),
+                          a['guests'], f'({row} .ptr .0) ({row} .ptr .1) ({row} .name) ({row} .now)', a['house'],
+                          a['last'], 'C Λ fm', *(c.known for c in f.callees),
+                          *(fits[p.name] for p in [*SLICES, GUESTS, ROW])])
+    return text(TEMPLATE, stayed=f.stayed(), contracts=f.contracts(), tables=f.over_tables(),
+                owns=owns([*SLICES, ROW, GUESTS, HOUSE, LAST], each, 0),
                 goes_plan=fill(goes_plan(), 6), goes_exceed=fill(goes_exceed(), 6), goes_settle=fill(goes_settle(), 6),
                 goes_add=fill(goes_add(), 6), exits=fill(exits(), 6),
                 module=f.module_over(f'{POSTED} (b o : ℕ) (γ : GName) (ys : List StationAccount) (house last : Num)'),
                 book=BOOK, lifetimes=LIFETIMES,
-                names=f.names().replace('(x γ)', 'x γ'), at=laid([f'{p.value()} ∷ []' for p in f.parameters], 2, 'at = '),
+                names=f.names().replace('(x γ)', 'x γ'),
+                at=laid([f'{p.value()} ∷ []' for p in f.parameters], 2, 'at = '),
                 Market=formulas([f'Own-{p.name}' for p in SLICES]), of_plan=tokens(OF_PLAN, each),
                 of_settle=tokens(OF_SETTLE, each), settled=laid(
                     ['v ∷ []', 'vbool (exceedingTo d n ys) ∷ []', 'vint w64 n ∷ []',
                      *(f'{p.value()} ∷ []' for p in (ROUND, GUESTS, HOUSE, LAST))], 2, 'settle-vals d v = '),
                 planned=fill(f"qed W (tokens₄ ∷ ‵ (owns ({' ∷ '.join(p.row(each) for p in SLICES)} ∷ usize ∷ []) "
                              'plan-args plan-vals) ∷ []) ∵ join ! $ frame ! $ done !', 6),
-                ends=fill(f.ends(['tt'] * 6 + ['guests′', 'stations′', 'house′', 'last′'], ['tt'] * 6 + ['lg', 'ls', 'tt', 'tt'],
-                                 'bound', '(valS (c .reply))', '(c .reply)'), 6),
-                facts=fill(facts, 8), enter=fill(f.enter(), 8), walk=fill(walk(), 8),
+                ends=fill(f.ends('bound', '(valS (c .reply))', '(c .reply)'), 6), facts=arrows(facts, 8),
+                enter=fill(f.enter(), 8), walk=fill(walk(), 8),
                 given=fill(f"qed W (({tokens(range(8), each)}) ∷ ‵ (owns ({f.rows()}) a at) ∷ []) ∵", 8),
                 walks=f.walks(arguments))
 
@@ -330,9 +335,10 @@ valS r = EL.val S.the-type S′.the-laws r
 
   goes-settle :
       (d : Round) (v : Val) → Is R.the-row d (v ∷ []) → n < 2 ^ 64
-      → ent 𝓤 (⋆ 𝓤 H A (tokens₃ ∷ ‵ OwnG ∷ ‵ (fsep OwnH OwnL) ∷ [])) (Settle 𝓤 H A mem run .pre (to-settle d v))
+      → ent 𝓤 (⋆ 𝓤 H A (tokens₃ ∷ ‵ Own-guests ∷ ‵ (fsep Own-house Own-last) ∷ []))
+      (Settle 𝓤 H A mem run .pre (to-settle d v))
   goes-settle d v gd n-fits =
-      qed W (tokens₃ ∷ ‵ OwnG ∷ ‵ (fsep OwnH OwnL) ∷ []) ∵
+      qed W (tokens₃ ∷ ‵ Own-guests ∷ ‵ (fsep Own-house Own-last) ∷ []) ∵
 «goes_settle»
 
   -- `add_sales`, on the row at its own lifetime, with the round d at the machine value v
@@ -350,10 +356,10 @@ valS r = EL.val S.the-type S′.the-laws r
 
   goes-add :
       (d : Round) (v : Val) → Is R.the-row d (v ∷ []) → (c : Ruling) → c .credits < 2 ^ 64
-      → ent 𝓤 (sep 𝓤 (sep 𝓤 (A .lft κ₅ q₅) (sem 𝓤 H A ftrue)) (sem 𝓤 H A OwnA))
+      → ent 𝓤 (sep 𝓤 (sep 𝓤 (A .lft κ₅ q₅) (sem 𝓤 H A ftrue)) (sem 𝓤 H A Own-stations))
       (Add 𝓤 H A mem run .pre (to-add d v c))
   goes-add d v gd c fits =
-      qed W ((‵ (flft κ₅ q₅) ⊛ ‵ ftrue) ∷ ‵ OwnA ∷ []) ∵
+      qed W ((‵ (flft κ₅ q₅) ⊛ ‵ ftrue) ∷ ‵ Own-stations ∷ []) ∵
 «goes_add»
 
   -- what the calls leave
@@ -377,7 +383,7 @@ valS r = EL.val S.the-type S′.the-laws r
       → Left d c guests′ house′ last′ → stations′ ≡ creditedTo d (min n (c .credits)) ys → Is Q.the-row c (u ∷ [])
       → length stations′ ≡ n → length guests′ ≡ length (now guests)
       → ent 𝓤 (⋆ 𝓤 H A (Had guests′ stations′ house′ last′)) (Post (valS (c .reply)))
-  exits d c u guests′ stations′ house′ last′ e₀ e₂ e₃ is ls lg =
+  exits d c u guests′ stations′ house′ last′ e₀ e₂ e₃ is l-stations l-guests =
       qed W (Had guests′ stations′ house′ last′) ∵
 «ends»
 «exits»

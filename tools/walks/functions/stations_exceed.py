@@ -1,5 +1,5 @@
-"""`stations::stations_exceed` meets its contract: each turn looks into the borrow, copies record j out of the row, shuts
-the borrow, and has `station_exceeds` judge the record."""
+"""`stations::stations_exceed` meets its contract: each turn looks into the borrow, copies record j out of the row,
+shuts the borrow, and has `station_exceeds` judge the record."""
 import loop
 from context import Walk
 from frame import alone, Callee, Function, Number, Record, Shared
@@ -30,17 +30,17 @@ RECORD = Record('e', 'T')
 
 def exits():
     w = Walk(*HEAD).step('says ! e')
-    w.nothing('true').join('the token', 'true', 'tokens').step('frame !', 1)
+    w.nothing('true').join('the token', 'true', 'tokens').frame()
     w.nothing('true').owned('round', *ROUND.made('gd')).fjoin('round', 'true', 'owns')
-    w.fjoin('the slice', 'owns', 'owns').step('frame !', 1)
+    w.add('the slice').frame()
     return w.owned('result', *BOOLEAN).end('done !')
 
 
 def goes():
-    w = Walk().nothing('owns').owned('before', *BOOLEAN).fjoin('before', 'owns', 'owns')
-    w.owned('j', *COUNT.made()).fjoin('j', 'owns', 'owns').owned('round', *ROUND.made('gd')).fjoin('round', 'owns', 'owns')
-    w.owned('record', *RECORD.made('is')).fjoin('record', 'owns', 'owns')
-    return w.nothing('true').join('true', 'owns', 'asked').step('frame !', 1).end('done !')
+    w = Walk().nothing('owns').add('before', *BOOLEAN)
+    w.add('j', *COUNT.made()).add('round', *ROUND.made('gd'))
+    w.add('record', *RECORD.made('is'))
+    return w.nothing('true').join('true', 'owns', 'asked').frame().end('done !')
 
 
 def tested():
@@ -56,20 +56,21 @@ def more():
     loop.place(w, TYPES, 4, 5, 7)
     w.note('what the slice owns is had twice: one is kept, and the other is taken apart')
     w.move('the slice').use(['the slice'], *ROW.twice(alone, 'Own'), 'had', 'the slice')
-    w.fsplit('had', 'place', 'had').drop('place').fsplit('had', 'room', 'borrow').drop('room').move('borrow', 'the token')
+    w.fsplit('had', 'place', 'had').drop('place').fsplit('had', 'room', 'borrow').drop('room')
+    w.move('borrow', 'the token')
     w.step('looks-slice ! tt T.the-row (Is T.the-row) (shows 𝓤 H A T.the-row) (LL.vals T.the-type T′.the-laws) '
            '(LL.tells T.the-type T′.the-laws) (LL.copy T.the-type T′.the-copy 𝓤 H A W) ys b o', 2,
            ('the row', 'what shuts', 'the fractured borrow'), binds='q′')
     loop.read(loop.out(w, 'q′', 'ys', 'less'), POINTER, TAKEN)
-    w.step('elem-back ! T.the-row q′ ys (j .0) (account 0 0) (LL.vals T.the-type T′.the-laws (elemAt (j .0))) b o less', 3,
-           ('the row',))
+    w.step('elem-back ! T.the-row q′ ys (j .0) (account 0 0) (LL.vals T.the-type T′.the-laws (elemAt (j .0))) b o less',
+           3, ('the row',))
     w.step('shuts-slice ! tt T.the-row q′ ys b o', 2, ('the token',)).show()
     at = '(elemAt (j .0)) (j .0) (L (j .0))'
-    w.use([], f'raw (One 𝓤 H A mem run .pre (to {at}))', f'(goes {at} is₀ j-fits)', 'asked')
+    w.asked([], ONE, f'(to {at})', f'(goes {at} is₀ j-fits)')
     w.call(ONE, f'(to {at})', w.arguments(TAKEN, '_2', AT, FOUND), 'u', 'r', 'Bool', '‵ ftrue', 'Boolean', 'tt',
            f'(args {at})')
     w.hear('r ≡ (L (j .0) or exceedsWith d (j .0) (elemAt (j .0)))', f'said {at} r', 'e′')
-    w.split('given back', 'true', 'result').drop('true').learn('facts', 'Boolean', 'r', 'u', 'is')
+    w.given('true', 'result').learn('facts', 'Boolean', 'r', 'u', 'is')
     w.land(FOUND, 'bool-lawful 𝓤 H A W .typed r _ is .0')
     w.rewrite(FOUND, f"λ (z : Val). {loop.cell(TYPES, 3, 'z')}", '(ap only is)')
     w.rewrite(FOUND, f"λ (t : Bool). {loop.cell(TYPES, 3, '(vbool t)')}", '(e′ ∙ exceeding-more d ys (j .0))')
@@ -98,8 +99,8 @@ def proof():
                        WHERE + loop.FITS, ends())
     return text(TEMPLATE, stayed=f.stayed(), contracts=f.contracts(), exits=fill(exits(), 6), goes=fill(goes(), 6),
                 values=text(loop.VALUES, kind='imm'), upto=text(loop.UPTO, upto='(j : ℕ) × (j ≤ n)'), loop=looped,
-                module=f.module_over('(κ : Lft) (q : Share) (b o : ℕ) (γ : GName) (ys : List StationAccount) (d : Round) '
-                                     '(v : Val) (gd : Is R.the-row d (v ∷ []))'),
+                module=f.module_over('(κ : Lft) (q : Share) (b o : ℕ) (γ : GName) (ys : List StationAccount) '
+                                     '(d : Round) (v : Val) (gd : Is R.the-row d (v ∷ []))'),
                 tables=f.over_tables('(gn : Room T.the-row n) (wt : Holds (hasTy R′.mir v) × WT v)'),
                 goal=fill(f.goal('(κ, tt)', '(q, tt)', 'a', 'at'), 8),
                 given=fill(f'qed W ((‵ (flft κ q) ⊛ ‵ ftrue) ∷ ‵ (owns ({f.rows()}) a at) ∷ []) ∵', 8),

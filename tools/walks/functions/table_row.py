@@ -2,52 +2,42 @@
 guest's number. All that the proof knows of `row` is that it meets its contract. The struct is Copy: what it owns is had
 twice, one copy is kept whole for the exit, and of the other what bids owns goes to the callee, beside the lifetime's
 token, which comes back."""
+import view
 from context import Walk
 from frame import alone, Callee, Function, Number, View
 from layout import fill, text
 
 ROW = Callee('clearing', 'views.row', 'row', 'Row')
 GUEST, WIDTH = Number('i', 'usize', 'i-fits'), Number('(d .width)', 'usize', 'fits')
-FUNCTION = Function('clearing', 'views.table_row', 1, [View('d', 0, 1), GUEST], [ROW], naming=alone, uses='''\
+FUNCTION = Function('clearing', 'views.table_row', 1, [View('d', 0, 1), GUEST], [ROW], naming=alone, uses=f'''\
 Rattle.model.specs.contracts.Rows: rowOf
-Rattle.clearing.specs.declared.views.BidTable: BidTable
-Rattle.clearing.proofs.views.BidTable as T
-Rattle.clearing.proofs.views.BidTable.Laws as T′
-''')
-SLICE = '(ShrSlice (named 0) κ u32)'
+{view.USES}''')
+SLICE, LFT = '(ShrSlice (named 0) κ u32)', '(namedLft 1 0 tt (κ, tt))'
 
 
 def apart():
     w = Walk('token', 'owns')
     w.fsplit('owns', 'table', 'guest').drop('guest')
-    w.use(['table'], '‵ Own ⊛ ‵ Own', '(LL.copy D (T′.the-copy (namedLft 1 0 tt (κ, tt))) 𝓤 H A W .twice d (mach ∷ []))',
-          'table', 'kept')
-    w.step('use1 W (given (mach ∷ [] ≡ mach ∷ []) (‵ (all-own (D .parts) L vd))) (own-open 𝓤 H A W D L vd mach)')
-    w.step('learn !', binds='_')
-    w.use(['table'], '‵ (ownAt (D .parts) L 0 (d .bids)) ⊛ ‵ (rest (D .parts) L 0 vd)',
-          '(own-out 𝓤 H A W (D .parts) L 0 vd)', 'bids', 'width')
-    w.show().drop('width')
-    w.nothing('true').owned('guest', *GUEST.made()).fjoin('guest', 'true', 'owns')
-    w.owned('width', *WIDTH.made()).fjoin('width', 'owns', 'owns').fjoin('bids', 'owns', 'owns')
-    w.use(['token', 'owns'], 'raw (Row 𝓤 H A mem run .pre to)', 'asked', 'asked').step('frame !', 1)
-    return w.end('done !')
+    view.opened(w, 'table', 'Own', LFT, 'kept', 'bids').show()
+    w.nothing('owns').add('guest', *GUEST.made()).add('width', *WIDTH.made()).add('bids')
+    return w.asked(['token', 'owns'], ROW, 'to', 'asked').frame().end('done !')
 
 
 def exits():
     w = Walk('result', 'token', 'kept')
-    w.step('says ! e').move('token').step('frame !', 1)
-    w.nothing('true').owned('guest', *GUEST.made()).fjoin('guest', 'true', 'owns').fjoin('kept', 'owns', 'owns')
-    return w.step('frame !', 1).end('done !')
+    w.step('says ! e').move('token').frame()
+    return w.nothing('owns').add('guest', *GUEST.made()).add('kept').frame().end('done !')
 
 
 def walk():
     w = Walk('entry').allocate(5, lambda i: 'l' + '₀₁₂₃₄'[i])
     w.passes('wt', GUEST.typed(alone))
-    w.copy(w.field('_1', 0), '_3', 'tt, wt .1 .0').copy(w.field('_1', 1), '_4', 'tt, wt .1 .1 .0')
-    w.use(['entry'], 'raw (Row 𝓤 H A mem run .pre to) ⊛ ‵ Own', '(apart (wt .1 .1 .0 .fits) i-fits)', 'asked', 'kept')
-    w.show().call(ROW, 'to', w.arguments('_3', '_4', '_2'), 'u', 'r', 'RefT (List ℕ)', '(‵ (flft κ q) ⊛ ‵ ftrue)',
-                  'ShrSlice (named 0) κ u32', '(κ, tt)', 'args')
-    w.hear('now r ≡ found', 'said r', 'e').split('given back', 'token', 'result').move('result').show()
+    table, guest = FUNCTION.locals(FUNCTION.parameters)
+    bids, width = w.copied(w.field(table, 0), 'tt, wt .1 .0'), w.copied(w.field(table, 1), 'tt, wt .1 .1 .0')
+    w.asked(['entry'], ROW, 'to', '(apart (wt .1 .1 .0 .fits) i-fits)', 'Own')
+    w.call(ROW, 'to', w.arguments(bids, width, guest), 'u', 'r', 'RefT (List ℕ)', '(‵ (flft κ q) ⊛ ‵ ftrue)',
+           'ShrSlice (named 0) κ u32', '(κ, tt)', 'args')
+    w.hear('now r ≡ found', 'said r', 'e').given('token', 'result').show()
     w.learn('peeks', SLICE, 'r', 'u', 'is')
     w.land('_0', 'shr-slice-lawful 𝓤 H A W (named 0) κ u32 .typed r (u ∷ []) is .0')
     return w.leave().end('by ! (exits i-fits r u e)')
@@ -57,7 +47,7 @@ def proof():
     return text(TEMPLATE, stayed=FUNCTION.stayed(), contracts=FUNCTION.contracts(), apart=fill(apart(), 6),
                 exits=fill(exits(), 6), tables=FUNCTION.over_tables(),
                 module=FUNCTION.module_over('(κ : Lft) (q : Share) (d : BidTable) (i : ℕ)'),
-                enter=FUNCTION.enter(), walk=fill(walk(), 8),
+                enter=FUNCTION.enter(), walk=fill(walk(), 8), fields=text(view.FIELDS, LFT=LFT),
                 walks=FUNCTION.walks(f"(κs .0) (qs .0) (a .0) (a .1 .0) C Λ fm known-row "
                                      f"{FUNCTION.parameter('d').given(' .0')} (are .1 .0 .1)"))
 
@@ -88,16 +78,7 @@ B κs = T.the-row (namedLft 1 0 tt κs)
   abbrev Own : Fml
   Own = B (κ, tt) .own d (mach ∷ [])
 
-  -- the struct's type and laws, and d's fields' values
-  abbrev D : Declared
-  D = T.the-type (namedLft 1 0 tt (κ, tt))
-
-  abbrev L : LL.Laws D
-  L = T′.the-laws (namedLft 1 0 tt (κ, tt))
-
-  abbrev vd : Values (D .parts)
-  vd = (d .bids, (d .width, tt))
-
+  «fields»
   -- what the callee is passed
   abbrev args : RefT (List ℕ) × (ℕ × (ℕ × Unit {0}))
   args = (d .bids, (d .width, (i, tt)))

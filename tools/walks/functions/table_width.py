@@ -3,20 +3,17 @@ was passed. That the number fits its type is in the struct's relation, at the fi
 from context import Walk
 from frame import alone, Function, Number, View
 from layout import fill, text
+from view import USES
 
 WIDTH = Number('(d .width)', 'usize', 'g')
-FUNCTION = Function('clearing', 'views.table_width', 1, [View('d', 0, 1)], naming=alone, uses='''\
-Rattle.clearing.specs.declared.views.BidTable: BidTable
-Rattle.clearing.proofs.views.BidTable as T
-Rattle.clearing.proofs.views.BidTable.Laws as T′
-''')
+FUNCTION = Function('clearing', 'views.table_width', 1, [View('d', 0, 1)], naming=alone, uses=USES)
 LFT = '(namedLft 1 0 tt (κ, tt))'
 FITS = 'p .1 .1 .1 .0 .1'
 
 
 def exits():
     w = Walk('tokens', 'owns')
-    w.step('says ! refl').step('frame !', 1).step('frame !', 1).owned('result', *WIDTH.made())
+    w.step('says ! refl').frame().frame().owned('result', *WIDTH.made())
     return w.end('done !')
 
 

@@ -218,8 +218,9 @@ module _ {M : Type 1} (𝓤 : URA M) (H : Heap 𝓤) (A : Atoms 𝓤) (W : Given
       fjoin ! $ move ! (1 ∷ 0 ∷ []) $ fjoin ! $ move ! (1 ∷ 0 ∷ []) $ fjoin ! $
       owned ! usize (Is usize) (uint-makes 𝓤 H A W w64) (d .width) _ (refl, fits) $ fjoin ! $ move ! (1 ∷ 0 ∷ []) $
       fjoin ! $ move ! (2 ∷ 0 ∷ []) $ fjoin ! $ move ! (3 ∷ 0 ∷ []) $ fjoin ! $ move ! (4 ∷ 0 ∷ []) $ fjoin ! $
-      move ! (5 ∷ 0 ∷ []) $ use2 W (raw (Plain 𝓤 H A mem run .pre to)) asked $ frame ! $ move ! (1 ∷ 0 ∷ []) $ fjoin ! $
-      move ! (1 ∷ 0 ∷ []) $ fjoin ! $ move ! (1 ∷ 0 ∷ []) $ fjoin ! $ done !)
+      move ! (5 ∷ 0 ∷ []) $ use2 W (raw (Plain 𝓤 H A mem run .pre to)) asked $
+      -- [asked; kept d; kept amounts; kept bays; kept asks]
+      frame ! $ move ! (1 ∷ 0 ∷ []) $ fjoin ! $ move ! (1 ∷ 0 ∷ []) $ fjoin ! $ move ! (1 ∷ 0 ∷ []) $ fjoin ! $ done !)
 
   -- what the callee ensures of its result and its last lists
   abbrev Said : Clearing → List ℕ → List ℕ → List ℕ → List ℕ → Type 0

@@ -216,12 +216,14 @@ module _ {M : Type 1} (𝓤 : URA M) (H : Heap 𝓤) (A : Atoms 𝓤) (W : Given
       (shr-slice-copy 𝓤 H A W (named 3) (κs .1 .1 .1 .0) u32 .twice bids (val bids ∷ [])) $ split ! $
       owned ! usize (Is usize) (uint-makes 𝓤 H A W w64) width _ (refl, fits) $ move ! (0 ∷ 4 ∷ []) $ fjoin ! $
       move ! (1 ∷ 0 ∷ []) $ fjoin ! $ move ! (14 ∷ 10 ∷ []) $ join ! $
-      use2 W (raw (Table 𝓤 H A mem run .pre to-table)) asked-table $ frame ! $ move ! (2 ∷ 1 ∷ []) $ fjoin ! $
-      move ! (2 ∷ 0 ∷ []) $ fjoin ! $ move ! (2 ∷ 0 ∷ []) $ fjoin ! $ move ! (1 ∷ 0 ∷ []) $ fjoin ! $
+      use2 W (raw (Table 𝓤 H A mem run .pre to-table)) asked-table $
+      -- [asked; kept bids; paid; sold; charges; stations; amounts; bays; asks; token 7; token 6; token 5; token 4;
+      -- token 2; token 1; token 0]
+      frame ! $ move ! (2 ∷ 1 ∷ []) $ fjoin ! $ move ! (2 ∷ 0 ∷ []) $ fjoin ! $ move ! (2 ∷ 0 ∷ []) $ fjoin ! $
       move ! (1 ∷ 0 ∷ []) $ fjoin ! $ move ! (1 ∷ 0 ∷ []) $ fjoin ! $ move ! (1 ∷ 0 ∷ []) $ fjoin ! $
       move ! (1 ∷ 0 ∷ []) $ fjoin ! $ move ! (1 ∷ 0 ∷ []) $ fjoin ! $ move ! (1 ∷ 0 ∷ []) $ fjoin ! $
       move ! (1 ∷ 0 ∷ []) $ fjoin ! $ move ! (1 ∷ 0 ∷ []) $ fjoin ! $ move ! (1 ∷ 0 ∷ []) $ fjoin ! $
-      move ! (1 ∷ 0 ∷ []) $ fjoin ! $ done !
+      move ! (1 ∷ 0 ∷ []) $ fjoin ! $ move ! (1 ∷ 0 ∷ []) $ fjoin ! $ done !
 
   abbrev Made : BidTable → Type 0
   Made r = (r .bids ≡ bids) × (r .width ≡ width)
@@ -287,8 +289,9 @@ module _ {M : Type 1} (𝓤 : URA M) (H : Heap 𝓤) (A : Atoms 𝓤) (W : Given
       move ! (2 ∷ 0 ∷ []) $ fjoin ! $ move ! (3 ∷ 0 ∷ []) $ fjoin ! $ move ! (5 ∷ 13 ∷ []) $ join ! $
       move ! (6 ∷ 0 ∷ []) $ join ! $ move ! (6 ∷ 0 ∷ []) $ join ! $ move ! (6 ∷ 0 ∷ []) $ join ! $ move ! (9 ∷ 0 ∷ []) $
       join ! $ move ! (6 ∷ 0 ∷ []) $ join ! $ move ! (6 ∷ 0 ∷ []) $ join ! $ move ! (6 ∷ 0 ∷ []) $ join ! $
-      use2 W (raw (Clear 𝓤 H A mem run .pre (to-clear r u))) (asked-clear r u) $ frame ! $ move ! (0 ∷ 3 ∷ []) $
-      fjoin ! $ move ! (1 ∷ 0 ∷ []) $ fjoin ! $ move ! (1 ∷ 0 ∷ []) $ fjoin ! $ done !
+      use2 W (raw (Clear 𝓤 H A mem run .pre (to-clear r u))) (asked-clear r u) $
+      -- [asked; kept amounts; kept bays; kept asks; kept bids]
+      frame ! $ move ! (0 ∷ 3 ∷ []) $ fjoin ! $ move ! (1 ∷ 0 ∷ []) $ fjoin ! $ move ! (1 ∷ 0 ∷ []) $ fjoin ! $ done !
 
   -- what is ensured of the answer and the last lists, where the bids are x and the row width is w
   abbrev Said : Nums → ℕ → Clearing → List ℕ → List ℕ → List ℕ → List ℕ → Type 0

@@ -129,12 +129,13 @@ module _ {M : Type 1} (𝓤 : URA M) (H : Heap 𝓤) (A : Atoms 𝓤) (W : Given
       split ! $ use1 W (given (mach ∷ [] ≡ mach ∷ []) (‵ (all-own (D .parts) L vd))) (own-open 𝓤 H A W D L vd mach) $
       learn ! (λ _.
       use1 W (‵ (ownAt (D .parts) L 0 (d .bids)) ⊛ ‵ (rest (D .parts) L 0 vd)) (own-out 𝓤 H A W (D .parts) L 0 vd) $
-      split ! $
-      -- [bids; width; kept; token]
-      move ! (1 ∷ []) $ drop ! $ nothing ! $ owned ! usize (Is usize) (uint-makes 𝓤 H A W w64) i _ (refl, i-fits) $
-      fjoin ! $ owned ! usize (Is usize) (uint-makes 𝓤 H A W w64) (d .width) _ (refl, fits) $ fjoin ! $
-      move ! (1 ∷ 0 ∷ []) $ fjoin ! $ move ! (2 ∷ 0 ∷ []) $ use2 W (raw (Row 𝓤 H A mem run .pre to)) asked $ frame ! $
-      done !)
+      split ! $ move ! (1 ∷ []) $ drop ! $
+      -- [bids; kept; token]
+      nothing ! $ owned ! usize (Is usize) (uint-makes 𝓤 H A W w64) i _ (refl, i-fits) $ fjoin ! $
+      owned ! usize (Is usize) (uint-makes 𝓤 H A W w64) (d .width) _ (refl, fits) $ fjoin ! $ move ! (1 ∷ 0 ∷ []) $
+      fjoin ! $ move ! (2 ∷ 0 ∷ []) $ use2 W (raw (Row 𝓤 H A mem run .pre to)) asked $
+      -- [asked; kept]
+      frame ! $ done !)
 
   -- of the callee's `ensured`, the clause alone: it has no `&mut`, so what is said of last values is dropped
   said :
@@ -172,7 +173,7 @@ module _ {M : Type 1} (𝓤 : URA M) (H : Heap 𝓤) (A : Atoms 𝓤) (W : Given
         assigns ! (of-opd ! (load ! (from ! (fld ! refl (stop !))) (look-in ! 6 (sub ! 1 refl (whole !)))))
         (from ! (stop !)) (init ! 0 refl (tt, wt .1 .1 .0)) $ move ! (10 ∷ []) $
         use1 W (raw (Row 𝓤 H A mem run .pre to) ⊛ ‵ Own) (apart (wt .1 .1 .0 .fits) i-fits) $ split ! $
-        -- [asked; kept; _4; …]
+        -- [asked; Own; _4; …]
         calls-at ! fm (Row 𝓤 H A mem run) known-row to (and-then ! (load ! (from ! (stop !)) (look ! 4 refl)) (and-then
         ! (load ! (from ! (stop !)) (look ! 2 refl)) (and-then ! (load ! (from ! (stop !)) (look ! 6 refl))
         (no-more !)))) (λ u.
@@ -181,7 +182,7 @@ module _ {M : Type 1} (𝓤 : URA M) (H : Heap 𝓤) (A : Atoms 𝓤) (W : Given
         (ensured 𝓤 H A row.ended (row.clauses 𝓤 H A mem run) (κ, tt) args tt r)))) (id⊢ 𝓤 _) $ await ! tt $ pick ! (λ r.
         split ! $ move ! (1 ∷ []) $ use1 W (raw (fact 𝓤 (now r ≡ found))) (said r) $ heard ! (now r ≡ found) (λ e.
         split ! $ move ! (1 ∷ []) $
-        -- [result; token; kept; _4; …]
+        -- [result; token; Own; _4; …]
         peeks ! (ShrSlice (named 0) κ u32) (Is (ShrSlice (named 0) κ u32)) (shows 𝓤 H A (ShrSlice (named 0) κ u32)) r
         (u ∷ []) (λ is.
         land ! (from ! (stop !)) (init ! 11 refl (shr-slice-lawful 𝓤 H A W (named 0) κ u32 .typed r (u ∷ []) is .0)) $

@@ -235,6 +235,7 @@ module _ {M : Type 1} (𝓤 : URA M) (H : Heap 𝓤) (A : Atoms 𝓤) (W : Given
           -- [the token; the fractured borrow; the slice; _8; …]
           use0 W (raw (One 𝓤 H A mem run .pre (to (elemAt (j .0)) (j .0) (L (j .0)))))
           (goes (elemAt (j .0)) (j .0) (L (j .0)) is₀ j-fits) $
+          -- [asked; the token; the fractured borrow; the slice; _8; …]
           calls-at ! (fmOf 𝓤 H (W .laws) 𝓣) (One 𝓤 H A mem run) known-one (to (elemAt (j .0)) (j .0) (L (j .0)))
           (and-then ! (load ! (from ! (stop !)) (look ! 4 refl)) (and-then ! (load ! (from ! (stop !)) (look ! 16 refl))
           (and-then ! (load ! (from ! (stop !)) (look ! 12 refl))
