@@ -4,7 +4,7 @@ set -euo pipefail
 cd -- "$(dirname -- "$(readlink -f -- "$0")")/.."
 
 missing=
-for tool in rt gcc g++ cargo cargo-fmt rustfmt cargo-clippy nm ar objcopy readelf sha256sum flock install timeout; do
+for tool in rt python3 gcc g++ cargo cargo-fmt rustfmt cargo-clippy nm ar objcopy readelf sha256sum flock install timeout; do
     command -v "$tool" >/dev/null || missing+=" $tool"
 done
 [ -z "$missing" ] || { echo "not installed:$missing" >&2; exit 1; }
@@ -20,6 +20,8 @@ done
 rt fmt --check
 scripts/refusals --check
 tests/lines.py
+# the proofs that are generated are as their descriptions have them
+tools/walks/walks.py --check
 cargo fmt --all --check --manifest-path rust/Cargo.toml
 if command -v shellcheck >/dev/null; then
     shellcheck clear test bench scripts/* tests/*.sh tests/wrong_program .ci/run

@@ -53,7 +53,8 @@ sized n m guests stations a e z =
 module _ (r : Round) (full : Bool) (stations round : ℕ) (guests : List ℕ) (house last : ℕ) where
   -- the code's test
   pub test-is :
-      (guests-full house-full : Bool) → guests-full ≡ exceeding guests (r .charges) → house-full ≡ (maxAccount <? house + r .margin .0)
+      (guests-full house-full : Bool) → guests-full ≡ exceeding guests (r .charges)
+      → house-full ≡ (maxAccount <? house + r .margin .0)
       → (full || guests-full || house-full) ≡ noRoom r full guests house
   unfolding noRoom
   test-is guests-full house-full p q = rw (← p, ← q, ← or-is full guests-full) (or-is (full || guests-full) house-full)

@@ -1,0 +1,195 @@
+"""`post::bay_market_post` meets its contract: every `&mut` goes to `post` at its own lifetime, share and name, for
+good; its reply goes to `reply_number`."""
+from context import Walk
+from frame import arrows, Callee, each, formulas, Function, lasts, Lent, owns, projection, tokens
+from layout import fill, laid, text
+from market import BOOK, GUESTS, HOUSE, LAST, LIFETIMES, POSTED, ROUND, SLICES, WIDTH
+
+POST = Callee('ledger', 'post', 'post', 'Post', own=False)
+NUMBER = Callee('bay_market', 'post.reply_number', 'number', 'Number')
+STATIONS = Lent('stations', 'T.the-row', 5)
+LENT = [GUESTS, STATIONS, HOUSE, LAST]
+FUNCTION = Function('bay_market', 'post.bay_market_post', 8, [*SLICES, WIDTH, ROUND, *LENT], [POST, NUMBER],
+                    naming=each, uses='''\
+Rattle.model.specs.Verdicts: numberOf
+Rattle.model.specs.Verdicts as answers
+Rattle.model.specs.market.Market: tables
+Rattle.model.specs.Numbers: answerOfVerdict
+Rattle.model.specs.declared.answers.Verdict: Verdict
+Rattle.model.proofs.answers.Verdict as S
+Rattle.model.proofs.answers.Verdict.Laws as S′
+Rattle.model.specs.declared.account.StationAccount: StationAccount
+Rattle.model.proofs.account.StationAccount as T
+Rattle.model.specs.book.Posting: Posting posting
+Rattle.model.specs.book.Book: Book book
+Rattle.model.specs.contracts.Posts: Posts
+Rattle.model.specs.contracts.PostsOut: PostsOut
+''')
+LASTS = lasts(FUNCTION.parameters, 'ls')
+LEFT = [p.name for p in LENT]
+
+
+def goes_post():
+    w = Walk('tokens', 'owns')
+    for p in FUNCTION.parameters:
+        w.fsplit('owns', p.name, 'owns')
+        if p in SLICES:
+            w.use([p.name], *p.twice(each, f'Own-{p.name}'), p.name, f'kept {p.name}')
+        if p in (WIDTH, ROUND):
+            w.drop(p.name)
+        w.move('owns')
+    for p in reversed(FUNCTION.parameters):
+        w.add(p.name, *(p.made() if p in (WIDTH, ROUND) else ()))
+    w.asked(['tokens', 'owns'], POST, 'to-post', 'post-asked').frame()
+    return w.unchain('Market', *(f'kept {p.name}' for p in SLICES)).end('done !')
+
+
+def goes_number():
+    w = Walk('reply').nothing('owns').add('reply').nothing('true').join('true', 'owns', 'asked')
+    return w.frame().end('done !')
+
+
+def exits():
+    w = Walk('tokens', 'Market', *LEFT, 'number').step('says ! (posted-out said e)').frame()
+    w.chain('Market', *(p.name for p in SLICES)).move('bids').nothing('owns')
+    for p in reversed(FUNCTION.parameters):
+        w.add(p.name, *(p.made() if p in (WIDTH, ROUND) else ()))
+    return w.frame().end('done !')
+
+
+def walk():
+    w = Walk('entry').allocate(18).passes(*(p.typed(each) for p in FUNCTION.parameters))
+    reply = w.note('`post`').take()
+    lent = [w.lend_slice(FUNCTION.local(p.name), f'g-{p.name} .0') for p in (GUESTS, STATIONS)]
+    lent += [w.lend_ref(FUNCTION.local(p.name)) for p in (HOUSE, LAST)]
+    w.asked(['entry'], POST, 'to-post', 'goes-post', 'Market')
+    w.call(POST, 'to-post', w.arguments(*FUNCTION.locals([*SLICES, WIDTH, ROUND]), *lent), 'u₀', 'r', 'Verdict',
+           'tokens', 'S.the-row', 'κs', 'a')
+    w.hear_lasts(POST, 'κs', 'a', 'ls', f'Said r {LASTS}', 'said')
+    w.take_lasts([(p.last, p.name, f'l-{p.name}') for p in FUNCTION.parameters])
+    w.given('tokens', 'reply').show().learn('peeks', 'S.the-row', 'r', 'u₀', 'is₀')
+    w.land(reply, 'EL.lawful S.the-type S′.the-laws 𝓤 H A W tt .typed r _ is₀ .0')
+    w.note('`reply_number`')
+    w.asked(['reply'], NUMBER, '(to-number r u₀)', '(goes-number r u₀)')
+    w.call(NUMBER, '(to-number r u₀)', w.arguments(reply), 'u₁', 'k', 'ℕ', '‵ ftrue', 'u8', 'tt', '(r, tt)')
+    w.hear('k ≡ numberOf (answerOfVerdict r)', 'number-said r k', 'e').given('true', 'number')
+    w.learn('peeks', 'u8', 'k', 'u₁', 'is₁').land('_0', 'uint-lawful 𝓤 H A W w8 .typed k _ is₁ .0')
+    w.note('the number').leave().keep('tokens', 'Market', *LEFT, 'number')
+    return w.end(f'by ! (exits r {LASTS} k u₁ said e l-guests l-stations)')
+
+
+def proof():
+    f = FUNCTION
+    given = [p for p in f.parameters if p.fact(each)]
+    facts = [*(p.fact(each) for p in given), f.goal('κs', 'qs', 'a', 'at', 'Ends')]
+    arguments = [f'({x}{projection(i)})' for x in ('κs', 'qs') for i in range(8)]
+    for p in f.parameters:
+        arguments += [f'(a{f.place(p.name)})', *([p.given(f.place(p.name))] if p in (WIDTH, ROUND) else [])]
+    arguments += ['C Λ fm', *(c.known for c in f.callees), *(p.given(f.place(p.name)) for p in given)]
+    return text(TEMPLATE, stayed=f.stayed(), contracts=f.contracts(), owns=owns(SLICES, each), tables=f.over_tables(),
+                goes_post=fill(goes_post(), 6), goes_number=fill(goes_number(), 6), exits=fill(exits(), 6),
+                module=f.module_over(f'{POSTED} (stations : Recs) (house last : Num)'), book=BOOK, lifetimes=LIFETIMES,
+                names=f.names(), at=laid([f'{p.value()} ∷ []' for p in f.parameters], 2, 'at = '),
+                tokens=fill(tokens(range(8), each), 6), Owned=fill(f'‵ (owns ({f.rows()}) a at)', 6),
+                Market=formulas([f'Own-{p.name}' for p in SLICES]),
+                ends=fill(f.ends('bound', 'v', 'k'), 6), facts=arrows(facts, 8),
+                given=' '.join(f'g-{p.name}' for p in given), enter=fill(f.enter(), 8), walk=fill(walk(), 8),
+                walks=f.walks(' '.join(arguments)))
+
+
+TEMPLATE = '''
+posted-out :
+    {entry exit : Book} {p : Posting} {v : answers.Verdict} {k : ℕ} → Posts entry p v exit → k ≡ numberOf v
+    → PostsOut entry p exit k
+posted-out said e = record { number-is = e ∙ ap numberOf (said .answered); left = said .left }
+
+«book»
+«stayed»
+«contracts»
+«module»  «lifetimes»
+  abbrev a : Arg
+  a = «names»
+
+  -- the values of the parameters, which `post` is passed too
+  abbrev at : Vals post.signature κs
+«at»
+
+  abbrev bound : walkOf 𝓤 H A f.ended stayed (f.clauses 𝓤 H A mem run) .Ghost
+  bound = ((κs, qs, tt, a, at), tt)
+
+  abbrev Ends : Val → SProp 𝓤
+  Ends = walkOf 𝓤 H A f.ended stayed (f.clauses 𝓤 H A mem run) .post bound
+
+  abbrev tokens : Item 𝓤
+  tokens =
+«tokens»
+
+  -- what the parameters own
+  abbrev Owned : Item 𝓤
+  Owned =
+«Owned»
+
+«owns»
+  abbrev Market : Fml
+  Market = «Market»
+
+  -- `post`, on all that the parameters own; the market's slices are had twice, and one of each is kept
+  abbrev to-post : Post 𝓤 H A mem run .Ghost
+  to-post = ((κs, qs, tt, a, at), tt)
+
+  post-asked : ent 𝓤 (onEntry 𝓤 H A post.signature κs qs a at) (Post 𝓤 H A mem run .pre to-post)
+  post-asked = qed W (tokens ∷ Owned ∷ []) ∵ join ! $ frame ! $ done !
+
+  goes-post : ent 𝓤 (onEntry 𝓤 H A f.signature κs qs a at) (sep 𝓤 (Post 𝓤 H A mem run .pre to-post) (sem 𝓤 H A Market))
+  goes-post =
+      qed W (tokens ∷ Owned ∷ []) ∵
+«goes_post»
+
+  abbrev Said : Verdict → List ℕ → List StationAccount → ℕ → ℕ → Type 0
+  Said r guests′ stations′ house′ last′ =
+      Posts (book (now guests) (now stations) (now house) (now last))
+      (posting (tables (now asks) (now bays) (now amounts) (now bids) width) round) (answerOfVerdict r)
+      (book guests′ stations′ house′ last′)
+
+  -- `reply_number`, on the reply r at the machine value v
+  abbrev to-number : Verdict → Val → Number 𝓤 H A mem run .Ghost
+  to-number r v = ((tt, tt, tt, (r, tt), (v ∷ [], tt)), tt)
+
+  goes-number :
+      (r : Verdict) (v : Val)
+      → ent 𝓤 (sem 𝓤 H A (S.the-row .own r (v ∷ []))) (Number 𝓤 H A mem run .pre (to-number r v))
+  goes-number r v =
+      qed W (‵ (S.the-row .own r (v ∷ [])) ∷ []) ∵
+«goes_number»
+
+  number-said :
+      (r : Verdict) (k : ℕ)
+      → ent 𝓤 (ensured 𝓤 H A number.ended (number.clauses 𝓤 H A mem run) tt (r, tt) tt k)
+      (fact 𝓤 (k ≡ numberOf (answerOfVerdict r)))
+  number-said r k =
+      exE 𝓤 _ (λ ws. snd∗ 𝓤 (sem 𝓤 H A (lasts number.ended tt (r, tt) ws)) (fact 𝓤 (k ≡ numberOf (answerOfVerdict r))))
+
+  abbrev Had : List ℕ → List StationAccount → ℕ → ℕ → ℕ → Val → List (Item 𝓤)
+  Had guests′ stations′ house′ last′ k v =
+      tokens ∷ ‵ Market ∷ ‵ (finally u64 (guests .name) guests′) ∷ ‵ (finally T.the-row (stations .name) stations′)
+      ∷ ‵ (fres (house .name) (u64 .coded .code house′)) ∷ ‵ (fres (last .name) (u32 .coded .code last′))
+      ∷ ‵ (u8 .own k (v ∷ [])) ∷ []
+
+  exits :
+      (r : Verdict) (guests′ : List ℕ) (stations′ : List StationAccount) (house′ last′ k : ℕ) (v : Val)
+      → Said r guests′ stations′ house′ last′ → k ≡ numberOf (answerOfVerdict r)
+      → length guests′ ≡ length (now guests) → length stations′ ≡ length (now stations)
+      → ent 𝓤 (⋆ 𝓤 H A (Had guests′ stations′ house′ last′ k v)) (Ends v)
+  exits r guests′ stations′ house′ last′ k v said e l-guests l-stations =
+      qed W (Had guests′ stations′ house′ last′ k v) ∵
+«ends»
+«exits»
+
+«tables»    walk :
+«facts»
+    walk «given» =
+        qed W (raw (onEntry 𝓤 H A f.signature κs qs a at) ∷ []) ∵
+«enter»
+«walk»
+
+«walks»'''

@@ -1,0 +1,66 @@
+"""What a market, its results and a book are lent as, at the lifetimes of a function that takes all eight slices."""
+import view
+from frame import Cell, each, Lent, Number, Shared
+from layout import pairs
+
+ASKS = [Shared('asks', 'u32', 0), Shared('bays', 'u16', 1), Shared('amounts', 'u16', 2)]
+BIDS, WIDTH = Shared('bids', 'u32', 3), Number('width', 'usize')
+SLICES = [*ASKS, BIDS]
+RESULTS = [Lent('stations', 'u16', 4), Lent('charges', 'u32', 5), Lent('sold', 'u32', 6), Lent('paid', 'u64', 7)]
+# the results at exit, that their lengths are as they were, and what is had then, where the answer is r
+LASTS = ' '.join(f'{p.name}′' for p in RESULTS)
+LENGTHS = ' '.join(f'l-{p.name}' for p in RESULTS)
+KEEPS = [f'→ length {p.name}′ ≡ length (now {p.name})' for p in RESULTS]
+
+
+def had(r):
+    left = ' ∷ '.join(f'‵ (finally {p.type} ({p.name} .name) {p.name}′)' for p in RESULTS)
+    return f'tokens ∷ {left} ∷ ‵ (S.the-row .own {r} (u ∷ [])) ∷ ‵ Kept ∷ []'
+
+
+ROUND, GUESTS = Number('round', 'u32'), Lent('guests', 'u64', 4)
+HOUSE, LAST = Cell('house', 'u64', 6), Cell('last', 'u32', 7)
+
+# what the contract of a clearing through the view cites
+CLEARS = f'''\
+Rattle.model.specs.market.Outcome: results
+Rattle.model.specs.market.Market: tables
+{view.USES}\
+Rattle.model.specs.contracts.Clears: Clears
+Rattle.model.specs.declared.answers.Clearing: Clearing
+Rattle.model.proofs.answers.Clearing as S
+Rattle.model.proofs.answers.Clearing.Laws as S′
+'''
+
+# the lifetimes, their shares, and what a posting is passed before the row of stations
+POSTED = ('(κ₀ κ₁ κ₂ κ₃ κ₄ κ₅ κ₆ κ₇ : Lft) (q₀ q₁ q₂ q₃ q₄ q₅ q₆ q₇ : Share) (asks bays amounts bids : Nums) '
+          '(width : ℕ) (width-fits : width < 2 ^ 64) (round : ℕ) (round-fits : round < 2 ^ 32) (guests : Nums)')
+
+LIFETIMES = f'''
+  abbrev κs : Lfts 8
+  κs = {pairs([each(l)[0] for l in range(8)])}
+
+  abbrev qs : Shares 8
+  qs = {pairs([each(l)[1] for l in range(8)])}
+'''.lstrip()
+
+BOOK = '''
+abbrev Nums : Type 0
+Nums = RefT (List ℕ)
+
+abbrev Recs : Type 0
+Recs = RefT (List StationAccount)
+
+abbrev Num : Type 0
+Num = RefT ℕ
+
+abbrev Arg : Type 0
+Arg = Nums × (Nums × (Nums × (Nums × (ℕ × (ℕ × (Nums × (Recs × (Num × (Num × Unit {0})))))))))
+
+-- the machine values of a slice and of a `&mut`
+abbrev val : {X : Type 0} → RefT (List X) → Val
+val x = sliceVal (x .ptr) (length (x .now))
+
+abbrev ptrVal : {X : Type 0} → RefT X → Val
+ptrVal x = vptr (x .ptr .0) (x .ptr .1)
+'''.lstrip()
