@@ -1,5 +1,5 @@
 """What every walk shares: parameters by kind, the contracts that it cites, and the statements around the walk."""
-from layout import fill, hang, laid, pairs
+from layout import fill, hang, laid, pairs, text
 
 BASE = '{M : Type 1} (𝓤 : URA M) (H : Heap 𝓤) (A : Atoms 𝓤)'
 RUNS = '(mem : Memory → SProp 𝓤) (run : Routine → Fun 𝓤)'
@@ -34,19 +34,19 @@ def each(lifetime):
 
 def tokens(lifetimes, naming):
     """The items of the lifetimes' tokens."""
-    text = '‵ ftrue'
+    items = '‵ ftrue'
     for i, l in enumerate(reversed(lifetimes)):
         κ, q = naming(l)
-        text = f'‵ (flft {κ} {q}) ⊛ ' + (text if i == 0 else f'({text})')
-    return text
+        items = f'‵ (flft {κ} {q}) ⊛ ' + (items if i == 0 else f'({items})')
+    return items
 
 
 def formulas(parts):
     """fsep a (fsep b c)"""
-    text = parts[-1]
+    chain = parts[-1]
     for part in reversed(parts[:-1]):
-        text = f'fsep {part} ({text})' if ' ' in text else f'fsep {part} {text}'
-    return text
+        chain = f'fsep {part} ({chain})' if ' ' in chain else f'fsep {part} {chain}'
+    return chain
 
 
 def lasts(parameters, name):
@@ -357,9 +357,9 @@ class Function:
 
     # the contracts that are cited
     def contracts(self):
-        text = hang(f'module _ {BASE} {RUNS} where', 0) + '\n'
-        text += f"  -- the contract{'s' if len(self.callees) > 1 else ''} that the proof cites\n"
-        return text + '\n'.join(f'  abbrev {c.contract} : Contract 𝓤\n  {c.contract} = tripleOf 𝓤 H A '
+        head = hang(f'module _ {BASE} {RUNS} where', 0) + '\n'
+        head += f"  -- the contract{'s' if len(self.callees) > 1 else ''} that the proof cites\n"
+        return head + '\n'.join(f'  abbrev {c.contract} : Contract 𝓤\n  {c.contract} = tripleOf 𝓤 H A '
                                 f'{c.alias}.signature ({c.alias}.spec 𝓤 H A mem run)\n' for c in self.callees)
 
     # a module over all that a walk is given
@@ -382,6 +382,20 @@ class Function:
 
     def enter(self):
         return f'enter ! {self.calls} {self.table} code.function ({self.values()}) _ $'
+
+    # the walk itself, with what it is given, and the walk as a fact of the function
+    def walked(self, steps, arguments, facts=(), names='', entry=None, over='', loop='', at=('κs', 'qs', 'a', 'at'),
+               post='Post'):
+        entry = entry or f"raw (onEntry 𝓤 H A f.signature {' '.join(at)})"
+        return (self.over_tables(over) + loop + '    walk :\n' + arrows([*facts, self.goal(*at, post)], 8) + '\n'
+                + f"    walk{names and ' ' + names} =\n" + fill([f'qed W ({entry} ∷ []) ∵'], 8) + '\n'
+                + fill(self.enter(), 8) + '\n' + fill(steps, 8) + '\n\n' + self.walks(arguments))
+
+    # the proof: the template with what every walk has, and with the parts that are steps laid out
+    def proof(self, template, over, walked, **parts):
+        parts = {name: fill(part, 6) if isinstance(part, list) else part for name, part in parts.items()}
+        return text(template, stayed=self.stayed(), contracts=self.contracts(), module=self.module_over(over),
+                    walked=walked, **parts)
 
     # the walk as a fact of the function: the walk's own arguments, after those of its module
     def walks(self, arguments):

@@ -1,7 +1,9 @@
 """A function over a row of records, with one loop that has one turn for each: what such walks share.
 
-`types` are the types of the locals, `held` the values that some hold between turns, `head` the items beside the locals.
+`types` are the types of the locals, `held` the values that some hold between turns, by their names; `head` are the
+items beside the locals.
 """
+from context import local
 from frame import small
 from layout import fill, text
 
@@ -14,24 +16,26 @@ def names(types):
     return ' '.join(name(i) for i in range(len(types)))
 
 
-def cell(types, i, value):
+# a local's cell, with the value that it holds
+def cell(types, at, value):
+    i = int(at[1:])
     return f'‵ (fat fullShare {types[i]} {name(i)} 0 {value})'
 
 
 def invariant(types, held, head):
     steps = list(head)
     for i in reversed(range(len(types))):
-        had = cell(types, i, held[i]) if i in held else f'‵ (froom {types[i]} {name(i)} 0)'
+        at = local(i)
+        had = cell(types, at, held[at]) if at in held else f'‵ (froom {types[i]} {name(i)} 0)'
         steps.append(f'{had} ∷ ‵ (fdies {types[i]} {name(i)})')
     return fill(['At j =', steps[0], *(f'∷ {s}' for s in steps[1:]), '∷ []'], 10)[4:]
 
 
-# the address of record j, put into a local: j in _at, the row in _1, its length's local to work in
+# the address of record j, put into the local `to`: j is in `at`, the row in _1, and `work` is for the distance
 def place(w, types, at, work, to):
-    w.binary(w.load(f'_{at}'), 'lit ! tt', 'scaled', f'_{work}', 'tt, scaled')
-    w.binary(w.field('_1', 0), w.load(f'_{work}'), 'tt', f'_{to}', 'tt, tt')
-    motive = f"λ (k : ℕ). {cell(types, to, '(vptr b k)')}"
-    return w.rewrite(f'_{to}', motive, '(sym (place-is 16 o (j .0)))')
+    w.binary(w.load(at), 'lit ! tt', 'scaled', work, 'tt, scaled')
+    w.binary(w.field('_1', 0), w.load(work), 'tt', to, 'tt, tt')
+    return w.rewrite(to, f"λ (k : ℕ). {cell(types, to, '(vptr b k)')}", '(sym (place-is 16 o (j .0)))')
 
 
 # record j, out of the row
@@ -54,6 +58,21 @@ def read(w, pointer, to):
 def count(w, at):
     one = 'record { fits = next-fits }'
     return w.binary(w.load(at), 'lit ! tt', f'({one})', at, f'tt, {one}', 'assigns-last')
+
+
+# what such a walk is given: the row taken apart, and the round with its machine value
+OVER = ('(κ : Lft) (q : Share) (b o : ℕ) (γ : GName) (ys : List StationAccount) (d : Round) (v : Val) '
+        '(gd : Is R.the-row d (v ∷ []))')
+
+
+def walked(function, steps, arguments, looped):
+    row = '(κs .0) (qs .0) (a .0 .ptr .0) (a .0 .ptr .1) (a .0 .name) (a .0 .now)'
+    made = '(a .1 .0) (valR (a .1 .0)) (are .1 .0)'
+    lawful = function.parameter('d').given(function.place('d'))
+    return function.walked(steps, f'{row} {made} {arguments} (are .0 .0 .1) {lawful}',
+                           entry=f'(‵ (flft κ q) ⊛ ‵ ftrue) ∷ ‵ (owns ({function.rows()}) a at)', loop=looped + '\n',
+                           over='(gn : Room T.the-row n) (wt : Holds (hasTy R′.mir v) × WT v)',
+                           at=('(κ, tt)', '(q, tt)', 'a', 'at'))
 
 
 def loop(types, held, head, test, start, loop, after, more, where, ends):

@@ -1,6 +1,6 @@
 """What a market, its results and a book are lent as, at the lifetimes of a function that takes all eight slices."""
 import view
-from frame import Cell, each, Lent, Number, Shared
+from frame import Cell, each, Lent, Number, projection, Shared
 from layout import pairs
 
 ASKS = [Shared('asks', 'u32', 0), Shared('bays', 'u16', 1), Shared('amounts', 'u16', 2)]
@@ -35,6 +35,18 @@ Rattle.model.proofs.answers.Clearing.Laws as S′
 # the lifetimes, their shares, and what a posting is passed before the row of stations
 POSTED = ('(κ₀ κ₁ κ₂ κ₃ κ₄ κ₅ κ₆ κ₇ : Lft) (q₀ q₁ q₂ q₃ q₄ q₅ q₆ q₇ : Share) (asks bays amounts bids : Nums) '
           '(width : ℕ) (width-fits : width < 2 ^ 64) (round : ℕ) (round-fits : round < 2 ^ 32) (guests : Nums)')
+
+
+# the arguments of the walk of such a function, with the row of stations as it is taken (`row`, of where it stands)
+def posted(f, row):
+    places = [(p, f.place(p.name)) for p in f.parameters]
+    out = [f'({x}{projection(i)})' for x in ('κs', 'qs') for i in range(f.count)]
+    for p, place in places:
+        out += [row(f'a{place}') if p.label == 'stations' else f'(a{place})']
+        out += [p.given(place)] if p in (WIDTH, ROUND) else []
+    out += ['C Λ fm', *(c.known for c in f.callees), *(p.given(place) for p, place in places if p.fact(each))]
+    return ' '.join(out)
+
 
 LIFETIMES = f'''
   abbrev κs : Lfts 8

@@ -3,7 +3,7 @@ make the new one, stores that, and closes the borrow."""
 import loop
 from context import Walk
 from frame import alone, Callee, Function, Kept, Number, Record
-from layout import fill, text
+from layout import text
 
 CREDITED = Callee('ledger', 'stations.credited', 'g', 'Credited')
 ROW, ROUND = Kept('x', 'T.the-row', 0, value='sliceVal (b, o) n'), Record('d', 'R', value='v')
@@ -22,10 +22,10 @@ Rattle.model.proofs.account.StationAccount.Laws as T′
 ''')
 TYPES = ['tyUnit', 'rowTy', 'R′.mir', 'word', 'word', 'word', 'tyBool', 'tyBool', 'tyBool', 'T′.mir', 'tyPtr', 'T′.mir',
          'word', 'tyPtr']
-HELD = {1: '(sliceVal (b, o) n)', 2: 'v', 3: '(vint w64 k)', 4: '(vint w64 (j .0))'}
-HEAD = ['obs', 'the borrow', 'the token']
 AT, LENGTH, IN_ROW, IN_CREDITS, BOTH, NEW, POINTER, TAKEN = '_4', '_5', '_6', '_7', '_8', '_9', '_10', '_11'
-TO = '_13'
+DISTANCE, TO = '_12', '_13'
+HELD = {'_1': '(sliceVal (b, o) n)', '_2': 'v', '_3': '(vint w64 k)', AT: '(vint w64 (j .0))'}
+HEAD = ['obs', 'the borrow', 'the token']
 COUNT = Number('j', 'usize', 'fits')
 LAWFUL = 'LL.lawful T.the-type T′.the-laws 𝓤 H A W .typed r _ is .0'
 
@@ -47,18 +47,18 @@ def goes():
 
 
 def tested():
-    w = Walk(*HEAD).within(14, (f'_{i}' for i in HELD))
+    w = Walk(*HEAD).within(len(TYPES), HELD)
     w.copy(w.field('_1', 1), LENGTH, 'tt, record { fits = gn .0 }')
     w.binary(w.load(AT), w.load(LENGTH), 'tt', IN_ROW, 'tt, tt')
     w.binary(w.load(AT), w.load('_3'), 'tt', IN_CREDITS, 'tt, tt')
     w.binary(w.load(IN_ROW), w.load(IN_CREDITS), 'tt', BOTH, 'tt, tt')
-    return w.rewrite(BOTH, f"λ (t : Bool). {loop.cell(TYPES, 8, '(vbool t)')}", 'e')
+    return w.rewrite(BOTH, f"λ (t : Bool). {loop.cell(TYPES, BOTH, '(vbool t)')}", 'e')
 
 
 def more():
     w = tested()
     w.step(f'stays ! ({w.load(BOTH)})')
-    loop.place(w, TYPES, 4, 5, 10)
+    loop.place(w, TYPES, AT, LENGTH, POINTER)
     w.step('opens-slice ! tt T.the-row (L (j .0)) b o', 3, ('the row', 'the open borrow', 'obs', 'auth'))
     loop.read(loop.out(w, 'fullShare', '(L (j .0))', 'within'), POINTER, TAKEN)
     at = '(elemAt (j .0)) (j .0)'
@@ -68,14 +68,14 @@ def more():
     w.hear('r ≡ credited d (j .0) (elemAt (j .0))', f'said {at} r', 'e′')
     w.given('true', 'the new record').show().learn('peeks', 'T.the-row', 'r', 'u', 'is')
     w.land(NEW, LAWFUL)
-    loop.place(w, TYPES, 4, 12, 13)
+    loop.place(w, TYPES, AT, DISTANCE, TO)
     w.step(f"assigns ! (of-opd ! ({w.load(NEW)})) (from ! (hop ! (look ! {w.at(TO)} refl) (stop !))) "
            f"""(store-raw ! {w.at("the record's cell")} refl ({LAWFUL}))""")
     w.move("the record's cell", 'the new record', 'the others')
     w.step('elem-put ! T.the-row fullShare (L (j .0)) (j .0) r (u ∷ []) b o within', 3, ('the row',))
     w.step('closes-slice ! tt T.the-row (L (j .0)) (set (L (j .0)) (j .0) r) (length-set (L (j .0)) (j .0) r) b o', 4,
            HEAD).show()
-    loop.count(w, AT).forget(*(f'_{i}' for i in HELD))
+    loop.count(w, AT).forget(*HELD)
     step(w, '(credited-more d ys (j .0) r e′)')
     return w.end('again ! Nearer At j (j .0 + 1, less, fewer) (omega (arith, less))')
 
@@ -94,7 +94,7 @@ def ends():
 
 
 def walk():
-    w = Walk('tokens', 'owns').allocate(14, loop.name)
+    w = Walk('tokens', 'owns').allocate(len(TYPES), loop.name)
     w.passes(ROW.typed(alone, 'gn'), 'wt', CREDITS.typed(alone)).copy('lit ! tt', AT, 'tt, record { fits = lit< tt }')
     w.fsplit('owns', 'row', 'the rest').fsplit('row', 'the place', 'row').fsplit('row', 'obs', 'the borrow')
     w.split('tokens', 'the token', 'true').show().keep(*HEAD, *w.locals())
@@ -102,23 +102,13 @@ def walk():
 
 
 def proof():
-    f = FUNCTION
     looped = loop.loop(TYPES, HELD, ['‵ (Obs (L (j .0)))', '‵ (Bor (L (j .0)))', '‵ (flft κ q)'],
                        '(ltb (j .0) n && ltb (j .0) k)', '(0, zero-le, zero-le)', 't-2', 't-3', more(),
                        WHERE + loop.FITS, ends())
-    return text(TEMPLATE, stayed=f.stayed(), contracts=f.contracts(), exits=fill(exits(), 6), goes=fill(goes(), 6),
-                values=text(loop.VALUES, kind='mut'), upto=text(loop.UPTO, upto='(j : ℕ) × (j ≤ n) × (j ≤ k)'),
-                loop=looped,
-                module=f.module_over('(κ : Lft) (q : Share) (b o : ℕ) (γ : GName) (ys : List StationAccount) '
-                                     '(d : Round) (v : Val) (gd : Is R.the-row d (v ∷ [])) (k : ℕ) '
-                                     '(k-fits : k < 2 ^ 64)'),
-                tables=f.over_tables('(gn : Room T.the-row n) (wt : Holds (hasTy R′.mir v) × WT v)'),
-                goal=fill(f.goal('(κ, tt)', '(q, tt)', 'a', 'at'), 8),
-                given=fill(f'qed W ((‵ (flft κ q) ⊛ ‵ ftrue) ∷ ‵ (owns ({f.rows()}) a at) ∷ []) ∵', 8),
-                enter=fill(f.enter(), 8), walk=fill(walk(), 8),
-                walks=f.walks('(κs .0) (qs .0) (a .0 .ptr .0) (a .0 .ptr .1) (a .0 .name) (a .0 .now) (a .1 .0) '
-                              '(valR (a .1 .0)) (are .1 .0) (a .1 .1 .0) (are .1 .1 .0 .1) 𝓣 known-credited '
-                              f"(are .0 .0 .1) {ROUND.given(f.place('d'))}"))
+    walked = loop.walked(FUNCTION, walk(), '(a .1 .1 .0) (are .1 .1 .0 .1) 𝓣 known-credited', looped)
+    return FUNCTION.proof(TEMPLATE, f'{loop.OVER} (k : ℕ) (k-fits : k < 2 ^ 64)', walked, exits=exits(), goes=goes(),
+                          values=text(loop.VALUES, kind='mut'),
+                          upto=text(loop.UPTO, upto='(j : ℕ) × (j ≤ n) × (j ≤ k)'))
 
 
 WHERE = '''\
@@ -202,12 +192,4 @@ Arg = RefT (List StationAccount) × (Round × (ℕ × Unit {0}))
   said e j r = exE 𝓤 _ (λ ws. snd∗ 𝓤 (sem 𝓤 H A (lasts g.ended tt (args e j) ws)) (fact 𝓤 (r ≡ credited d j e)))
 
 «upto»
-«tables»«loop»
-    walk :
-«goal»
-    walk =
-«given»
-«enter»
-«walk»
-
-«walks»'''
+«walked»'''

@@ -1,9 +1,9 @@
 """`post::bay_market_post` meets its contract: every `&mut` goes to `post` at its own lifetime, share and name, for
 good; its reply goes to `reply_number`."""
 from context import Walk
-from frame import arrows, Callee, each, formulas, Function, lasts, Lent, owns, projection, tokens
-from layout import fill, laid, text
-from market import BOOK, GUESTS, HOUSE, LAST, LIFETIMES, POSTED, ROUND, SLICES, WIDTH
+from frame import Callee, each, formulas, Function, lasts, Lent, owns, tokens
+from layout import laid
+from market import BOOK, GUESTS, HOUSE, LAST, LIFETIMES, POSTED, posted, ROUND, SLICES, WIDTH
 
 POST = Callee('ledger', 'post', 'post', 'Post', own=False)
 NUMBER = Callee('bay_market', 'post.reply_number', 'number', 'Number')
@@ -81,20 +81,13 @@ def walk():
 def proof():
     f = FUNCTION
     given = [p for p in f.parameters if p.fact(each)]
-    facts = [*(p.fact(each) for p in given), f.goal('κs', 'qs', 'a', 'at', 'Ends')]
-    arguments = [f'({x}{projection(i)})' for x in ('κs', 'qs') for i in range(8)]
-    for p in f.parameters:
-        arguments += [f'(a{f.place(p.name)})', *([p.given(f.place(p.name))] if p in (WIDTH, ROUND) else [])]
-    arguments += ['C Λ fm', *(c.known for c in f.callees), *(p.given(f.place(p.name)) for p in given)]
-    return text(TEMPLATE, stayed=f.stayed(), contracts=f.contracts(), owns=owns(SLICES, each), tables=f.over_tables(),
-                goes_post=fill(goes_post(), 6), goes_number=fill(goes_number(), 6), exits=fill(exits(), 6),
-                module=f.module_over(f'{POSTED} (stations : Recs) (house last : Num)'), book=BOOK, lifetimes=LIFETIMES,
-                names=f.names(), at=laid([f'{p.value()} ∷ []' for p in f.parameters], 2, 'at = '),
-                tokens=fill(tokens(range(8), each), 6), Owned=fill(f'‵ (owns ({f.rows()}) a at)', 6),
-                Market=formulas([f'Own-{p.name}' for p in SLICES]),
-                ends=fill(f.ends('bound', 'v', 'k'), 6), facts=arrows(facts, 8),
-                given=' '.join(f'g-{p.name}' for p in given), enter=fill(f.enter(), 8), walk=fill(walk(), 8),
-                walks=f.walks(' '.join(arguments)))
+    walked = f.walked(walk(), posted(f, lambda row: f'({row})'), [p.fact(each) for p in given],
+                      ' '.join(f'g-{p.name}' for p in given), post='Ends')
+    return f.proof(TEMPLATE, f'{POSTED} (stations : Recs) (house last : Num)', walked, book=BOOK, lifetimes=LIFETIMES,
+                   owns=owns(SLICES, each), goes_post=goes_post(), goes_number=goes_number(), exits=exits(),
+                   names=f.names(), at=laid([f'{p.value()} ∷ []' for p in f.parameters], 2, 'at = '),
+                   tokens=[tokens(range(8), each)], Owned=[f'‵ (owns ({f.rows()}) a at)'],
+                   Market=formulas([f'Own-{p.name}' for p in SLICES]), ends=[f.ends('bound', 'v', 'k')])
 
 
 TEMPLATE = '''
@@ -185,11 +178,4 @@ posted-out said e = record { number-is = e ∙ ap numberOf (said .answered); lef
 «ends»
 «exits»
 
-«tables»    walk :
-«facts»
-    walk «given» =
-        qed W (raw (onEntry 𝓤 H A f.signature κs qs a at) ∷ []) ∵
-«enter»
-«walk»
-
-«walks»'''
+«walked»'''

@@ -3,7 +3,6 @@ A `&[u32]` is Copy, so what it owns is had twice: once for bids at exit, and onc
 width."""
 from context import Walk
 from frame import alone, Function, Number, Shared
-from layout import fill, text
 from view import USES
 
 BIDS, WIDTH = Shared('s', 'u32', 0, value='v'), Number('m', 'usize', 'fits')
@@ -28,10 +27,10 @@ def walk():
 
 
 def proof():
-    return text(TEMPLATE, stayed=FUNCTION.stayed(), exits=fill(exits(), 6), tables=FUNCTION.over_tables(),
-                module=FUNCTION.module_over('(κ : Lft) (q : Share) (s : RefT (List ℕ)) (m : ℕ)'),
-                enter=FUNCTION.enter(), walk=fill(walk(), 8),
-                walks=FUNCTION.walks('(κs .0) (qs .0) (a .0) (a .1 .0) C Λ (are .0) (are .1 .0 .1)'))
+    facts = ['Is (ShrSlice (named 0) κ u32) s (v ∷ [])', 'm < 2 ^ 64']
+    walked = FUNCTION.walked(walk(), '(κs .0) (qs .0) (a .0) (a .1 .0) C Λ (are .0) (are .1 .0 .1)', facts, 'p fits',
+                             at=('(κ, tt)', '(q, tt)', '(s, (m, tt))', 'at'))
+    return FUNCTION.proof(TEMPLATE, '(κ : Lft) (q : Share) (s : RefT (List ℕ)) (m : ℕ)', walked, exits=exits())
 
 
 TEMPLATE = '''
@@ -62,13 +61,4 @@ TEMPLATE = '''
       (((κ, tt), (q, tt), tt, (s, (m, tt)), at), tt) (T′.lowered made) made (tt, (tt, tt)) (tt, (tt, tt))) $
 «exits»
 
-«tables»    walk :
-        Is (ShrSlice (named 0) κ u32) s (v ∷ []) → m < 2 ^ 64
-        → ent 𝓤 (onEntry 𝓤 H A f.signature (κ, tt) (q, tt) (s, (m, tt)) at)
-        (WpFn 𝓤 H C Λ code.function (v ∷ vint w64 m ∷ []) Post)
-    walk p fits =
-        qed W (raw (onEntry 𝓤 H A f.signature (κ, tt) (q, tt) (s, (m, tt)) at) ∷ []) ∵
-        «enter»
-«walk»
-
-«walks»'''
+«walked»'''

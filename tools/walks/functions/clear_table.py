@@ -3,8 +3,8 @@ each `&mut` goes to it at its own lifetime, share and name, and is not needed af
 of `clear` is that it meets its contract."""
 import view
 from context import Walk
-from frame import arrows, by_place, Callee, formulas, Function, lasts, Number, owns, rows, Shared, tokens, View
-from layout import fill, laid, pairs, text
+from frame import by_place, Callee, formulas, Function, lasts, Number, owns, rows, Shared, tokens, View
+from layout import laid, pairs
 from market import ASKS, CLEARS, had, KEEPS, LASTS, LENGTHS, RESULTS
 
 CLEAR = Callee('clearing', 'clear', 'g', 'Plain')
@@ -62,24 +62,19 @@ def walk():
 def proof():
     f = FUNCTION
     types = ' '.join(f"({p.name} : {'BidTable' if p is TABLE else 'Nums'})" for p in f.parameters)
-    return text(TEMPLATE, stayed=f.stayed(), contracts=f.contracts(), apart=fill(apart(), 6), exits=fill(exits(), 6),
-                tables=f.over_tables(), owns=owns(ASKS, by_place),
-                fields=view.FIELDS, LFT=LFT, LASTS=LASTS, LENGTHS=LENGTHS,
-                module=f.module_over(f'(κs : Lfts 8) (qs : Shares 8) {types}'),
-                names=f.names(), at=laid([f'{p.value()} ∷ []' for p in f.parameters], 2, 'at = '),
-                tokens=fill(tokens(range(8), by_place), 6),
-                Kept=formulas([f'Own-{p.name}' for p in [*ASKS, TABLE]]),
-                args=pairs([p.name.strip('()') for p in PASSED]),
-                passed=laid([f'{p.value()} ∷ []' for p in PASSED], 2, 'passed = '),
-                given=fill(f'qed W (tokens ∷ ‵ (owns ({f.rows()}) a at) ∷ []) ∵', 6),
-                callee=fill(f'qed W (tokens ∷ ‵ (owns ({rows(PASSED, by_place)}) args passed) ∷ []) ∵ '
-                            'join ! $ frame ! $ done !', 6),
-                left=fill([*KEEPS, f'→ ent 𝓤 (⋆ 𝓤 H A ({HAD})) (Post u)'], 6),
-                had=fill([f'qed W ({HAD}) ∵', f.ends('((κs, qs, tt, a, at), tt)', 'u', 'r')], 6),
-                facts=arrows([*(p.fact(by_place) for p in f.parameters), f.goal('κs', 'qs', 'a', 'at')], 8),
-                given_names=' '.join('wt' if p is TABLE else f'g-{p.name}' for p in f.parameters),
-                enter=fill(f.enter(), 8), walk=fill(walk(), 8),
-                walks=f.walks(f.arguments('κs qs', 'C Λ fm known-plain')))
+    walked = f.walked(walk(), f.arguments('κs qs', 'C Λ fm known-plain'), [p.fact(by_place) for p in f.parameters],
+                      ' '.join('wt' if p is TABLE else f'g-{p.name}' for p in f.parameters))
+    return f.proof(TEMPLATE, f'(κs : Lfts 8) (qs : Shares 8) {types}', walked, apart=apart(), exits=exits(),
+                   owns=owns(ASKS, by_place), fields=view.FIELDS, LFT=LFT, LASTS=LASTS, LENGTHS=LENGTHS,
+                   names=f.names(), at=laid([f'{p.value()} ∷ []' for p in f.parameters], 2, 'at = '),
+                   tokens=[tokens(range(8), by_place)], Kept=formulas([f'Own-{p.name}' for p in [*ASKS, TABLE]]),
+                   args=pairs([p.name.strip('()') for p in PASSED]),
+                   passed=laid([f'{p.value()} ∷ []' for p in PASSED], 2, 'passed = '),
+                   given=[f'qed W (tokens ∷ ‵ (owns ({f.rows()}) a at) ∷ []) ∵'],
+                   callee=[f'qed W (tokens ∷ ‵ (owns ({rows(PASSED, by_place)}) args passed) ∷ []) ∵ '
+                           'join ! $ frame ! $ done !'],
+                   left=[*KEEPS, f'→ ent 𝓤 (⋆ 𝓤 H A ({HAD})) (Post u)'],
+                   had=[f'qed W ({HAD}) ∵', f.ends('((κs, qs, tt, a, at), tt)', 'u', 'r')])
 
 
 TEMPLATE = '''
@@ -162,11 +157,4 @@ val x = sliceVal (x .ptr) (length (x .now))
 «had»
 «exits»
 
-«tables»    walk :
-«facts»
-    walk «given_names» =
-        qed W (raw (onEntry 𝓤 H A f.signature κs qs a at) ∷ []) ∵
-«enter»
-«walk»
-
-«walks»'''
+«walked»'''

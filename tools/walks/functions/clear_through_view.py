@@ -2,8 +2,8 @@
 passed to `clear_table`; each `&mut` goes to it at its own lifetime, share and name, and is not needed after the call.
 All that the proof knows of `bid_table` and of `clear_table` is that each meets its contract."""
 from context import Walk
-from frame import arrows, by_place, Callee, formulas, Function, lasts, Number, owns, rows, tokens, View
-from layout import fill, laid, text
+from frame import by_place, Callee, formulas, Function, lasts, Number, owns, rows, tokens, View
+from layout import laid
 from market import ASKS, BIDS, CLEARS, had, KEEPS, LASTS, LENGTHS, RESULTS, SLICES
 
 MAKE = Callee('clearing', 'views.bid_table', 't', 'Table')
@@ -85,31 +85,26 @@ def proof():
     owning = [p for p in f.parameters if p is not WIDTH]
     kept = [f'(flft {by_place(l)[0]} {by_place(l)[1]})' for l in range(8) if l != BIDS.lifetime] + [
         f'Own-{p.name}' for p in owning]
-    facts = [*(p.fact(by_place) or 'width < 2 ^ 64' for p in f.parameters), f.goal('κs', 'qs', 'a', 'at')]
     asked = f'tokens ∷ ‵ (owns ({rows(PASSED, by_place)}) (args r) (passed u)) ∷ []'
     made = (f'{TOKEN} ∷ ‵ (owns (ShrSlice (named 0) {κ} u32 ∷ usize ∷ []) (bids, (width, tt)) '
             '(val bids ∷ [], (vint w64 width ∷ [], tt))) ∷ []')
-    return text(TEMPLATE, stayed=f.stayed(), contracts=f.contracts(), exits=fill(exits(), 6), tables=f.over_tables(),
-                goes_table=fill(goes_table(), 6), goes_clear=fill(goes_clear(), 6),
-                owns=owns(owning, by_place), LASTS=LASTS, LENGTHS=LENGTHS,
-                module=f.module_over('(κs : Lfts 8) (qs : Shares 8) (asks bays amounts bids : Nums) (width : ℕ) '
-                                     '(stations charges sold paid : Nums)'),
-                names=f.names(), at=laid([f'{p.value()} ∷ []' for p in f.parameters], 2, 'at = '),
-                tokens=fill(tokens(range(8), by_place), 6), Rest=fill(formulas(kept), 6),
-                Kept=formulas([f'Own-{p.name}' for p in SLICES]), κ=κ.strip('()'), q=q.strip('()'),
-                passed=laid(['u ∷ []' if p is TABLE else f'{p.value()} ∷ []' for p in PASSED], 2, 'passed u = '),
-                made=fill(f'ent 𝓤 (⋆ 𝓤 H A ({made})) (Table 𝓤 H A mem run .pre to-table)', 6),
-                has=fill(f'qed W ({made}) ∵ join ! $ frame ! $ done !', 6),
-                asked=fill(f'→ ent 𝓤 (⋆ 𝓤 H A ({asked})) (Clear 𝓤 H A mem run .pre (to-clear r u))', 6),
-                asks=fill(f'qed W ({asked}) ∵ join ! $ frame ! $ done !', 6),
-                given=fill(f'qed W (tokens ∷ ‵ (owns ({f.rows()}) a at) ∷ []) ∵', 6),
-                TOKEN=TOKEN,
-                left=fill([*KEEPS, f'→ ent 𝓤 (⋆ 𝓤 H A ({HAD})) (Post u)'], 6),
-                had=fill([f'qed W ({HAD}) ∵', f.ends('((κs, qs, tt, a, at), tt)', 'u', 'a′')], 6),
-                facts=arrows(facts, 8),
-                given_names=' '.join('fits' if p is WIDTH else f'g-{p.name}' for p in f.parameters),
-                enter=fill(f.enter(), 8), walk=fill(walk(), 8),
-                walks=f.walks(f.arguments('κs qs', 'C Λ fm known-table known-clear')))
+    walked = f.walked(walk(), f.arguments('κs qs', 'C Λ fm known-table known-clear'),
+                      [p.fact(by_place) or 'width < 2 ^ 64' for p in f.parameters],
+                      ' '.join('fits' if p is WIDTH else f'g-{p.name}' for p in f.parameters))
+    return f.proof(TEMPLATE, '(κs : Lfts 8) (qs : Shares 8) (asks bays amounts bids : Nums) (width : ℕ) '
+                   '(stations charges sold paid : Nums)', walked, goes_table=goes_table(), goes_clear=goes_clear(),
+                   exits=exits(), owns=owns(owning, by_place), LASTS=LASTS, LENGTHS=LENGTHS, names=f.names(),
+                   at=laid([f'{p.value()} ∷ []' for p in f.parameters], 2, 'at = '),
+                   tokens=[tokens(range(8), by_place)], Rest=[formulas(kept)], TOKEN=TOKEN,
+                   Kept=formulas([f'Own-{p.name}' for p in SLICES]), κ=κ.strip('()'), q=q.strip('()'),
+                   passed=laid(['u ∷ []' if p is TABLE else f'{p.value()} ∷ []' for p in PASSED], 2, 'passed u = '),
+                   made=[f'ent 𝓤 (⋆ 𝓤 H A ({made})) (Table 𝓤 H A mem run .pre to-table)'],
+                   has=[f'qed W ({made}) ∵ join ! $ frame ! $ done !'],
+                   asked=[f'→ ent 𝓤 (⋆ 𝓤 H A ({asked})) (Clear 𝓤 H A mem run .pre (to-clear r u))'],
+                   asks=[f'qed W ({asked}) ∵ join ! $ frame ! $ done !'],
+                   given=[f'qed W (tokens ∷ ‵ (owns ({f.rows()}) a at) ∷ []) ∵'],
+                   left=[*KEEPS, f'→ ent 𝓤 (⋆ 𝓤 H A ({HAD})) (Post u)'],
+                   had=[f'qed W ({HAD}) ∵', f.ends('((κs, qs, tt, a, at), tt)', 'u', 'a′')])
 
 
 TEMPLATE = '''
@@ -234,11 +229,4 @@ val x = sliceVal (x .ptr) (length (x .now))
 «had»
 «exits»
 
-«tables»    walk :
-«facts»
-    walk «given_names» =
-        qed W (raw (onEntry 𝓤 H A f.signature κs qs a at) ∷ []) ∵
-«enter»
-«walk»
-
-«walks»'''
+«walked»'''

@@ -2,9 +2,9 @@
 `stations_exceed`, and comes back as it was; `guests`, `house` and `last` go to `settle`, and the row to `add_sales`,
 each for good."""
 from context import Walk
-from frame import arrows, Callee, each, formulas, Function, Lent, Number, owns, projection, Record, tokens
-from layout import fill, laid, text
-from market import BOOK, GUESTS, HOUSE, LAST, LIFETIMES, POSTED, ROUND, SLICES, WIDTH
+from frame import Callee, each, formulas, Function, Lent, Number, owns, projection, Record, rows, tokens
+from layout import laid
+from market import BOOK, GUESTS, HOUSE, LAST, LIFETIMES, POSTED, posted, ROUND, SLICES, WIDTH
 
 PLAN = Callee('ledger', 'planning.plan', 'plan', 'Plan')
 EXCEED = Callee('ledger', 'stations.stations_exceed', 'exceed', 'Exceed')
@@ -183,33 +183,22 @@ def walk():
 
 def proof():
     f = FUNCTION
-    facts = [*(p.fact(each) for p in [*SLICES, GUESTS]), 'Room T.the-row n', f.goal('κs', 'qs', 'a', 'at')]
-    a = {p.name: f'(a{f.place(p.name)})' for p in f.parameters}
-    row = f"a{f.place('(x γ)')}"
-    fits = {p.name: p.given(f.place(p.name)) for p in f.parameters if p.fact(each) or p in (WIDTH, ROUND)}
-    lifetimes = ' '.join(f'({x}{projection(i)})' for x in ('κs', 'qs') for i in range(8))
-    arguments = ' '.join([lifetimes, *(a[p.name] for p in SLICES), a['width'], fits['width'], a['round'], fits['round'],
-                          a['guests'], f'({row} .ptr .0) ({row} .ptr .1) ({row} .name) ({row} .now)', a['house'],
-                          a['last'], 'C Λ fm', *(c.known for c in f.callees),
-                          *(fits[p.name] for p in [*SLICES, GUESTS, ROW])])
-    return text(TEMPLATE, stayed=f.stayed(), contracts=f.contracts(), tables=f.over_tables(),
-                owns=owns([*SLICES, ROW, GUESTS, HOUSE, LAST], each, 0),
-                goes_plan=fill(goes_plan(), 6), goes_exceed=fill(goes_exceed(), 6), goes_settle=fill(goes_settle(), 6),
-                goes_add=fill(goes_add(), 6), exits=fill(exits(), 6),
-                module=f.module_over(f'{POSTED} (b o : ℕ) (γ : GName) (ys : List StationAccount) (house last : Num)'),
-                book=BOOK, lifetimes=LIFETIMES,
-                names=f.names().replace('(x γ)', 'x γ'),
-                at=laid([f'{p.value()} ∷ []' for p in f.parameters], 2, 'at = '),
-                Market=formulas([f'Own-{p.name}' for p in SLICES]), of_plan=tokens(OF_PLAN, each),
-                of_settle=tokens(OF_SETTLE, each), settled=laid(
-                    ['v ∷ []', 'vbool (exceedingTo d n ys) ∷ []', 'vint w64 n ∷ []',
-                     *(f'{p.value()} ∷ []' for p in (ROUND, GUESTS, HOUSE, LAST))], 2, 'settle-vals d v = '),
-                planned=fill(f"qed W (tokens₄ ∷ ‵ (owns ({' ∷ '.join(p.row(each) for p in SLICES)} ∷ usize ∷ []) "
-                             'plan-args plan-vals) ∷ []) ∵ join ! $ frame ! $ done !', 6),
-                ends=fill(f.ends('bound', '(valS (c .reply))', '(c .reply)'), 6), facts=arrows(facts, 8),
-                enter=fill(f.enter(), 8), walk=fill(walk(), 8),
-                given=fill(f"qed W (({tokens(range(8), each)}) ∷ ‵ (owns ({f.rows()}) a at) ∷ []) ∵", 8),
-                walks=f.walks(arguments))
+    walked = f.walked(walk(), posted(f, lambda row: f'({row} .ptr .0) ({row} .ptr .1) ({row} .name) ({row} .now)'),
+                      [*(p.fact(each) for p in [*SLICES, GUESTS]), 'Room T.the-row n'],
+                      'g-asks g-bays g-amounts g-bids gg gn',
+                      entry=f'({tokens(range(8), each)}) ∷ ‵ (owns ({f.rows()}) a at)')
+    settled = ['v ∷ []', 'vbool (exceedingTo d n ys) ∷ []', 'vint w64 n ∷ []',
+               *(f'{p.value()} ∷ []' for p in (ROUND, GUESTS, HOUSE, LAST))]
+    return f.proof(TEMPLATE, f'{POSTED} (b o : ℕ) (γ : GName) (ys : List StationAccount) (house last : Num)', walked,
+                   owns=owns([*SLICES, ROW, GUESTS, HOUSE, LAST], each, 0), book=BOOK, lifetimes=LIFETIMES,
+                   goes_plan=goes_plan(), goes_exceed=goes_exceed(), goes_settle=goes_settle(), goes_add=goes_add(),
+                   exits=exits(), names=f.names().replace('(x γ)', 'x γ'),
+                   at=laid([f'{p.value()} ∷ []' for p in f.parameters], 2, 'at = '),
+                   Market=formulas([f'Own-{p.name}' for p in SLICES]), of_plan=tokens(OF_PLAN, each),
+                   of_settle=tokens(OF_SETTLE, each), settled=laid(settled, 2, 'settle-vals d v = '),
+                   planned=[f'qed W (tokens₄ ∷ ‵ (owns ({rows([*SLICES, WIDTH], each)}) plan-args plan-vals) ∷ []) ∵ '
+                            'join ! $ frame ! $ done !'],
+                   ends=[f.ends('bound', '(valS (c .reply))', '(c .reply)')])
 
 
 TEMPLATE = '''
@@ -388,11 +377,4 @@ valS r = EL.val S.the-type S′.the-laws r
 «ends»
 «exits»
 
-«tables»    walk :
-«facts»
-    walk g-asks g-bays g-amounts g-bids gg gn =
-«given»
-«enter»
-«walk»
-
-«walks»'''
+«walked»'''

@@ -3,7 +3,7 @@ shuts the borrow, and has `station_exceeds` judge the record."""
 import loop
 from context import Walk
 from frame import alone, Callee, Function, Number, Record, Shared
-from layout import fill, text
+from layout import text
 
 ONE = Callee('ledger', 'stations.station_exceeds', 'g', 'One')
 ROW, ROUND = Shared('x', 'T.the-row', 0, value='sliceVal (b, o) n'), Record('d', 'R', value='v')
@@ -20,9 +20,9 @@ Rattle.model.proofs.account.StationAccount as T
 Rattle.model.proofs.account.StationAccount.Laws as T′
 ''')
 TYPES = ['tyBool', 'rowTy', 'R′.mir', 'tyBool', 'word', 'word', 'tyBool', 'tyPtr', 'T′.mir']
-HELD = {1: '(sliceVal (b, o) n)', 2: 'v', 3: '(vbool (L (j .0)))', 4: '(vint w64 (j .0))'}
-HEAD = ['the slice', 'the token']
 FOUND, AT, LENGTH, TEST, POINTER, TAKEN = '_3', '_4', '_5', '_6', '_7', '_8'
+HELD = {'_1': '(sliceVal (b, o) n)', '_2': 'v', FOUND: '(vbool (L (j .0)))', AT: '(vint w64 (j .0))'}
+HEAD = ['the slice', 'the token']
 BOOLEAN = ('Boolean', '(bool-makes 𝓤 H A W)', 't', '(vbool t ∷ [])', 'refl')
 COUNT = Number('j', 'usize', 'fits')
 RECORD = Record('e', 'T')
@@ -31,29 +31,27 @@ RECORD = Record('e', 'T')
 def exits():
     w = Walk(*HEAD).step('says ! e')
     w.nothing('true').join('the token', 'true', 'tokens').frame()
-    w.nothing('true').owned('round', *ROUND.made('gd')).fjoin('round', 'true', 'owns')
-    w.add('the slice').frame()
+    w.nothing('owns').add('round', *ROUND.made('gd')).add('the slice').frame()
     return w.owned('result', *BOOLEAN).end('done !')
 
 
 def goes():
-    w = Walk().nothing('owns').add('before', *BOOLEAN)
-    w.add('j', *COUNT.made()).add('round', *ROUND.made('gd'))
-    w.add('record', *RECORD.made('is'))
+    w = Walk().nothing('owns').add('before', *BOOLEAN).add('j', *COUNT.made())
+    w.add('round', *ROUND.made('gd')).add('record', *RECORD.made('is'))
     return w.nothing('true').join('true', 'owns', 'asked').frame().end('done !')
 
 
 def tested():
-    w = Walk(*HEAD).within(9, (f'_{i}' for i in HELD))
+    w = Walk(*HEAD).within(len(TYPES), HELD)
     w.copy(w.field('_1', 1), LENGTH, 'tt, record { fits = gn .0 }')
     w.binary(w.load(AT), w.load(LENGTH), 'tt', TEST, 'tt, tt')
-    return w.rewrite(TEST, f"λ (t : Bool). {loop.cell(TYPES, 6, '(vbool t)')}", 'e')
+    return w.rewrite(TEST, f"λ (t : Bool). {loop.cell(TYPES, TEST, '(vbool t)')}", 'e')
 
 
 def more():
     w = tested()
     w.step(f'stays ! ({w.load(TEST)})')
-    loop.place(w, TYPES, 4, 5, 7)
+    loop.place(w, TYPES, AT, LENGTH, POINTER)
     w.note('what the slice owns is had twice: one is kept, and the other is taken apart')
     w.move('the slice').use(['the slice'], *ROW.twice(alone, 'Own'), 'had', 'the slice')
     w.fsplit('had', 'place', 'had').drop('place').fsplit('had', 'room', 'borrow').drop('room')
@@ -72,9 +70,9 @@ def more():
     w.hear('r ≡ (L (j .0) or exceedsWith d (j .0) (elemAt (j .0)))', f'said {at} r', 'e′')
     w.given('true', 'result').learn('facts', 'Boolean', 'r', 'u', 'is')
     w.land(FOUND, 'bool-lawful 𝓤 H A W .typed r _ is .0')
-    w.rewrite(FOUND, f"λ (z : Val). {loop.cell(TYPES, 3, 'z')}", '(ap only is)')
-    w.rewrite(FOUND, f"λ (t : Bool). {loop.cell(TYPES, 3, '(vbool t)')}", '(e′ ∙ exceeding-more d ys (j .0))')
-    loop.count(w, AT).forget(*(f'_{i}' for i in HELD)).keep(*HEAD, *w.locals())
+    w.rewrite(FOUND, f"λ (z : Val). {loop.cell(TYPES, FOUND, 'z')}", '(ap only is)')
+    w.rewrite(FOUND, f"λ (t : Bool). {loop.cell(TYPES, FOUND, '(vbool t)')}", '(e′ ∙ exceeding-more d ys (j .0))')
+    loop.count(w, AT).forget(*HELD).keep(*HEAD, *w.locals())
     return w.end('again ! Nearer At j (j .0 + 1, omega (arith, less)) (omega (arith, less))')
 
 
@@ -86,27 +84,19 @@ def ends():
 
 
 def walk():
-    w = Walk('tokens', 'owns').allocate(9, loop.name).passes('tt, (tt, (record { fits = gn .0 }, tt))', 'wt')
+    w = Walk('tokens', 'owns').allocate(len(TYPES), loop.name).passes('tt, (tt, (record { fits = gn .0 }, tt))', 'wt')
     w.copy('false-lit !', FOUND, 'tt, tt').copy('lit ! tt', AT, 'tt, record { fits = lit< tt }')
     w.fsplit('owns', 'the slice', 'the round').split('tokens', 'the token', 'true').show().keep(*HEAD, *w.locals())
-    w.rewrite(FOUND, f"λ (t : Bool). {loop.cell(TYPES, 3, '(vbool t)')}", '(exceeding-none d ys)')
+    w.rewrite(FOUND, f"λ (t : Bool). {loop.cell(TYPES, FOUND, '(vbool t)')}", '(exceeding-none d ys)')
     return w.end(f'looped {loop.names(TYPES)}')
 
 
 def proof():
-    f = FUNCTION
     looped = loop.loop(TYPES, HELD, ['‵ Own', '‵ (flft κ q)'], 'ltb (j .0) n', '(0, zero-le)', 't-3', 't-4', more(),
                        WHERE + loop.FITS, ends())
-    return text(TEMPLATE, stayed=f.stayed(), contracts=f.contracts(), exits=fill(exits(), 6), goes=fill(goes(), 6),
-                values=text(loop.VALUES, kind='imm'), upto=text(loop.UPTO, upto='(j : ℕ) × (j ≤ n)'), loop=looped,
-                module=f.module_over('(κ : Lft) (q : Share) (b o : ℕ) (γ : GName) (ys : List StationAccount) '
-                                     '(d : Round) (v : Val) (gd : Is R.the-row d (v ∷ []))'),
-                tables=f.over_tables('(gn : Room T.the-row n) (wt : Holds (hasTy R′.mir v) × WT v)'),
-                goal=fill(f.goal('(κ, tt)', '(q, tt)', 'a', 'at'), 8),
-                given=fill(f'qed W ((‵ (flft κ q) ⊛ ‵ ftrue) ∷ ‵ (owns ({f.rows()}) a at) ∷ []) ∵', 8),
-                enter=fill(f.enter(), 8), walk=fill(walk(), 8),
-                walks=f.walks('(κs .0) (qs .0) (a .0 .ptr .0) (a .0 .ptr .1) (a .0 .name) (a .0 .now) (a .1 .0) '
-                              f"(valR (a .1 .0)) (are .1 .0) 𝓣 known-one (are .0 .0 .1) {ROUND.given(f.place('d'))}"))
+    walked = loop.walked(FUNCTION, walk(), '𝓣 known-one', looped)
+    return FUNCTION.proof(TEMPLATE, loop.OVER, walked, exits=exits(), goes=goes(), values=text(loop.VALUES, kind='imm'),
+                          upto=text(loop.UPTO, upto='(j : ℕ) × (j ≤ n)'))
 
 
 WHERE = '''\
@@ -181,12 +171,4 @@ Arg = RefT (List StationAccount) × (Round × Unit {0})
       exE 𝓤 _ (λ ws. snd∗ 𝓤 (sem 𝓤 H A (lasts g.ended tt (args e j t) ws)) (fact 𝓤 (r ≡ (t or exceedsWith d j e))))
 
 «upto»
-«tables»«loop»
-    walk :
-«goal»
-    walk =
-«given»
-«enter»
-«walk»
-
-«walks»'''
+«walked»'''

@@ -5,7 +5,7 @@ token, which comes back."""
 import view
 from context import Walk
 from frame import alone, Callee, Function, Number, View
-from layout import fill, text
+from layout import text
 
 ROW = Callee('clearing', 'views.row', 'row', 'Row')
 GUEST, WIDTH = Number('i', 'usize', 'i-fits'), Number('(d .width)', 'usize', 'fits')
@@ -44,12 +44,12 @@ def walk():
 
 
 def proof():
-    return text(TEMPLATE, stayed=FUNCTION.stayed(), contracts=FUNCTION.contracts(), apart=fill(apart(), 6),
-                exits=fill(exits(), 6), tables=FUNCTION.over_tables(),
-                module=FUNCTION.module_over('(κ : Lft) (q : Share) (d : BidTable) (i : ℕ)'),
-                enter=FUNCTION.enter(), walk=fill(walk(), 8), fields=text(view.FIELDS, LFT=LFT),
-                walks=FUNCTION.walks(f"(κs .0) (qs .0) (a .0) (a .1 .0) C Λ fm known-row "
-                                     f"{FUNCTION.parameter('d').given(' .0')} (are .1 .0 .1)"))
+    f, table = FUNCTION, FUNCTION.parameter('d')
+    arguments = f"(κs .0) (qs .0) (a .0) (a .1 .0) C Λ fm known-row {table.given(f.place('d'))} (are .1 .0 .1)"
+    walked = f.walked(walk(), arguments, [table.fact(alone), 'i < 2 ^ 64'], 'wt i-fits',
+                      at=('(κ, tt)', '(q, tt)', '(d, (i, tt))', 'at'))
+    return f.proof(TEMPLATE, '(κ : Lft) (q : Share) (d : BidTable) (i : ℕ)', walked, apart=apart(), exits=exits(),
+                   fields=text(view.FIELDS, LFT=LFT))
 
 
 TEMPLATE = '''
@@ -121,13 +121,4 @@ B κs = T.the-row (namedLft 1 0 tt κs)
       (((κ, tt), (q, tt), tt, (d, (i, tt)), at), tt) u r (tt, (tt, tt)) (tt, (tt, tt))) $
 «exits»
 
-«tables»    walk :
-        Holds (hasTy (T′.mir (named 0)) mach) × WT mach → i < 2 ^ 64
-        → ent 𝓤 (onEntry 𝓤 H A f.signature (κ, tt) (q, tt) (d, (i, tt)) at)
-        (WpFn 𝓤 H C Λ code.function (mach ∷ vint w64 i ∷ []) Post)
-    walk wt i-fits =
-        qed W (raw (onEntry 𝓤 H A f.signature (κ, tt) (q, tt) (d, (i, tt)) at) ∷ []) ∵
-        «enter»
-«walk»
-
-«walks»'''
+«walked»'''

@@ -2,7 +2,6 @@
 was passed. That the number fits its type is in the struct's relation, at the field's place."""
 from context import Walk
 from frame import alone, Function, Number, View
-from layout import fill, text
 from view import USES
 
 WIDTH = Number('(d .width)', 'usize', 'g')
@@ -18,17 +17,16 @@ def exits():
 
 
 def walk():
-    w = Walk('tokens', 'owns').allocate(2, lambda i: 'l' + '₀₁'[i])
+    w = Walk('entry').allocate(2, lambda i: 'l' + '₀₁'[i])
     w.passes(f'LL.lawful (T.the-type {LFT}) (T′.the-laws {LFT}) 𝓤 H A W .typed d (mach ∷ []) p .0')
     w.copy(w.field('_1', 1), '_0', f'tt, record {{ fits = {FITS} }}')
     return w.leave().end(f'by ! (exits ({FITS}))')
 
 
 def proof():
-    return text(TEMPLATE, stayed=FUNCTION.stayed(), exits=fill(exits(), 6), tables=FUNCTION.over_tables(),
-                module=FUNCTION.module_over('(κ : Lft) (q : Share) (d : BidTable)'),
-                enter=FUNCTION.enter(), walk=fill(walk(), 8),
-                walks=FUNCTION.walks('(κs .0) (qs .0) (a .0) C Λ (are .0)'))
+    walked = FUNCTION.walked(walk(), '(κs .0) (qs .0) (a .0) C Λ (are .0)', ['Is (B (κ, tt)) d (mach ∷ [])'], 'p',
+                             at=('(κ, tt)', '(q, tt)', '(d, tt)', '(mach ∷ [], tt)'))
+    return FUNCTION.proof(TEMPLATE, '(κ : Lft) (q : Share) (d : BidTable)', walked, exits=exits())
 
 
 TEMPLATE = '''
@@ -53,13 +51,4 @@ B κs = T.the-row (namedLft 1 0 tt κs)
       (((κ, tt), (q, tt), tt, (d, tt), (mach ∷ [], tt)), tt) (vint w64 (d .width)) (d .width) (tt, tt) (tt, tt)) $
 «exits»
 
-«tables»    walk :
-        Is (B (κ, tt)) d (mach ∷ [])
-        → ent 𝓤 (onEntry 𝓤 H A f.signature (κ, tt) (q, tt) (d, tt) (mach ∷ [], tt))
-        (WpFn 𝓤 H C Λ code.function (mach ∷ []) Post)
-    walk p =
-        qed W ((‵ (flft κ q) ⊛ ‵ ftrue) ∷ ‵ (owns (B (κ, tt) ∷ []) (d, tt) (mach ∷ [], tt)) ∷ []) ∵
-        «enter»
-«walk»
-
-«walks»'''
+«walked»'''

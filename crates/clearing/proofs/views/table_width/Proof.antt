@@ -9,7 +9,7 @@ use mir.Val.{Val, vint}
 use prog.Memory.{Memory}
 use prog.Routine.{Routine}
 use prog.Wp.{Heap, Calls, Loops, WpFn, Tables}
-use types.Kit.{Given, ‵, _⊛_, _$_, _∵_, !, qed, by, move, suffices, frame, done}
+use types.Kit.{Given, ‵, raw, _⊛_, _$_, _∵_, !, qed, by, move, suffices, frame, done}
 use types.Run.{look, init, forget, stop, fld, from, load, of-opd, assigns, returns, enter, alloc1, alloc0, params1}
 use types.Run.{pass1, pass0, free1, free0}
 use types.Part.{whole, sub, look-in}
@@ -73,7 +73,7 @@ module _ {M : Type 1} (𝓤 : URA M) (H : Heap 𝓤) (A : Atoms 𝓤) (W : Given
         → ent 𝓤 (onEntry 𝓤 H A f.signature (κ, tt) (q, tt) (d, tt) (mach ∷ [], tt))
         (WpFn 𝓤 H C Λ code.function (mach ∷ []) Post)
     walk p =
-        qed W ((‵ (flft κ q) ⊛ ‵ ftrue) ∷ ‵ (owns (B (κ, tt) ∷ []) (d, tt) (mach ∷ [], tt)) ∷ []) ∵
+        qed W (raw (onEntry 𝓤 H A f.signature (κ, tt) (q, tt) (d, tt) (mach ∷ [], tt)) ∷ []) ∵
         enter ! C Λ code.function (mach ∷ []) _ $
         alloc1 ! (λ l₀. alloc1 ! (λ l₁. alloc0 ! $ params1 ! $
         pass1 ! (init ! 0 refl (LL.lawful (T.the-type (namedLft 1 0 tt (κ, tt))) (T′.the-laws (namedLft 1 0 tt (κ, tt)))
