@@ -13,7 +13,7 @@ infix 20 _gives_
 pub data Row : Type 0 where
   _gives_ : Bool → ℕ → Row
 
--- the number of the first row whose condition holds
+-- an answer with no value: accepted, or refused with the number of the first row whose condition holds
 abbrev pub Verdict : Type 0
 Verdict = Answer Unit
 

@@ -117,7 +117,7 @@ pub record RanksInOrder (Q : Queue) : Type 0 where
 abbrev pub RanksCountUp : Type 0
 RanksCountUp = (t : Tables) (j : ℕ) → RanksInOrder (queue (screened t) j)
 
--- 5. the critical total is that of the candidate whose rank is the bays, and 0 exactly where no
+-- 5. the critical total is that of the candidate whose rank is the number of bays, and 0 exactly where no
 -- such candidate stands
 pub record CriticalIsFirstOut (Q : Queue) : Type 0 where
   pub first-out : (k : ℕ) → k < Q .guestCount → Q .candidate k ≡ true → rank Q k ≡ Q .bays → critical Q ≡ Q .total k
