@@ -33,7 +33,7 @@ impl Mills {
         Mills(x as u64)
     }
 
-    // Into such a table.
+    // Into such a table: the number has to fit its 32 bits.
     pub fn narrow(self) -> u32
         requires { ⌜ self .0 < 2 ^ 32 ⌝ }
         ensures { λ r. ⌜ r ≡ self .0 ⌝ }
@@ -41,6 +41,7 @@ impl Mills {
         self.0 as u32
     }
 
+    // The sum has to fit: nothing wraps.
     pub fn plus(self, other: Mills) -> Mills
         requires { ⌜ self .0 + other .0 < 2 ^ 64 ⌝ }
         ensures { λ r. ⌜ r .0 ≡ self .0 + other .0 ⌝ }
@@ -48,6 +49,7 @@ impl Mills {
         Mills(self.0 + other.0)
     }
 
+    // No more is taken away than there is.
     pub fn less(self, other: Mills) -> Mills
         requires { ⌜ other .0 ≤ self .0 ⌝ }
         ensures { λ r. ⌜ r .0 ≡ self .0 - other .0 ⌝ }

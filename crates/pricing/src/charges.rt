@@ -39,7 +39,8 @@ fn charge_at(station: u32, least: Mills, critical: Mills) -> Mills
     }
 }
 
-// Each guest's station and charge, from the station chosen and the critical total of each station number.
+// Each guest's station and charge, from the station chosen and the critical total of each station number. All have
+// chosen one of the stations or none, and every charge fits 32 bits: that is what is required.
 pub fn charge_guests(
     chosen: &[u32],
     least: &[u32],

@@ -50,7 +50,8 @@ fn pay_out(kwh: &[u32], cut: UnitPrice, sold: &mut [u32], paid: &mut [u64])
     }
 }
 
-// What each station sold and is paid, from each guest's station number.
+// What each station sold and is paid, from each guest's station number. Amounts and numbers are within their limits, so
+// that the sums fit.
 pub fn sell(stations: &[u16], amounts: &[u16], cut: UnitPrice, sold: &mut [u32], paid: &mut [u64])
     requires { ⌜ (length (now stations) ≡ length (now amounts)) × (length (now amounts) ≤ maxGuests) ⌝ }
     requires { ⌜ ((k : ℕ) → k < length (now amounts) → getD (now amounts) k 0 ≤ maxAmount) ⌝ }
