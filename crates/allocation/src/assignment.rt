@@ -92,7 +92,8 @@ fn assign(
     charges::charge_guests(chosen, least, criticals, stations, charges);
 }
 
-// The same, with its own room. The market is accepted, and its cut and least charges are known: that is what is required.
+// The same, with its own room. The market is accepted, and its cut and least charges are known: that is what is
+// required.
 pub fn assign_all(
     asks: &[u32],
     bays: &[u16],

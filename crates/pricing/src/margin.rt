@@ -12,8 +12,8 @@ fn excess(charge: Mills, least: Mills) -> Mills
     charge.larger(least).less(least)
 }
 
-// What the charges exceed the least charges by, in all: whoever is charged nothing adds nothing. There is a least charge
-// for each charge, and there are no more than a market has guests, so that the sum fits.
+// What the charges exceed the least charges by, in all: whoever is charged nothing adds nothing. There is a least
+// charge for each charge, and there are no more than a market has guests, so that the sum fits.
 pub fn margin(charges: &[u32], least: &[u32]) -> Mills
     requires { ⌜ (length (now least) ≡ length (now charges)) × (length (now charges) ≤ maxGuests) ⌝ }
     ensures { λ r. ⌜ r .0 ≡ sum (length (now (charges .entry)))
