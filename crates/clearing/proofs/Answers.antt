@@ -120,10 +120,6 @@ module _ (t : Tables) {stations charges : List ℕ} (a : Assigned t stations cha
 abbrev pub Judged : Tables → Results → Verdict → Type 0
 Judged t r v = answerOfVerdict v ≡ firstFault (clearingFaults t r)
 
--- in the branch of a verdict
-pub told : {v w : Verdict} {x : Answer Unit} → v ≡ w → answerOfVerdict v ≡ x → answerOfVerdict w ≡ x
-told e j = ap answerOfVerdict (sym e) ∙ j
-
 is-accepted : (t : Tables) (r : Results) → Judged t r verdicts.Accepted → firstFault (clearingFaults t r) ≡ accepted tt
 unfolding answerOfVerdict
 is-accepted t r e = sym e

@@ -1,10 +1,9 @@
 // The clearing of a market: one call checks the lent tables, clears them and answers, or refuses and writes nothing.
-mod faults;
-mod scans;
 pub mod view_clearing;
 pub mod views;
 
 use allocation::assignment;
+use checks::faults;
 use model::answers::Clearing;
 use model::answers::Verdict;
 use model::limits::MAX_GUESTS;
@@ -100,7 +99,7 @@ pub fn clear(
         (results (now (stations .entry)) (now (charges .entry)) (now (sold .entry)) (now (paid .entry))) r
         (results (now (stations .exit)) (now (charges .exit)) (now (sold .exit)) (now (paid .exit))) ⌝ }
 {
-    let verdict = faults::first_fault(
+    let verdict = faults::clearing_fault(
         asks,
         bays,
         amounts,

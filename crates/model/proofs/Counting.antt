@@ -80,6 +80,18 @@ unfolding sum
 sum-swap zero m f = sym (sum-zero m (λ j. 0) (λ k l. refl))
 sum-swap (suc n) m f = ap (λ x. x + sum m (f n)) (sum-swap n m f) ∙ sym (sum-add m (λ j. sum n (λ i. f i j)) (f n))
 
+-- in two parts, and row after row
+sum-parts : (n k : ℕ) (f : ℕ → ℕ) → sum (n + k) f ≡ sum n f + sum k (λ i. f (n + i))
+unfolding sum
+sum-parts n zero f = rw (add-zero n) (omega arith)
+sum-parts n (suc k) f = let e : n + suc k ≡ suc (n + k) = omega arith in rw e (omega (arith, sum-parts n k f))
+
+pub sum-rows : (n m : ℕ) (f : ℕ → ℕ) → sum n (λ i. sum m (λ j. f (i * m + j))) ≡ sum (n * m) f
+unfolding sum
+sum-rows zero m f = let e : 0 * m ≡ 0 = omega arith in rw e refl
+sum-rows (suc n) m f =
+    let e : suc n * m ≡ n * m + m = omega arith in rw e (omega (arith, sum-rows n m f, sum-parts (n * m) m f))
+
 -- ---- counts
 
 pub count-mono : (n : ℕ) (f g : ℕ → Bool) → ((k : ℕ) → k < n → f k ≡ true → g k ≡ true) → count n f ≤ count n g

@@ -2,8 +2,10 @@
 use Prim.Native.Nat.{ℕ}
 use mathlib.Core.Bool.{Bool, true, false}
 use mathlib.Core.List.{List, [], _∷_, _++_}
-use mathlib.Core.Path.{_≡_, refl, ap}
+use mathlib.Core.Path.{_≡_, refl, sym, ap, _∙_}
 use native.Mathlib.Omega.{arith}
+use Rattle.model.specs.Numbers.{answerOfVerdict}
+use Rattle.model.specs.declared.answers.Verdict.{Verdict as Coded}
 use Rattle.model.specs.Verdicts.{Row, _gives_, Verdict, accepted, refused, firstFault, giving, updated, numberOf}
 
 pub fault-here : {b : Bool} {r : ℕ} (rows : List Row) → b ≡ true → firstFault ((b gives r) ∷ rows) ≡ refused r
@@ -89,3 +91,7 @@ pub gave-refused : {B : Type 0} (v : Verdict) (b : B) (k : ℕ) → giving v b �
 unfolding giving
 gave-refused (accepted _) b k e = let z : _≡_ {A = ℕ} 0 1 = cc in absurd (omega arith)
 gave-refused (refused j) b k e = let g : j ≡ k = cc in ap refused g
+
+-- ---- in the branch of the code's verdict
+pub told : {v w : Coded} {x : Verdict} → v ≡ w → answerOfVerdict v ≡ x → answerOfVerdict w ≡ x
+told e j = ap answerOfVerdict (sym e) ∙ j

@@ -3,3 +3,4 @@ pub mod Existence
 pub mod Postings
 pub mod Sheets
 pub mod Truth
+pub mod Writings

@@ -4,8 +4,10 @@ pub mod Faults
 pub mod Fields
 pub mod Holds
 pub mod Joined
+pub mod Lengths
 pub mod Longest
 pub mod Rows
+pub mod Shortest
 pub mod Stated
 pub mod Tables
 pub mod Truth

@@ -3,6 +3,8 @@ use Prim.Native.Nat.{ℕ}
 use Rattle.model.specs.Verdicts.{Answer, accepted, refused}
 use Rattle.model.specs.declared.answers.Reading.{Reading}
 use Rattle.model.specs.declared.answers.Reading.the-variants as reading
+use Rattle.model.specs.declared.answers.Writing.{Writing}
+use Rattle.model.specs.declared.answers.Writing.the-variants as writing
 use Rattle.model.specs.declared.answers.Clearing.{Clearing}
 use Rattle.model.specs.declared.answers.Clearing.the-variants as clearing
 use Rattle.model.specs.declared.answers.Verdict.{Verdict}
@@ -12,7 +14,7 @@ use Rattle.model.specs.declared.refusal.Refusal.the-variants.{SheetEnds,
 use Rattle.model.specs.declared.refusal.Refusal.the-variants.{TrailingBytes, LengthsDiffer, AskOutOfRange}
 use Rattle.model.specs.declared.refusal.Refusal.the-variants.{BaysOutOfRange, AmountOutOfRange, BidOutOfRange}
 use Rattle.model.specs.declared.refusal.Refusal.the-variants.{LentLengths, RoundOutOfTurn, AccountOverLimit}
-use Rattle.model.specs.declared.refusal.Refusal.the-variants.{BookSize}
+use Rattle.model.specs.declared.refusal.Refusal.the-variants.{BookSize, OutputTooShort}
 
 abbrev pub number : Refusal → ℕ
 number SheetEnds = 1
@@ -28,11 +30,17 @@ number LentLengths = 10
 number RoundOutOfTurn = 11
 number AccountOverLimit = 12
 number BookSize = 13
+number OutputTooShort = 14
 
 -- of the reader: n and m
 unfoldable pub answerOfReading : Reading → Answer (ℕ × ℕ)
 answerOfReading (reading.Read n m) = accepted (n, m)
 answerOfReading (reading.Refused r) = refused (number r)
+
+-- of the writer: the sheet's length
+unfoldable pub answerOfWriting : Writing → Answer ℕ
+answerOfWriting (writing.Written length) = accepted length
+answerOfWriting (writing.Refused r) = refused (number r)
 
 -- of a clearing: the cut and the margin
 unfoldable pub answerOfClearing : Clearing → Answer (ℕ × ℕ)

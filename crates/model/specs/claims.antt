@@ -3,3 +3,4 @@ pub mod Meaning
 pub mod Postings
 pub mod Sheets
 pub mod Truth
+pub mod Writings

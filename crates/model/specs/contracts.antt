@@ -6,3 +6,5 @@ pub mod Prints
 pub mod Reads
 pub mod ReadsOut
 pub mod Rows
+pub mod Writes
+pub mod WritesOut

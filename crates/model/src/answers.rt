@@ -9,6 +9,12 @@ pub enum Reading {
     Refused(Refusal),
 }
 
+// What writing a market's sheet comes to: the sheet's length, or the refusal.
+pub enum Writing {
+    Written { length: usize },
+    Refused(Refusal),
+}
+
 // What a market comes to: the cut and the margin, or the refusal.
 pub enum Clearing {
     Cleared { cut: UnitPrice, margin: Mills },

@@ -17,6 +17,7 @@ pub enum Refusal {
     RoundOutOfTurn,
     AccountOverLimit,
     BookSize,
+    OutputTooShort,
 }
 
 impl Refusal {
@@ -38,6 +39,7 @@ impl Refusal {
             Refusal::RoundOutOfTurn => 11,
             Refusal::AccountOverLimit => 12,
             Refusal::BookSize => 13,
+            Refusal::OutputTooShort => 14,
         }
     }
 }

@@ -144,11 +144,12 @@ unfolding pack
 pack-low zero b = omega arith
 pack-low (suc m) b = omega (arith, bit-low (b 0), pack-low m (λ j. b (suc j)))
 
-pack-same : (m : ℕ) (a b : ℕ → Bool) → ((j : ℕ) → a j ≡ b j) → pack m a ≡ pack m b
+pub pack-cong : (m : ℕ) (a b : ℕ → Bool) → ((j : ℕ) → j < m → a j ≡ b j) → pack m a ≡ pack m b
 unfolding pack
-pack-same zero a b h = refl
-pack-same (suc m) a b h =
-    ap₂ (λ x y. only x 1 + 2 * y) (h 0) (pack-same m (λ j. a (suc j)) (λ j. b (suc j)) (λ j. h (suc j)))
+pack-cong zero a b h = refl
+pack-cong (suc m) a b h =
+    ap₂ (λ x y. only x 1 + 2 * y) (h 0 (omega arith))
+    (pack-cong m (λ j. a (suc j)) (λ j. b (suc j)) (λ j l. h (suc j) (omega arith)))
 
 -- a map with no bit from m on is the map of its bits
 pub pack-bits : (m x : ℕ) → x < 2 ^ m → pack m (hasBit x) ≡ x
@@ -158,7 +159,7 @@ pack-bits (suc m) x h =
     omega (
       arith,
       bit-is x 0,
-      pack-same m (λ j. hasBit x (suc j)) (hasBit (x / 2)) (λ j. next-bit x j),
+      pack-cong m (λ j. hasBit x (suc j)) (hasBit (x / 2)) (λ j _. next-bit x j),
       pack-bits m (x / 2) (omega arith),
     )
 

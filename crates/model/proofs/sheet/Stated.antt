@@ -17,6 +17,7 @@ use Rattle.model.specs.sheet.Layout.{bytesOf, pack, station, stated, row
 use Rattle.model.proofs.sheet.Holds.{Holds, holds-left, holds-then, holds-next, holds-all, holds-self}
 use Rattle.model.proofs.sheet.Holds.{bytes-length, holds-number, number-holds, joined-place, joined-holds}
 use Rattle.model.proofs.sheet.Holds.{joined-each, pack-bit, pack-fits}
+use Rattle.model.proofs.sheet.Lengths.{stated-length, station-length}
 
 -- the market's counts
 abbrev pub n : Tables → ℕ
@@ -34,11 +35,6 @@ amountBytes t i = bytesOf 2 (getD (t .amounts) i 0)
 
 abbrev mapBytes : Tables → (ℕ → ℕ → Bool) → ℕ → List ℕ
 mapBytes t set i = bytesOf (mapWidth (m t)) (pack (m t) (set i))
-
-stated-length : (b : Bool) (x : ℕ) → length (stated b x) ≡ 4 * only b 1
-unfolding stated only
-stated-length true x = bytes-length 4 x
-stated-length false x = refl
 
 stated-holds :
     (s : List ℕ) → Bytes s → (p : ℕ) (b : Bool) (x : ℕ) → (b ≡ true → littleEndian s p 4 ≡ x) → Holds s p (stated b x)
@@ -133,11 +129,6 @@ module _ (t : Tables) (set : ℕ → ℕ → Bool) (s : List ℕ) (i p : ℕ) wh
 
 -- ---- one station, at p
 module _ (t : Tables) (s : List ℕ) (j p : ℕ) where
-  station-length : length (station t j) ≡ 6
-  unfolding station
-  station-length =
-      simp length-append (omega (arith, bytes-length 4 (getD (t .asks) j 0), bytes-length 2 (getD (t .bays) j 0)))
-
   ask-long : p + length (askBytes t j) ≡ p + 4
   ask-long = omega (arith, bytes-length 4 (getD (t .asks) j 0))
 
@@ -182,7 +173,7 @@ module _ (s : List ℕ) (t : Tables) (set : ℕ → ℕ → Bool) where
   m-long = omega (arith, bytes-length 2 (m t))
 
   six : (j : ℕ) → 4 + 6 * suc j ≡ 4 + 6 * j + length (station t j)
-  six j = omega (arith, station-length t s j 0)
+  six j = omega (arith, station-length t j)
 
   stations-long : 4 + length (joined (m t) (station t)) ≡ rowAt s (m t) 0
   stations-long = omega (arith, first-row s (m t), joined-place s (λ j. 4 + 6 * j) (station t) (m t) (λ j _. six j))

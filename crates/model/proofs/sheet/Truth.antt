@@ -136,7 +136,7 @@ states-read s t w = fields-read s t (w .set) (w .fitting) (layout-fields s t (w 
 -- ---- and a sheet that is read as a market states it
 
 -- t's tables are the sheet's, place by place
-record Is (s : List ℕ) (t : Tables) : Type 0 where
+pub record Is (s : List ℕ) (t : Tables) : Type 0 where
   pub n-is : n t ≡ guests s
   pub m-is : m t ≡ stations s
   pub width-is : t .width ≡ m t
@@ -147,7 +147,7 @@ record Is (s : List ℕ) (t : Tables) : Type 0 where
   pub amount-at : (i : ℕ) → i < n t → getD (t .amounts) i 0 ≡ littleEndian s (rowAt s (m t) i) 2
   pub bid-at : (i j : ℕ) → i < n t → j < m t → bidAt t i j ≡ bidOf s (m t) i j
 
-tables-are : (s : List ℕ) → Is s (tablesOf s)
+pub tables-are : (s : List ℕ) → Is s (tablesOf s)
 unfolding tablesOf bidAt askOf baysOf amountOf
 tables-are s = record {
   n-is = length-list (guests s) _;

@@ -3,8 +3,8 @@ use borrow.Author.Needs.{needs}
 use Rattle.model.specs.market.Faults.{values}
 use Rattle.model.proofs.Verdicts.{fault-none, fault-here, fault-later}
 use Rattle.model.specs.Numbers.{answerOfVerdict}
-use Rattle.clearing.proofs.faults.value_fault.Statement.{statement}
-use Rattle.clearing.proofs.faults.value_fault.Tie as tie
+use Rattle.checks.proofs.faults.value_fault.Statement.{statement}
+use Rattle.checks.proofs.faults.value_fault.Tie as tie
 
 returns : tie.Need-returns
 unfolding values answerOfVerdict

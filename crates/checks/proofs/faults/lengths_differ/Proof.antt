@@ -2,8 +2,8 @@ use native.Mathlib.Omega.{arith}
 use borrow.Author.Needs.{needs}
 use Rattle.model.specs.Counting.{_=?_, _or_}
 use Rattle.model.proofs.market.Acceptance.{product-fits}
-use Rattle.clearing.proofs.faults.lengths_differ.Statement.{statement}
-use Rattle.clearing.proofs.faults.lengths_differ.Tie as tie
+use Rattle.checks.proofs.faults.lengths_differ.Statement.{statement}
+use Rattle.checks.proofs.faults.lengths_differ.Tie as tie
 
 mul-result : tie.Need-mul-result
 mul-result c = omega (arith, product-fits _ _ (c .pre .0) (c .pre .1))

@@ -1,4 +1,4 @@
-// The first fault of a call that clears a market, in the order of document 01's table.
+// The first fault of a market's tables, and of a call that clears them, in the order of document 01's table.
 use crate::scans;
 use model::answers::Verdict;
 use model::limits;
@@ -8,12 +8,13 @@ use model::limits::MAX_PRICE;
 use model::refusal::Refusal;
 ghost use Prim.Native.Nat.{_*_, _≤_};
 ghost use mathlib.Core.Bool.{not};
+ghost use mathlib.Core.List.{[], _∷_};
 ghost use mathlib.Core.Path.{_≡_};
 ghost use Rattle.model.specs.Limits.{maxGuests, maxStations};
 ghost use Rattle.model.specs.Counting.{_=?_, _or_};
 ghost use Rattle.model.specs.Numbers.{answerOfVerdict};
 ghost use Rattle.model.specs.Verdicts.{firstFault};
-ghost use Rattle.model.specs.market.Faults.{values, clearingFaults};
+ghost use Rattle.model.specs.market.Faults.{counts, lengths, values, verdict, clearingFaults};
 ghost use Rattle.model.specs.market.Market.{regular, tables};
 ghost use Rattle.model.specs.market.Outcome.{results};
 
@@ -57,8 +58,38 @@ fn value_fault(asks: &[u32], bays: &[u16], amounts: &[u16], bids: &[u32]) -> Ver
     Verdict::Accepted
 }
 
-// The first fault of a call, in the order of document 01's table. The counts come first, so that n times m cannot wrap.
-pub fn first_fault(
+// The counts, then the lengths of the tables. The counts come first, so that n times m cannot wrap.
+fn size_fault(n: usize, m: usize, bays: usize, bids: usize, width: usize) -> Verdict
+    ensures { λ r. ⌜ answerOfVerdict r ≡ firstFault (counts n m ∷ lengths n m bays bids width ∷ []) ⌝ }
+{
+    if limits::counts_out_of_range(n, m) {
+        return Verdict::Refused(Refusal::CountsOutOfRange);
+    }
+    if lengths_differ(n, m, bays, bids, width) {
+        return Verdict::Refused(Refusal::LengthsDiffer);
+    }
+    Verdict::Accepted
+}
+
+// The first fault of a market.
+pub fn market_fault(
+    asks: &[u32],
+    bays: &[u16],
+    amounts: &[u16],
+    bids: &[u32],
+    width: usize,
+) -> Verdict
+    ensures { λ r. ⌜ answerOfVerdict r ≡ verdict
+        (tables (now (asks .entry)) (now (bays .entry)) (now (amounts .entry)) (now (bids .entry)) width) ⌝ }
+{
+    match size_fault(amounts.len(), asks.len(), bays.len(), bids.len(), width) {
+        Verdict::Refused(refusal) => Verdict::Refused(refusal),
+        Verdict::Accepted => value_fault(asks, bays, amounts, bids),
+    }
+}
+
+// The first fault of a call that clears a market, with the lists that it is lent.
+pub fn clearing_fault(
     asks: &[u32],
     bays: &[u16],
     amounts: &[u16],
@@ -75,14 +106,13 @@ pub fn first_fault(
 {
     let n = amounts.len();
     let m = asks.len();
-    if limits::counts_out_of_range(n, m) {
-        return Verdict::Refused(Refusal::CountsOutOfRange);
+    match size_fault(n, m, bays.len(), bids.len(), width) {
+        Verdict::Refused(refusal) => Verdict::Refused(refusal),
+        Verdict::Accepted => {
+            if list_lengths_differ(n, m, stations.len(), charges.len(), sold.len(), paid.len()) {
+                return Verdict::Refused(Refusal::LentLengths);
+            }
+            value_fault(asks, bays, amounts, bids)
+        }
     }
-    if lengths_differ(n, m, bays.len(), bids.len(), width) {
-        return Verdict::Refused(Refusal::LengthsDiffer);
-    }
-    if list_lengths_differ(n, m, stations.len(), charges.len(), sold.len(), paid.len()) {
-        return Verdict::Refused(Refusal::LentLengths);
-    }
-    value_fault(asks, bays, amounts, bids)
 }

@@ -1,0 +1,94 @@
+-- Request 1 over calls, proved: what was written is the shortest sheet, what was taken is what the sheet is read as.
+use Prim.Native.Nat.{ℕ, _+_, _*_, _≤_}
+use mathlib.Core.List.{List}
+use mathlib.Core.Path.{_≡_, refl, sym, ap, ap₂, _∙_, subst}
+use native.Mathlib.Omega.{arith}
+use lib.ListN.{length, take}
+use lib.Seq.{paste, take-paste, take-all}
+use Rattle.model.specs.Verdicts.{accepted}
+use Rattle.model.specs.market.Market.{Tables}
+use Rattle.model.specs.market.Faults.{Accepted, marketFaults, verdict}
+use Rattle.model.specs.sheet.Content.{tablesOf, readSheet}
+use Rattle.model.specs.sheet.Layout.{States}
+use Rattle.model.specs.sheet.Shortest.{shortest, writingFaults}
+use Rattle.model.specs.contracts.Reads.{LentTables, readVerdict, tableLengths, filled}
+use Rattle.model.specs.contracts.Writes.{writeVerdict, written}
+use Rattle.model.specs.claims.Writings.{WritingAcceptedIffWithinLimits, Gave, marketIn, Took, WrittenIsRead}
+use Rattle.model.specs.claims.Writings.{WritingIsNoLonger, SecondAltersNothing}
+use Rattle.model.proofs.Tests.{lt-no, not-lt}
+use Rattle.model.proofs.Verdicts.{fault-none, no-fault, no-faults, fault-second, fault-free, giving-accepted}
+use Rattle.model.proofs.Verdicts.{gave-accepted, updated-accepted}
+use Rattle.model.proofs.claims.Sheets.{stated-is-read}
+use Rattle.model.proofs.sheet.Shortest.{shortest-states, shortest-is-read, shortest-is-least}
+use Rattle.model.proofs.sheet.Truth.{tables-are, reads-exactly-what-is-stated}
+
+pub writing-accepted-iff-within-limits : WritingAcceptedIffWithinLimits
+unfolding writingFaults verdict
+writing-accepted-iff-within-limits t room = (
+  (λ e. let (market, row) = no-faults (marketFaults t) _ e in (market, lt-no _ _ (no-fault _ _ _ row .0))),
+  (λ w. fault-second (marketFaults t) _ (w .0) ∙ fault-free _ _ (not-lt _ _ (w .1)) fault-none),
+)
+
+-- the first places of what is pasted from the start
+first-places : (xs l : List ℕ) (n : ℕ) → n ≡ length xs → take n (paste l 0 xs (length xs)) ≡ xs
+first-places xs l n e =
+    let z : 0 + length xs ≡ n = omega arith in
+    rw (← z) (take-paste l 0 xs (length xs) (omega arith) (omega arith) ∙ take-all (length xs) xs (omega arith))
+
+-- ---- what a call of `write` gave
+
+gave : (t : Tables) (s : List ℕ) → Gave t s → Accepted t × (s ≡ shortest t)
+unfolding writeVerdict written
+gave t s g =
+    let (v, long) = gave-accepted _ _ _ (sym (g .called .answered) ∙ g .answered) in
+    (
+      writing-accepted-iff-within-limits t _ .0 v .0,
+      g .is ∙ ap (take (length s)) (g .called .left ∙ updated-accepted _ _ v)
+      ∙ first-places (shortest t) (g .entry) (length s) (sym long),
+    )
+
+-- ---- what a call of `read` took
+
+market-filled :
+    (t : Tables) (l : LentTables) (n m : ℕ) → n ≡ length (t .amounts) → m ≡ length (t .asks)
+    → length (t .bays) ≡ length (t .asks) → length (t .bids) ≡ length (t .amounts) * length (t .asks)
+    → t .width ≡ length (t .asks) → marketIn (filled t l) n m ≡ t
+unfolding filled
+market-filled t l n m e f bays bids width = λ i. record {
+  asks = first-places (t .asks) (l .asks) m f i;
+  bays = first-places (t .bays) (l .bays) m (f ∙ sym bays) i;
+  amounts = first-places (t .amounts) (l .amounts) n e i;
+  bids = first-places (t .bids) (l .bids) (n * m) (ap₂ _*_ e f ∙ sym bids) i;
+  width = (f ∙ sym width) i;
+}
+
+took : (s : List ℕ) (t : Tables) → Took s t → readSheet s ≡ accepted t
+unfolding readSheet readVerdict tableLengths
+took s t c =
+    let (v, counts) = gave-accepted _ _ _ (sym (c .called .answered) ∙ c .answered) in
+    let are = tables-are s in
+    let filled-in : c .exit ≡ filled (tablesOf s) (c .entry) = c .called .left ∙ updated-accepted _ _ v in
+    giving-accepted _ (no-fault _ _ _ v .1)
+    ∙ ap accepted (sym (c .is ∙ ap (λ l. marketIn l (c .n) (c .m)) filled-in
+    ∙ market-filled (tablesOf s) (c .entry) (c .n) (c .m) (ap (λ p. p .0) (sym counts) ∙ sym (are .n-is))
+    (ap (λ p. p .1) (sym counts) ∙ sym (are .m-is)) (are .bays-long) (are .bids-long) (are .width-is)))
+
+-- ---- the statements
+
+pub written-is-read : WrittenIsRead
+written-is-read t s entry exit answer g z c =
+    let (a, e) = gave t s g in
+    stated-is-read s t entry exit answer z c (subst (λ s. States s t) (sym e) (shortest-states t a))
+
+pub writing-is-no-longer : WritingIsNoLonger
+writing-is-no-longer s s′ t y c g =
+    let (short, same) = shortest-is-least s t (reads-exactly-what-is-stated s t y .0 (took s t c)) in
+    let (a, e) = gave t s′ g in
+    rw e (short, λ q. sym (same (sym q)))
+
+pub second-alters-nothing : SecondAltersNothing
+second-alters-nothing t u s s′ g c h =
+    let (a, e) = gave t s g in
+    let same : accepted u ≡ accepted t = sym (took s u c) ∙ ap readSheet e ∙ shortest-is-read t a in
+    let is : u ≡ t = cc in
+    (is, gave u s′ h .1 ∙ ap shortest is ∙ sym e)

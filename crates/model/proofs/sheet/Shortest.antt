@@ -1,0 +1,137 @@
+-- The shortest sheet of an accepted market states it, and no other that does is as short.
+use Prim.Native.Nat.{ℕ, zero, suc, _+_, _*_, _^_, _≤_, _<_}
+use mathlib.Core.Bool.{Bool, true, false}
+use mathlib.Core.List.{List, _++_}
+use mathlib.Core.Logic.{⊎-elim}
+use mathlib.Core.Path.{_≡_, refl, sym, ap, ap₂, _∙_}
+use native.Mathlib.Omega.{arith}
+use lib.ListN.{length, getD}
+use Rattle.model.specs.Limits.{maxPrice}
+use Rattle.model.specs.Counting.{_<?_, sum, count, joined}
+use Rattle.model.specs.market.Market.{Tables, bidAt}
+use Rattle.model.specs.market.Faults.{Accepted}
+use Rattle.model.specs.Verdicts.{accepted}
+use Rattle.model.specs.claims.Meaning.{WithinLimits}
+use Rattle.model.specs.sheet.Fields.{mapWidth}
+use Rattle.model.specs.sheet.Content.{readSheet}
+use Rattle.model.specs.sheet.Layout.{bytesOf, pack, stated, row, station, layout, Fitting, States}
+use Rattle.model.specs.sheet.Shortest.{bidden, shortest, ShortestIsRead, ShortestIsLeast, SecondChangesNothing}
+use Rattle.model.specs.sheet.Shortest.{ShortestFits}
+use Rattle.model.proofs.Tests.{decide, clash, same-test, lt-no, not-lt}
+use Rattle.model.proofs.Counting.{up, here, sum-mono, sum-strict, count-mono, count-strict}
+use Rattle.model.proofs.Loops.{in-table}
+use Rattle.model.proofs.market.Acceptance.{accepted-iff-within-limits}
+use Rattle.model.proofs.sheet.Holds.{pack-cong}
+use Rattle.model.proofs.sheet.Lengths.{layout-length}
+use Rattle.model.proofs.sheet.Longest.{sheets-are-short}
+use Rattle.model.proofs.sheet.Truth.{states-read}
+
+-- ---- an accepted market's numbers fit their fields
+
+fitting : (t : Tables) → WithinLimits t → Fitting t
+unfolding bidAt
+fitting t w = record {
+  shape = w .shape;
+  ask-fits = λ j l. omega (arith, w .ask-most j l);
+  bays-fit = λ j l. omega (arith, w .bays-most j l);
+  amount-fits = λ i l. omega (arith, w .amount-most i l);
+  bid-fits = λ i j l k.
+      let q : i * length (t .asks) + j < length (t .bids) =
+      omega (arith, in-table (length (t .amounts)) (length (t .asks)) i j l k, w .shape .bids-length) in
+      omega (arith, w .bid-most (i * length (t .asks) + j) q);
+}
+
+no-bid : (t : Tables) (i j : ℕ) → bidden t i j ≡ false → bidAt t i j ≡ 0
+unfolding bidden
+no-bid t i j e = omega (arith, lt-no 0 (bidAt t i j) e)
+
+not-bidden : (t : Tables) (i j : ℕ) → bidAt t i j ≡ 0 → bidden t i j ≡ false
+unfolding bidden
+not-bidden t i j e = not-lt 0 (bidAt t i j) (omega arith)
+
+pub shortest-states : (t : Tables) → Accepted t → States (shortest t) t
+unfolding shortest
+shortest-states t a = record {
+  fitting = fitting t (accepted-iff-within-limits t .0 a);
+  set = bidden t;
+  covers = λ i j _ _ e. no-bid t i j e;
+  is = refl;
+}
+
+pub shortest-is-read : ShortestIsRead
+shortest-is-read t a = states-read (shortest t) t (shortest-states t a)
+
+pub shortest-fits : ShortestFits
+shortest-fits t a = sheets-are-short (shortest t) t (shortest-states t a)
+
+pub second-changes-nothing : SecondChangesNothing
+second-changes-nothing s t u e a f =
+    let g : accepted u ≡ accepted t = sym f ∙ shortest-is-read t a in
+    let h : u ≡ t = cc in (h, ap shortest h)
+
+-- ---- sheets with the same bits are one
+
+joined-cong : (n : ℕ) (f g : ℕ → List ℕ) → ((i : ℕ) → i < n → f i ≡ g i) → joined n f ≡ joined n g
+unfolding joined
+joined-cong zero f g h = refl
+joined-cong (suc n) f g h = ap₂ _++_ (joined-cong n f g (λ i l. h i (up l))) (h n here)
+
+module _ (t : Tables) (a b : ℕ → ℕ → Bool)
+    (same : (i j : ℕ) → i < length (t .amounts) → j < length (t .asks) → a i j ≡ b i j) where
+  row-cong : (i : ℕ) → i < length (t .amounts) → row t a i ≡ row t b i
+  unfolding row
+  row-cong i l =
+      ap₂ (λ x y. bytesOf 2 (getD (t .amounts) i 0) ++ (bytesOf (mapWidth (length (t .asks))) x ++ y))
+      (pack-cong (length (t .asks)) (a i) (b i) (λ j k. same i j l k))
+      (joined-cong (length (t .asks)) (λ j. stated (a i j) (bidAt t i j)) (λ j. stated (b i j) (bidAt t i j))
+      (λ j k. ap (λ c. stated c (bidAt t i j)) (same i j l k)))
+
+  layout-cong : layout t a ≡ layout t b
+  unfolding layout
+  layout-cong =
+      ap (λ x. bytesOf 2 (length (t .amounts))
+      ++ (bytesOf 2 (length (t .asks)) ++ (joined (length (t .asks)) (station t) ++ x)))
+      (joined-cong (length (t .amounts)) (row t a) (row t b) row-cong)
+
+-- ---- no sheet that states the market is shorter
+
+module _ (t : Tables) (set : ℕ → ℕ → Bool)
+    (covers : (i j : ℕ) → i < length (t .amounts) → j < length (t .asks) → set i j ≡ false → bidAt t i j ≡ 0) where
+  abbrev n : ℕ
+  n = length (t .amounts)
+
+  abbrev m : ℕ
+  m = length (t .asks)
+
+  is-set : (i j : ℕ) → i < n → j < m → bidden t i j ≡ true → set i j ≡ true
+  is-set i j l k e =
+      ⊎-elim (λ b. b) (λ b. absurd (clash e (not-bidden t i j (covers i j l k b)))) (decide (set i j))
+
+  bids-at-most : (i : ℕ) → i < n → count m (bidden t i) ≤ count m (set i)
+  bids-at-most i l = count-mono m (bidden t i) (set i) (λ j k. is-set i j l k)
+
+  no-longer : length (layout t (bidden t)) ≤ length (layout t set)
+  no-longer =
+      omega (arith, layout-length t (bidden t), layout-length t set, sum-mono n _ _ bids-at-most)
+
+  -- a bit more is a sheet that is longer
+  longer :
+      (i j : ℕ) → i < n → j < m → bidden t i j ≡ false → set i j ≡ true
+      → length (layout t (bidden t)) < length (layout t set)
+  longer i j l k e b =
+      omega (
+        arith,
+        layout-length t (bidden t),
+        layout-length t set,
+        sum-strict n _ _ bids-at-most i l (count-strict m (bidden t i) (set i) (λ j k. is-set i j l k) j k e b),
+      )
+
+  same-bits : length (layout t set) ≡ length (layout t (bidden t)) → layout t set ≡ layout t (bidden t)
+  same-bits e =
+      layout-cong t set (bidden t) (λ i j l k. same-test (set i j) (bidden t i j)
+      (λ b. ⊎-elim (λ c. c) (λ c. absurd (omega (arith, longer i j l k c b))) (decide (bidden t i j)))
+      (is-set i j l k))
+
+pub shortest-is-least : ShortestIsLeast
+unfolding shortest
+shortest-is-least s t w = rw (w .is) (no-longer t (w .set) (w .covers), same-bits t (w .set) (w .covers))

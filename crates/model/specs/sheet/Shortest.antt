@@ -1,0 +1,47 @@
+-- The shortest sheet that states a market, and the faults of a call that writes it. Document 02, request 1.
+use Prim.Native.Nat.{ℕ, _≤_}
+use mathlib.Core.Bool.{Bool}
+use mathlib.Core.List.{List, [], _∷_, _++_}
+use mathlib.Core.Path.{_≡_}
+use lib.ListN.{length}
+use Rattle.model.specs.Limits.{maxSheet}
+use Rattle.model.specs.Counting.{_<?_}
+use Rattle.model.specs.market.Market.{Tables, bidAt}
+use Rattle.model.specs.market.Faults.{marketFaults, Accepted}
+use Rattle.model.specs.Verdicts.{Row, _gives_, accepted}
+use Rattle.model.specs.sheet.Content.{readSheet}
+use Rattle.model.specs.sheet.Layout.{layout, States}
+
+-- 'with no set bit for a bid of 0'
+unfoldable pub bidden : Tables → (i j : ℕ) → Bool
+bidden t i j = 0 <? bidAt t i j
+
+unfoldable pub shortest : Tables → List ℕ
+shortest t = layout t (bidden t)
+
+-- '14 where the lent output is too short for the sheet, after the clearing's own checks'
+unfoldable pub writingFaults : Tables → (room : ℕ) → List Row
+writingFaults t room = marketFaults t ++ ((room <? length (shortest t) gives 14) ∷ [])
+
+-- ---- what is proved
+
+-- 'Reading its output returns the same market'
+abbrev pub ShortestIsRead : Type 0
+ShortestIsRead = (t : Tables) → Accepted t → readSheet (shortest t) ≡ accepted t
+
+-- 'Where a sheet states an accepted market, writing what was read is never longer than that sheet'; as long it is that
+-- sheet
+abbrev pub ShortestIsLeast : Type 0
+ShortestIsLeast =
+    (s : List ℕ) (t : Tables) → States s t
+    → (length (shortest t) ≤ length s) × (length s ≡ length (shortest t) → s ≡ shortest t)
+
+-- 'a second reading and writing alters nothing'
+abbrev pub SecondChangesNothing : Type 0
+SecondChangesNothing =
+    (s : List ℕ) (t u : Tables) → readSheet s ≡ accepted t → Accepted t → readSheet (shortest t) ≡ accepted u
+    → (u ≡ t) × (shortest u ≡ shortest t)
+
+-- an output as long as the largest sheet is never too short
+abbrev pub ShortestFits : Type 0
+ShortestFits = (t : Tables) → Accepted t → length (shortest t) ≤ maxSheet
