@@ -6,7 +6,7 @@ use native.Mathlib.Omega.{arith}
 use lib.ListN.{length, take, length-take}
 use Rattle.model.specs.Verdicts.{accepted, refused}
 use Rattle.model.specs.market.Market.{Tables, tables}
-use Rattle.report.specs.Wrote.{Wrote}
+use Rattle.sheet.specs.Wrote.{Wrote}
 use Rattle.model.specs.text.Text.{refusalText}
 use Rattle.model.specs.sheet.Content.{readSheet, tablesOf}
 use Rattle.model.specs.contracts.Reads.{lentTables}

@@ -1,3 +1,2 @@
 pub mod Decimal
 pub mod Fields
-pub mod Writing

@@ -4,7 +4,7 @@ ghost use Prim.Native.Nat.{_<_, _≤_, _^_};
 ghost use mathlib.Core.Path.{_≡_};
 ghost use lib.ListN.{length};
 ghost use Rattle.model.specs.Limits.{maxGuests, maxStations};
-ghost use Rattle.report.specs.Wrote.{Wrote};
+ghost use Rattle.sheet.specs.Wrote.{Wrote};
 ghost use Rattle.model.specs.text.Lines.{guestLine, stationLine, guestLines, stationLines};
 
 fn guest_line(out: &mut [u8], at: usize, guest: u64, station: u64, charge: u64) -> usize

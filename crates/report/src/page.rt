@@ -10,7 +10,7 @@ ghost use lib.ListN.{length};
 ghost use Rattle.model.specs.Limits.{maxGuests, maxStations};
 ghost use Rattle.model.specs.Numbers.{number as numberOf};
 ghost use Rattle.model.specs.market.Outcome.{outcomeOf};
-ghost use Rattle.report.specs.Wrote.{Wrote};
+ghost use Rattle.sheet.specs.Wrote.{Wrote};
 ghost use Rattle.model.specs.text.Text.{text, refusalText};
 
 pub fn refusal_text(refusal: Refusal, out: &mut [u8]) -> usize

@@ -3,7 +3,7 @@ ghost use Prim.Native.Nat.{ℕ, _+_, _<_, _^_};
 ghost use mathlib.Core.List.{_∷_, []};
 ghost use lib.ListN.{length};
 ghost use Rattle.model.specs.text.Decimal.{digits, field};
-ghost use Rattle.report.specs.Wrote.{Wrote};
+ghost use Rattle.sheet.specs.Wrote.{Wrote};
 
 // A byte at a place, if the buffer reaches that far.
 pub fn put(out: &mut [u8], at: usize, b: u8) -> usize

@@ -1,11 +1,17 @@
-// The reader of market sheets: whatever bytes arrive, the market that they state or the refusal of their first fault.
+// Market sheets. The reader: whatever bytes arrive, the market that they state or the refusal of their first fault. The
+// writer: the shortest sheet that states an accepted market.
 mod checking;
 mod fields;
 mod filling;
 mod passes;
+mod putting;
+mod writing;
 
 use crate::fields::Cursor;
+use checks::faults;
 use model::answers::Reading;
+use model::answers::Verdict;
+use model::answers::Writing;
 use model::limits::MAX_BIDS;
 use model::limits::MAX_GUESTS;
 use model::limits::MAX_STATIONS;
@@ -13,6 +19,8 @@ use model::refusal::Refusal;
 ghost use mathlib.Core.Path.{_≡_};
 ghost use Rattle.model.specs.Verdicts.{_gives_};
 ghost use Rattle.model.specs.contracts.Reads.{lentTables, tableLengths, Reads};
+ghost use Rattle.model.specs.contracts.Writes.{Writes};
+ghost use Rattle.model.specs.market.Market.{tables};
 
 fn table_lengths_differ(amounts: usize, asks: usize, bays: usize, bids: usize) -> bool
     ensures { λ r. ⌜ tableLengths amounts asks bays bids ≡ (r gives 10) ⌝ }
@@ -44,5 +52,32 @@ pub fn read(
             Reading::Read { guests, stations }
         }
         Reading::Refused(r) => Reading::Refused(r),
+    }
+}
+
+// Writes the shortest sheet that states a market over the first places of the output, or refuses and writes nothing.
+// The length is known before a byte is written.
+pub fn write(
+    asks: &[u32],
+    bays: &[u16],
+    amounts: &[u16],
+    bids: &[u32],
+    width: usize,
+    out: &mut [u8],
+) -> Writing
+    ensures { λ r. ⌜ Writes
+        (tables (now (asks .entry)) (now (bays .entry)) (now (amounts .entry)) (now (bids .entry)) width)
+        (now (out .entry)) r (now (out .exit)) ⌝ }
+{
+    match faults::market_fault(asks, bays, amounts, bids, width) {
+        Verdict::Refused(refusal) => Writing::Refused(refusal),
+        Verdict::Accepted => {
+            let length = writing::sheet_length(asks, bays, amounts, bids);
+            if out.len() < length {
+                return Writing::Refused(Refusal::OutputTooShort);
+            }
+            writing::put_sheet(asks, bays, amounts, bids, out);
+            Writing::Written { length }
+        }
     }
 }

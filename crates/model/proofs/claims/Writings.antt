@@ -40,11 +40,10 @@ first-places xs l n e =
 gave : (t : Tables) (s : List ℕ) → Gave t s → Accepted t × (s ≡ shortest t)
 unfolding writeVerdict written
 gave t s g =
-    let (v, long) = gave-accepted _ _ _ (sym (g .called .answered) ∙ g .answered) in
-    (
+    let (v, long) = gave-accepted _ _ _ (sym (g .called .answered) ∙ g .answered) in (
       writing-accepted-iff-within-limits t _ .0 v .0,
       g .is ∙ ap (take (length s)) (g .called .left ∙ updated-accepted _ _ v)
-      ∙ first-places (shortest t) (g .entry) (length s) (sym long),
+          ∙ first-places (shortest t) (g .entry) (length s) (sym long),
     )
 
 -- ---- what a call of `read` took

@@ -1,15 +1,13 @@
 -- Lines: what they are made of, and how long they are at most.
 use Prim.Native.Nat.{ℕ, zero, suc, _+_, _*_, _≤_}
 use mathlib.Core.List.{List, _++_}
-use native.Mathlib.Nat.{le-antisymm}
-use native.Mathlib.Numerals.{add-one}
 use native.Mathlib.Omega.{arith}
 use lib.ListN.{length, length-append}
 use Rattle.model.specs.Counting.{joined}
 use Rattle.model.specs.text.Decimal.{field}
-use Rattle.report.specs.Wrote.{Wrote}
+use Rattle.sheet.specs.Wrote.{Wrote}
 use Rattle.report.proofs.text.Fields.{length-field}
-use Rattle.report.proofs.text.Writing.{wrote-then}
+use Rattle.sheet.proofs.Wrote.{wrote-then}
 use Rattle.model.specs.text.Lines.{guestWord, atStationWord, chargeWord, stationWord, soldWord, paidWord, lineEnd}
 use Rattle.model.specs.text.Lines.{guestLine, stationLine, guestLines, stationLines}
 
@@ -39,17 +37,6 @@ module _ (f : ℕ → List ℕ) (b : ℕ) (short : (k : ℕ) → length (f k) �
   unfolding joined
   length-joined zero = omega arith
   length-joined (suc n) = omega (arith, length-append (joined n f) (f n), length-joined n, short n)
-
-pub wrote-joined :
-    (f : ℕ → List ℕ) {l l′ l″ : List ℕ} {p q r : ℕ} (k : ℕ) → Wrote l p (joined k f) l′ q → Wrote l′ q (f k) l″ r
-    → Wrote l p (joined (k + 1) f) l″ r
-unfolding joined
-wrote-joined f k a b = rw add-one (wrote-then a b)
-
-pub wrote-lines :
-    (f : ℕ → List ℕ) {l l′ : List ℕ} {p q k n : ℕ} → Wrote l p (joined k f) l′ q → k ≤ n → n ≤ k
-    → Wrote l p (joined n f) l′ q
-wrote-lines f a h g = rw (le-antisymm g h) a
 
 guest-short : (g s c : ℕ) → length (guestLine g s c) ≤ 84
 unfolding guestLine

@@ -11,9 +11,9 @@ use Rattle.model.specs.market.Outcome.{Results, Outcome, outcomeBy, screened, o
 use Rattle.model.specs.market.Faults.{verdict}
 use Rattle.model.proofs.Counting.{length-list}
 use Rattle.model.specs.text.Decimal.{field}
-use Rattle.report.specs.Wrote.{Wrote}
+use Rattle.sheet.specs.Wrote.{Wrote}
 use Rattle.report.proofs.text.Fields.{length-field}
-use Rattle.report.proofs.text.Writing.{wrote-all}
+use Rattle.sheet.proofs.Wrote.{wrote-all}
 use Rattle.model.specs.text.Lines.{lineEnd, guestLines, stationLines}
 use Rattle.report.proofs.lines.Lines.{length-guest-lines, length-station-lines}
 use Rattle.model.specs.text.Text.{cutWord, marginWord, refusedWord, text, refusalText}

@@ -10,8 +10,8 @@ use lib.ListN.{length, length-append}
 use Rattle.model.specs.Counting.{_<?_}
 use Rattle.model.proofs.Tests.{is-lt, not-lt}
 use Rattle.model.specs.text.Decimal.{higher, digits, decimal}
-use Rattle.report.specs.Wrote.{Wrote}
-use Rattle.report.proofs.text.Writing.{wrote-then}
+use Rattle.sheet.specs.Wrote.{Wrote}
+use Rattle.sheet.proofs.Wrote.{wrote-then}
 
 length-higher : (b : Bool) (ds : List ℕ) → length (higher b ds) ≤ length ds
 unfolding higher

@@ -4,9 +4,9 @@ use mathlib.Core.List.{List}
 use native.Mathlib.Omega.{arith}
 use lib.ListN.{length, length-append}
 use Rattle.model.specs.text.Decimal.{digits, decimal, field}
-use Rattle.report.specs.Wrote.{Wrote}
+use Rattle.sheet.specs.Wrote.{Wrote}
 use Rattle.report.proofs.text.Decimal.{length-decimal, word-digits}
-use Rattle.report.proofs.text.Writing.{wrote-then}
+use Rattle.sheet.proofs.Wrote.{wrote-then}
 
 -- a word and then a number of 64 bits
 pub wrote-field :

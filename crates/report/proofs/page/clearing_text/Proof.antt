@@ -1,7 +1,7 @@
 use native.Mathlib.Omega.{arith}
 use borrow.Author.Needs.{needs}
 use Rattle.report.proofs.text.Fields.{field-end}
-use Rattle.report.proofs.text.Writing.{wrote-then}
+use Rattle.sheet.proofs.Wrote.{wrote-then}
 use Rattle.report.proofs.lines.Lines.{guest-lines-end, station-lines-end}
 use Rattle.model.specs.text.Text.{text}
 use Rattle.report.proofs.page.clearing_text.Statement.{statement}

@@ -1,7 +1,7 @@
 use native.Mathlib.Omega.{arith}
 use borrow.Author.Needs.{needs}
 use Rattle.report.proofs.text.Fields.{field-end}
-use Rattle.report.proofs.text.Writing.{wrote-then}
+use Rattle.sheet.proofs.Wrote.{wrote-then}
 use Rattle.model.specs.text.Text.{refusalText}
 use Rattle.report.proofs.page.refusal_text.Statement.{statement}
 use Rattle.report.proofs.page.refusal_text.Tie as tie

@@ -1,5 +1,5 @@
 use borrow.Author.Needs.{needs}
-use Rattle.report.proofs.text.Writing.{wrote-byte, wrote-past}
+use Rattle.sheet.proofs.Wrote.{wrote-byte, wrote-past}
 use Rattle.report.proofs.text.put.Statement.{statement}
 use Rattle.report.proofs.text.put.Tie as tie
 

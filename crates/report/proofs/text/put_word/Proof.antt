@@ -2,8 +2,8 @@ use Prim.Native.Nat.{_≤_, _-_}
 use native.Mathlib.Omega.{arith}
 use lib.ListN.{length, take, length-take}
 use borrow.Author.Needs.{needs}
-use Rattle.report.specs.Wrote.{Wrote}
-use Rattle.report.proofs.text.Writing.{wrote-none, wrote-next, wrote-word}
+use Rattle.sheet.specs.Wrote.{Wrote}
+use Rattle.sheet.proofs.Wrote.{wrote-none, wrote-next, wrote-word}
 use Rattle.report.proofs.text.put_word.Statement.{statement}
 use Rattle.report.proofs.text.put_word.Tie as tie
 

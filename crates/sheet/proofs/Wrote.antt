@@ -1,17 +1,18 @@
 -- Laws of writing into a buffer: nothing, one byte, one text after another, and the whole.
-use Prim.Native.Nat.{ℕ, _+_, _-_, _<_, _≤_, min}
+use Prim.Native.Nat.{ℕ, zero, suc, _+_, _-_, _<_, _≤_, min}
 use mathlib.Core.List.{List, [], _∷_, _++_}
 use mathlib.Core.Logic.{⊎-elim}
 use mathlib.Core.Path.{_≡_, refl, sym, ap, ap₂, _∙_}
-use native.Mathlib.Nat.{zero-add, min-eq-left, min-eq-right}
+use native.Mathlib.Nat.{zero-add, min-eq-left, min-eq-right, le-antisymm, le-of-suc-le-suc, eq-or-lt-of-le}
 use native.Mathlib.Numerals.{add-one}
 use native.Mathlib.Omega.{arith}
 use lib.ListN.{getD, length, set, take, drop, length-set, length-append, length-take, length-drop, List·getD-append}
 use lib.ListN.{drop-of-length-le}
 use lib.Seq.{take-all, take-suc, getD-set-same, getD-set-other, getD-append-add, getD-take, getD-drop, ext-getD}
 use lib.Seq.{paste}
+use Rattle.model.specs.Counting.{joined}
 use Rattle.model.proofs.Tests.{lt-or-le}
-use Rattle.report.specs.Wrote.{Wrote}
+use Rattle.sheet.specs.Wrote.{Wrote}
 
 pub wrote-none : (l : List ℕ) (p : ℕ) → Wrote l p [] l p
 wrote-none l p =
@@ -48,6 +49,47 @@ wrote-then {l} {l′} {l″} {t} {u} {p} {q} {r} a b = record {
   high = λ k c. b .high k (omega (arith, a .next, length-append t u)) ∙ a .high k (omega (arith, length-append t u));
   next = omega (arith, a .next, b .next, length-append t u);
 }
+
+-- where both have room, each has
+pub room-for-first : (t u : List ℕ) (p : ℕ) {n : ℕ} → p + length (t ++ u) ≤ n → p + length t ≤ n
+room-for-first t u p h = omega (arith, length-append t u)
+
+pub room-for-second :
+    {l l′ t : List ℕ} (u : List ℕ) {p q : ℕ} → Wrote l p t l′ q → p + length (t ++ u) ≤ length l
+    → q + length u ≤ length l′
+room-for-second {t = t} u w h = omega (arith, w .same, w .next, length-append t u)
+
+-- lists one after the other
+pub wrote-joined :
+    (f : ℕ → List ℕ) {l l′ l″ : List ℕ} {p q r : ℕ} (k : ℕ) → Wrote l p (joined k f) l′ q → Wrote l′ q (f k) l″ r
+    → Wrote l p (joined (k + 1) f) l″ r
+unfolding joined
+wrote-joined f k a b = rw add-one (wrote-then a b)
+
+pub wrote-all-joined :
+    (f : ℕ → List ℕ) {l l′ : List ℕ} {p q k n : ℕ} → Wrote l p (joined k f) l′ q → k ≤ n → n ≤ k
+    → Wrote l p (joined n f) l′ q
+wrote-all-joined f a h g = rw (le-antisymm g h) a
+
+pub wrote-none-joined : (f : ℕ → List ℕ) (l : List ℕ) (p : ℕ) → Wrote l p (joined 0 f) l p
+unfolding joined
+wrote-none-joined f l p = wrote-none l p
+
+-- where all of them have room, the next one has
+pub joined-up : (f : ℕ → List ℕ) (n k : ℕ) → k ≤ n → length (joined k f) ≤ length (joined n f)
+unfolding joined
+joined-up f zero k h = let e : k ≡ 0 = omega arith in rw e (omega arith)
+joined-up f (suc n) k h = ⊎-elim
+    (λ (e : k ≡ suc n). rw e (omega arith))
+    (λ (l : k < suc n). omega (arith, joined-up f n k (le-of-suc-le-suc l), length-append (joined n f) (f n)))
+    (eq-or-lt-of-le h)
+
+pub room-for-next :
+    (f : ℕ → List ℕ) {l l′ : List ℕ} {p q k n : ℕ} → Wrote l p (joined k f) l′ q → k < n
+    → p + length (joined n f) ≤ length l → q + length (f k) ≤ length l′
+unfolding joined
+room-for-next f {l} {l′} {p} {q} {k} {n} w h room =
+    omega (arith, w .same, w .next, joined-up f n (suc k) h, length-append (joined k f) (f k))
 
 -- a word, byte by byte
 pub wrote-next :
@@ -109,3 +151,8 @@ reaches l t = ⊎-elim longer shorter (lt-or-le (length l) (length t))
 pub wrote-all :
     (l t l′ : List ℕ) (q : ℕ) → Wrote l 0 t l′ q → l′ ≡ paste l 0 t (min (length t) (length l))
 wrote-all l t l′ q w = wrote-over l t l′ q w ∙ reaches l t
+
+-- and where the buffer has room for it
+pub wrote-whole :
+    (l t l′ : List ℕ) (q : ℕ) → Wrote l 0 t l′ q → length t ≤ length l → l′ ≡ paste l 0 t (length t)
+wrote-whole l t l′ q w h = wrote-all l t l′ q w ∙ ap (paste l 0 t) (min-eq-left h)

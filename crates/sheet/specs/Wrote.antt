@@ -1,4 +1,4 @@
--- What the functions that write promise each other.
+-- What functions that write into a lent buffer promise each other.
 use Prim.Native.Nat.{ℕ, _+_, _<_, _≤_}
 use mathlib.Core.List.{List}
 use mathlib.Core.Path.{_≡_}

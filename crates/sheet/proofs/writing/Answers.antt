@@ -1,0 +1,76 @@
+-- The answers of `write`.
+use Prim.Native.Nat.{ℕ, _<_, _≤_}
+use mathlib.Core.List.{List}
+use mathlib.Core.Path.{_≡_, refl, sym, ap, _∙_}
+use lib.ListN.{length}
+use Rattle.model.specs.declared.refusal.Refusal.{Refusal}
+use Rattle.model.specs.declared.refusal.Refusal.the-variants.{OutputTooShort}
+use Rattle.model.specs.declared.answers.Writing.the-variants.{Written, Refused}
+use Rattle.model.specs.Numbers.{number, answerOfWriting}
+use Rattle.model.specs.Verdicts.{accepted, refused}
+use Rattle.model.specs.market.Market.{Tables, tables, regular}
+use Rattle.model.specs.market.Faults.{marketFaults, verdict}
+use Rattle.model.specs.market.Shape.{Shaped}
+use Rattle.model.specs.claims.Meaning.{WithinLimits}
+use Rattle.model.specs.sheet.Shortest.{shortest, writingFaults}
+use Rattle.model.specs.contracts.Writes.{writeVerdict, written, Writes}
+use Rattle.model.proofs.Tests.{is-lt, not-lt}
+use Rattle.model.proofs.Verdicts.{fault-none, fault-here, fault-first, fault-second, fault-free, giving-accepted}
+use Rattle.model.proofs.Verdicts.{giving-refused, updated-accepted, updated-refused}
+use Rattle.model.proofs.market.Acceptance.{accepted-iff-within-limits}
+use Rattle.sheet.specs.Wrote.{Wrote}
+use Rattle.sheet.proofs.Wrote.{wrote-whole}
+
+refuses : (t : Tables) (out : List ℕ) (x : Refusal) → writeVerdict t out ≡ refused (number x) → Writes t out (Refused x) out
+unfolding answerOfWriting
+refuses t out x e = record { answered = sym (giving-refused _ _ e); left = sym (updated-refused _ _ _ e) }
+
+pub refuses-market :
+    (t : Tables) (out : List ℕ) (x : Refusal) → verdict t ≡ refused (number x) → Writes t out (Refused x) out
+unfolding writeVerdict writingFaults verdict
+refuses-market t out x e = refuses t out x (fault-first (marketFaults t) _ e)
+
+-- an accepted market's rows are as wide as there are stations
+module _ (asks bays amounts bids : List ℕ) (width : ℕ) (out : List ℕ)
+    (a : verdict (tables asks bays amounts bids width) ≡ accepted tt) where
+  abbrev t : Tables
+  t = tables asks bays amounts bids width
+
+  abbrev r : Tables
+  r = regular asks bays amounts bids
+
+  shape : Shaped t
+  shape = accepted-iff-within-limits t .0 a .shape
+
+  pub shaped : Shaped r
+  shaped = record {
+    guests-most = shape .guests-most;
+    stations-least = shape .stations-least;
+    stations-most = shape .stations-most;
+    bays-length = shape .bays-length;
+    bids-length = shape .bids-length;
+    width-is = refl;
+  }
+
+  same-sheet : shortest r ≡ shortest t
+  same-sheet = ap (λ w. shortest (tables asks bays amounts bids w)) (sym (shape .width-is))
+
+  pub refuses-short : {k : ℕ} → k ≡ length (shortest r) → length out < k → Writes t out (Refused OutputTooShort) out
+  unfolding writeVerdict writingFaults verdict
+  refuses-short e h =
+      refuses t out OutputTooShort (fault-second (marketFaults t) _ a
+      ∙ fault-here _ (is-lt _ _ (rw (e ∙ ap length same-sheet) at h)))
+
+  pub writes :
+      {k q : ℕ} {out′ : List ℕ} → k ≡ length (shortest r) → k ≤ length out → Wrote out 0 (shortest r) out′ q
+      → Writes t out (Written k) out′
+  unfolding writeVerdict writingFaults verdict answerOfWriting written
+  writes {k} {q} {out′} e h w =
+      let long = e ∙ ap length same-sheet in
+      let room : length (shortest t) ≤ length out = rw long at h in
+      let v : writeVerdict t out ≡ accepted tt = fault-second (marketFaults t) _ a
+      ∙ fault-free _ _ (not-lt _ _ room) fault-none in
+      record {
+        answered = ap accepted long ∙ sym (giving-accepted _ v);
+        left = wrote-whole out (shortest t) out′ q (rw same-sheet at w) room ∙ sym (updated-accepted _ _ v);
+      }

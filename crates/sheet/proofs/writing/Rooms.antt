@@ -1,0 +1,72 @@
+-- The parts of a shortest sheet, and how long they are.
+use Prim.Native.Nat.{ℕ, _+_, _*_, _<_, _≤_}
+use mathlib.Core.List.{List, [], _++_}
+use mathlib.Core.Path.{_≡_, refl, sym, ap, _∙_}
+use native.Mathlib.Nat.{mul-le-mul-right}
+use native.Mathlib.Omega.{arith}
+use lib.ListN.{length, getD}
+use Rattle.model.specs.Limits.{maxBids}
+use Rattle.model.specs.Counting.{_<?_, count, joined}
+use Rattle.model.specs.market.Market.{Tables, regular, bidAt}
+use Rattle.model.specs.market.Shape.{Shaped}
+use Rattle.model.specs.sheet.Fields.{mapWidth}
+use Rattle.model.specs.sheet.Layout.{bytesOf, stated, station, row, layout}
+use Rattle.model.specs.sheet.Shortest.{bidden, shortest}
+use Rattle.model.proofs.market.Acceptance.{product-fits}
+use Rattle.model.proofs.sheet.Lengths.{rowHead, shortest-length}
+use Rattle.model.proofs.Tests.{is-lt, not-lt}
+use Rattle.model.proofs.sheet.Holds.{bytes-length}
+use Rattle.sheet.specs.Laid.{stationBytes, stationOf, bidsFrom, bidField, rowMap, rowBytes, rowOf}
+
+-- the field of a bid, which a bid of 0 has not
+pub field-of-bid : (x : ℕ) → 0 < x → bidField x ≡ bytesOf 4 x
+unfolding bidField stated
+field-of-bid x h = ap (λ b. stated b x) (is-lt 0 x h)
+
+pub no-field : (x : ℕ) → x ≤ 0 → bidField x ≡ []
+unfolding bidField stated
+no-field x h = ap (λ b. stated b x) (not-lt 0 x h)
+
+pub field-size : (x : ℕ) → 0 < x → length (bidField x) ≡ 4
+field-size x h = ap length (field-of-bid x h) ∙ bytes-length 4 x
+
+-- the parts in their order
+abbrev pub stationsPart : (asks bays : List ℕ) → List ℕ
+stationsPart asks bays = joined (length asks) (stationOf asks bays)
+
+abbrev pub rowsPart : (asks amounts bids : List ℕ) → List ℕ
+rowsPart asks amounts bids = joined (length amounts) (rowOf amounts bids (length asks))
+
+abbrev pub sheetParts : (asks bays amounts bids : List ℕ) → List ℕ
+sheetParts asks bays amounts bids =
+    bytesOf 2 (length amounts) ++ (bytesOf 2 (length asks) ++ (stationsPart asks bays ++ rowsPart asks amounts bids))
+
+pub sheet-parts :
+    (asks bays amounts bids : List ℕ) → shortest (regular asks bays amounts bids) ≡ sheetParts asks bays amounts bids
+unfolding shortest layout station row bidden bidAt stationOf stationBytes rowOf rowBytes rowMap bidsFrom bidField
+sheet-parts asks bays amounts bids = refl
+
+pub room-for-parts :
+    (asks bays amounts bids : List ℕ) {n : ℕ} → length (shortest (regular asks bays amounts bids)) ≤ n
+    → 0 + length (sheetParts asks bays amounts bids) ≤ n
+room-for-parts asks bays amounts bids h = omega (arith, ap length (sheet-parts asks bays amounts bids))
+
+-- what its length is added up from
+pub record Sizes (t : Tables) : Type 0 where
+  pub head-low : rowHead (length (t .asks)) ≤ 7
+  pub heads-low : length (t .amounts) * rowHead (length (t .asks)) ≤ 1400
+  pub bids-low : length (t .bids) ≤ maxBids
+
+pub sizes : (t : Tables) → Shaped t → Sizes t
+unfolding mapWidth
+sizes t s = record {
+  head-low = omega (arith, s .stations-most);
+  heads-low = omega (arith, s .stations-most, mul-le-mul-right (rowHead (length (t .asks))) (s .guests-most));
+  bids-low = omega (arith, s .bids-length, product-fits _ _ (s .guests-most) (s .stations-most));
+}
+
+pub by-count :
+    (t : Tables) (w k : ℕ) → Shaped t → w ≡ mapWidth (length (t .asks))
+    → k ≡ count (length (t .bids)) (λ k. 0 <? getD (t .bids) k 0)
+    → 4 + length (t .asks) * 6 + (length (t .amounts) * (2 + w) + 4 * k) ≡ length (shortest t)
+by-count t w k s e f = rw (e, f, s .bids-length) (sym (shortest-length t))

@@ -1,0 +1,32 @@
+-- The parts of a shortest sheet, as the functions that write them see them. Nothing that `sheet::write` promises depends
+-- on this file.
+use Prim.Native.Nat.{ℕ, _+_, _*_}
+use mathlib.Core.List.{List, _++_}
+use lib.ListN.{getD}
+use Rattle.model.specs.Counting.{_<?_, joined}
+use Rattle.model.specs.sheet.Fields.{mapWidth}
+use Rattle.model.specs.sheet.Layout.{bytesOf, pack, stated}
+
+unfoldable pub stationBytes : (ask bays : ℕ) → List ℕ
+stationBytes ask bays = bytesOf 4 ask ++ bytesOf 2 bays
+
+unfoldable pub stationOf : (asks bays : List ℕ) → ℕ → List ℕ
+stationOf asks bays j = stationBytes (getD asks j 0) (getD bays j 0)
+
+-- the bids of a row, from a place of the bid table on
+unfoldable pub bidsFrom : (bids : List ℕ) (base : ℕ) → ℕ → ℕ
+bidsFrom bids base j = getD bids (base + j) 0
+
+-- a field for a bid that is not 0
+unfoldable pub bidField : ℕ → List ℕ
+bidField x = stated (0 <? x) x
+
+unfoldable pub rowMap : (m : ℕ) (bid : ℕ → ℕ) → ℕ
+rowMap m bid = pack m (λ j. 0 <? bid j)
+
+unfoldable pub rowBytes : (amount m : ℕ) (bid : ℕ → ℕ) → List ℕ
+rowBytes amount m bid =
+    bytesOf 2 amount ++ (bytesOf (mapWidth m) (rowMap m bid) ++ joined m (λ j. bidField (bid j)))
+
+unfoldable pub rowOf : (amounts bids : List ℕ) (m i : ℕ) → List ℕ
+rowOf amounts bids m i = rowBytes (getD amounts i 0) m (bidsFrom bids (i * m))

@@ -1,0 +1,164 @@
+// The writer's parts: how long the shortest sheet of a market is, and its bytes from the first to the last. What is
+// required is a market within the limits and an output with room for what is written.
+use crate::fields;
+use crate::putting;
+ghost use Prim.Native.Nat.{_+_, _*_, _≤_};
+ghost use mathlib.Core.Path.{_≡_};
+ghost use lib.ListN.{getD, length};
+ghost use Rattle.model.specs.Limits.{maxGuests, maxStations, maxBids};
+ghost use Rattle.model.specs.Counting.{_<?_, only, count, joined};
+ghost use Rattle.model.specs.sheet.Shortest.{shortest};
+ghost use Rattle.model.specs.market.Market.{regular};
+ghost use Rattle.model.specs.market.Shape.{Shaped};
+ghost use Rattle.sheet.specs.Laid.{stationBytes, stationOf, bidsFrom, bidField, rowMap, rowBytes, rowOf};
+ghost use Rattle.sheet.specs.Wrote.{Wrote};
+
+// How many bids are not 0.
+fn count_bids(bids: &[u32]) -> u32
+    requires { ⌜ length (now bids) ≤ maxBids ⌝ }
+    ensures { λ r. ⌜ r ≡ count (length (now (bids .entry))) (λ k. 0 <? getD (now (bids .entry)) k 0) ⌝ }
+{
+    let mut n: u32 = 0;
+    let mut k = 0;
+    while k < bids.len() {
+        if 0 < bids[k] {
+            n += 1;
+        }
+        k += 1;
+    }
+    n
+}
+
+// The length of the shortest sheet.
+pub fn sheet_length(asks: &[u32], bays: &[u16], amounts: &[u16], bids: &[u32]) -> usize
+    requires { ⌜ Shaped (regular (now asks) (now bays) (now amounts) (now bids)) ⌝ }
+    ensures { λ r. ⌜ r ≡ length (shortest
+        (regular (now (asks .entry)) (now (bays .entry)) (now (amounts .entry)) (now (bids .entry)))) ⌝ }
+{
+    let m = asks.len();
+    let row = 2 + fields::map_width(m);
+    4 + m * 6 + (amounts.len() * row + 4 * (count_bids(bids) as usize))
+}
+
+fn put_station(ask: u32, bays: u16, out: &mut [u8], at: usize) -> usize
+    requires { ⌜ at + length (stationBytes ask bays) ≤ length (now out) ⌝ }
+    ensures { λ r. ⌜ Wrote (now (out .entry)) at (stationBytes ask bays) (now (out .exit)) r ⌝ }
+{
+    let p = putting::put_four(out, at, ask);
+    putting::put_two(out, p, bays)
+}
+
+fn put_stations(asks: &[u32], bays: &[u16], out: &mut [u8], at: usize) -> usize
+    requires { ⌜ (length (now bays) ≡ length (now asks))
+        × (at + length (joined (length (now asks)) (stationOf (now asks) (now bays))) ≤ length (now out)) ⌝ }
+    ensures { λ r. ⌜ Wrote (now (out .entry)) at
+        (joined (length (now (asks .entry))) (stationOf (now (asks .entry)) (now (bays .entry))))
+        (now (out .exit)) r ⌝ }
+{
+    let mut p = at;
+    let mut j = 0;
+    while j < asks.len() {
+        p = put_station(asks[j], bays[j], out, p);
+        j += 1;
+    }
+    p
+}
+
+fn bit(bid: u32) -> u64
+    ensures { λ r. ⌜ r ≡ only (0 <? bid) 1 ⌝ }
+{
+    if 0 < bid { 1 } else { 0 }
+}
+
+// The map of a row: a bit for each bid that is not 0, the last station's first.
+fn row_map(bids: &[u32], base: usize, stations: usize) -> u64
+    requires { ⌜ (stations ≤ maxStations) × (base + stations ≤ length (now bids)) ⌝ }
+    ensures { λ r. ⌜ r ≡ rowMap stations (bidsFrom (now (bids .entry)) base) ⌝ }
+{
+    let mut map: u64 = 0;
+    let mut left = stations;
+    while 0 < left {
+        left -= 1;
+        map = 2 * map + bit(bids[base + left]);
+    }
+    map
+}
+
+fn put_bid(bid: u32, out: &mut [u8], at: usize) -> usize
+    requires { ⌜ at + length (bidField bid) ≤ length (now out) ⌝ }
+    ensures { λ r. ⌜ Wrote (now (out .entry)) at (bidField bid) (now (out .exit)) r ⌝ }
+{
+    if 0 < bid {
+        return putting::put_four(out, at, bid);
+    }
+    at
+}
+
+fn put_bids(bids: &[u32], base: usize, stations: usize, out: &mut [u8], at: usize) -> usize
+    requires { ⌜ (base + stations ≤ length (now bids))
+        × (at + length (joined stations (λ j. bidField (bidsFrom (now bids) base j))) ≤ length (now out)) ⌝ }
+    ensures { λ r. ⌜ Wrote (now (out .entry)) at
+        (joined stations (λ j. bidField (bidsFrom (now (bids .entry)) base j))) (now (out .exit)) r ⌝ }
+{
+    let mut p = at;
+    let mut j = 0;
+    while j < stations {
+        p = put_bid(bids[base + j], out, p);
+        j += 1;
+    }
+    p
+}
+
+fn put_row(
+    amount: u16,
+    bids: &[u32],
+    base: usize,
+    stations: usize,
+    out: &mut [u8],
+    at: usize,
+) -> usize
+    requires { ⌜ (stations ≤ maxStations) × (base + stations ≤ length (now bids))
+        × (at + length (rowBytes amount stations (bidsFrom (now bids) base)) ≤ length (now out)) ⌝ }
+    ensures { λ r. ⌜ Wrote (now (out .entry)) at (rowBytes amount stations (bidsFrom (now (bids .entry)) base))
+        (now (out .exit)) r ⌝ }
+{
+    let p = putting::put_two(out, at, amount);
+    let q = putting::put_bytes(
+        out,
+        p,
+        fields::map_width(stations),
+        row_map(bids, base, stations),
+    );
+    put_bids(bids, base, stations, out, q)
+}
+
+fn put_rows(amounts: &[u16], bids: &[u32], stations: usize, out: &mut [u8], at: usize) -> usize
+    requires { ⌜ (stations ≤ maxStations) × (length (now bids) ≡ length (now amounts) * stations)
+        × (at + length (joined (length (now amounts)) (rowOf (now amounts) (now bids) stations))
+        ≤ length (now out)) ⌝ }
+    ensures { λ r. ⌜ Wrote (now (out .entry)) at
+        (joined (length (now (amounts .entry))) (rowOf (now (amounts .entry)) (now (bids .entry)) stations))
+        (now (out .exit)) r ⌝ }
+{
+    let mut p = at;
+    let mut i = 0;
+    while i < amounts.len() {
+        p = put_row(amounts[i], bids, i * stations, stations, out, p);
+        i += 1;
+    }
+    p
+}
+
+// The shortest sheet, over the first places of the output.
+pub fn put_sheet(asks: &[u32], bays: &[u16], amounts: &[u16], bids: &[u32], out: &mut [u8]) -> usize
+    requires { ⌜ Shaped (regular (now asks) (now bays) (now amounts) (now bids))
+        × (length (shortest (regular (now asks) (now bays) (now amounts) (now bids))) ≤ length (now out)) ⌝ }
+    ensures { λ r. ⌜ Wrote (now (out .entry)) 0
+        (shortest (regular (now (asks .entry)) (now (bays .entry)) (now (amounts .entry)) (now (bids .entry))))
+        (now (out .exit)) r ⌝ }
+{
+    let p = putting::put_two(out, 0, amounts.len() as u16);
+    let q = putting::put_two(out, p, asks.len() as u16);
+    let r = put_stations(asks, bays, out, q);
+    put_rows(amounts, bids, asks.len(), out, r)
+}
