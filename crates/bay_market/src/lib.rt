@@ -2,3 +2,4 @@
 mod clear;
 mod post;
 mod read;
+mod write;

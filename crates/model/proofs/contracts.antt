@@ -4,3 +4,4 @@ pub mod ClearsOut
 pub mod Reads
 pub mod ReadsOut
 pub mod Rows
+pub mod WritesOut

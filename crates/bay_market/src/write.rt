@@ -1,0 +1,27 @@
+// The writer for other languages: include/bay_market.h.
+use model::answers::Writing;
+ghost use Rattle.model.specs.market.Market.{tables};
+ghost use Rattle.model.specs.contracts.WritesOut.{WritesOut};
+
+#[no_mangle]
+pub extern "C" fn bay_market_write(
+    asks: &[u32],
+    bays: &[u16],
+    amounts: &[u16],
+    bids: &[u32],
+    width: usize,
+    sheet: &mut [u8],
+    length: &mut usize,
+) -> u8
+    ensures { λ r. ⌜ WritesOut
+        (tables (now (asks .entry)) (now (bays .entry)) (now (amounts .entry)) (now (bids .entry)) width)
+        (now (sheet .entry)) (now (length .entry)) r (now (sheet .exit)) (now (length .exit)) ⌝ }
+{
+    match sheet::write(asks, bays, amounts, bids, width, sheet) {
+        Writing::Refused(refusal) => refusal.number(),
+        Writing::Written { length: written } => {
+            *length = written;
+            0
+        }
+    }
+}
