@@ -7,6 +7,7 @@ use pricing::charges;
 ghost use mathlib.Core.Path.{_≡_};
 ghost use lib.ListN.{length};
 ghost use Rattle.model.specs.market.Market.{regular};
+ghost use Rattle.model.specs.contracts.Lent.{regularIn};
 ghost use Rattle.allocation.specs.Stages.{AtCut, AfterIn, Turned};
 ghost use Rattle.allocation.specs.Assignment.{Assigned};
 
@@ -27,8 +28,7 @@ fn all_stations(
     requires { ⌜ length (now totals) ≡ length (now amounts) ⌝ }
     requires { ⌜ AfterIn (regular (now asks) (now bays) (now amounts) (now bids)) 0
         (now chosen) (now gains) (now criticals) ⌝ }
-    ensures { λ _. ⌜ (let t =
-        regular (now (asks .entry)) (now (bays .entry)) (now (amounts .entry)) (now (bids .entry)) in
+    ensures { λ _. ⌜ (let t = regularIn asks bays amounts bids in
         Turned t (cut .0) (length (t .asks)) (now (totals .entry))
         (now (totals .exit)) (now (chosen .exit)) (now (gains .exit)) (now (criticals .exit))) ⌝ }
 {
@@ -71,8 +71,7 @@ fn assign(
     requires { ⌜ AfterIn (regular (now asks) (now bays) (now amounts) (now bids)) 0
         (now chosen) (now gains) (now criticals) ⌝ }
     requires { ⌜ (length (now stations) ≡ length (now amounts)) × (length (now charges) ≡ length (now amounts)) ⌝ }
-    ensures { λ _. ⌜ (let t =
-        regular (now (asks .entry)) (now (bays .entry)) (now (amounts .entry)) (now (bids .entry)) in
+    ensures { λ _. ⌜ (let t = regularIn asks bays amounts bids in
         Turned t (cut .0) (length (t .asks)) (now (totals .entry))
         (now (totals .exit)) (now (chosen .exit)) (now (gains .exit)) (now (criticals .exit))
         × Assigned t (now (stations .exit)) (now (charges .exit))) ⌝ }
@@ -106,8 +105,7 @@ pub fn assign_all(
 )
     requires { ⌜ AtCut (regular (now asks) (now bays) (now amounts) (now bids)) (cut .0) (now least) ⌝ }
     requires { ⌜ (length (now stations) ≡ length (now amounts)) × (length (now charges) ≡ length (now amounts)) ⌝ }
-    ensures { λ _. ⌜ Assigned
-        (regular (now (asks .entry)) (now (bays .entry)) (now (amounts .entry)) (now (bids .entry)))
+    ensures { λ _. ⌜ Assigned (regularIn asks bays amounts bids)
         (now (stations .exit)) (now (charges .exit)) ⌝ }
 {
     let mut totals = [0u32; MAX_GUESTS];

@@ -1,9 +1,8 @@
 // The clearing for other languages: include/bay_market.h.
 use clearing::view_clearing;
 use model::answers::Clearing;
-ghost use Rattle.model.specs.market.Outcome.{results};
-ghost use Rattle.model.specs.market.Market.{tables};
 ghost use Rattle.model.specs.contracts.ClearsOut.{ClearsOut};
+ghost use Rattle.model.specs.contracts.Lent.{tablesIn, resultsIn, resultsOut};
 
 #[no_mangle]
 pub extern "C" fn bay_market_clear(
@@ -19,12 +18,9 @@ pub extern "C" fn bay_market_clear(
     cut: &mut u32,
     margin: &mut u64,
 ) -> u8
-    ensures { λ r. ⌜ ClearsOut
-        (tables (now (asks .entry)) (now (bays .entry)) (now (amounts .entry)) (now (bids .entry)) width)
-        (results (now (stations .entry)) (now (charges .entry)) (now (sold .entry)) (now (paid .entry)))
-        (now (cut .entry)) (now (margin .entry)) r
-        (results (now (stations .exit)) (now (charges .exit)) (now (sold .exit)) (now (paid .exit)))
-        (now (cut .exit)) (now (margin .exit)) ⌝ }
+    ensures { λ r. ⌜ ClearsOut (tablesIn asks bays amounts bids width)
+        (resultsIn stations charges sold paid) (now (cut .entry)) (now (margin .entry)) r
+        (resultsOut stations charges sold paid) (now (cut .exit)) (now (margin .exit)) ⌝ }
 {
     let answer = view_clearing::clear_through_view(
         asks,

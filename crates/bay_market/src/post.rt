@@ -2,11 +2,10 @@
 use model::account::StationAccount;
 use model::answers::Verdict;
 ghost use mathlib.Core.Path.{_≡_};
-ghost use Rattle.model.specs.market.Market.{tables};
 ghost use Rattle.model.specs.Verdicts.{numberOf};
 ghost use Rattle.model.specs.Numbers.{answerOfVerdict};
 ghost use Rattle.model.specs.book.Posting.{posting};
-ghost use Rattle.model.specs.book.Book.{book};
+ghost use Rattle.model.specs.contracts.Lent.{tablesIn, bookIn, bookOut};
 ghost use Rattle.model.specs.contracts.PostsOut.{PostsOut};
 
 fn reply_number(reply: Verdict) -> u8
@@ -32,11 +31,8 @@ pub extern "C" fn bay_market_post(
     house: &mut u64,
     last: &mut u32,
 ) -> u8
-    ensures { λ k. ⌜ PostsOut
-        (book (now (guests .entry)) (now (stations .entry)) (now (house .entry)) (now (last .entry)))
-        (posting
-        (tables (now (asks .entry)) (now (bays .entry)) (now (amounts .entry)) (now (bids .entry)) width) round)
-        (book (now (guests .exit)) (now (stations .exit)) (now (house .exit)) (now (last .exit))) k ⌝ }
+    ensures { λ k. ⌜ PostsOut (bookIn guests stations house last)
+        (posting (tablesIn asks bays amounts bids width) round) (bookOut guests stations house last) k ⌝ }
 {
     let reply = ledger::post(
         asks,

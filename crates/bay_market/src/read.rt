@@ -1,6 +1,6 @@
 // The reader for other languages: include/bay_market.h.
 use model::answers::Reading;
-ghost use Rattle.model.specs.contracts.Reads.{lentTables};
+ghost use Rattle.model.specs.contracts.Lent.{lentTablesIn, lentTablesOut};
 ghost use Rattle.model.specs.contracts.ReadsOut.{ReadsOut};
 
 #[no_mangle]
@@ -14,10 +14,8 @@ pub extern "C" fn bay_market_read(
     m: &mut u16,
 ) -> u8
     ensures { λ r. ⌜ ReadsOut (now (sheet .entry))
-        (lentTables (now (amounts .entry)) (now (asks .entry)) (now (bays .entry)) (now (bids .entry)))
-        (now (n .entry)) (now (m .entry)) r
-        (lentTables (now (amounts .exit)) (now (asks .exit)) (now (bays .exit)) (now (bids .exit)))
-        (now (n .exit)) (now (m .exit)) ⌝ }
+        (lentTablesIn amounts asks bays bids) (now (n .entry)) (now (m .entry)) r
+        (lentTablesOut amounts asks bays bids) (now (n .exit)) (now (m .exit)) ⌝ }
 {
     let reading = sheet::read(sheet, amounts, asks, bays, bids);
     match reading {

@@ -1,6 +1,6 @@
 // The writer for other languages: include/bay_market.h.
 use model::answers::Writing;
-ghost use Rattle.model.specs.market.Market.{tables};
+ghost use Rattle.model.specs.contracts.Lent.{tablesIn};
 ghost use Rattle.model.specs.contracts.WritesOut.{WritesOut};
 
 #[no_mangle]
@@ -13,8 +13,7 @@ pub extern "C" fn bay_market_write(
     sheet: &mut [u8],
     length: &mut usize,
 ) -> u8
-    ensures { λ r. ⌜ WritesOut
-        (tables (now (asks .entry)) (now (bays .entry)) (now (amounts .entry)) (now (bids .entry)) width)
+    ensures { λ r. ⌜ WritesOut (tablesIn asks bays amounts bids width)
         (now (sheet .entry)) (now (length .entry)) r (now (sheet .exit)) (now (length .exit)) ⌝ }
 {
     match sheet::write(asks, bays, amounts, bids, width, sheet) {

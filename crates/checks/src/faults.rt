@@ -15,8 +15,7 @@ ghost use Rattle.model.specs.Counting.{_=?_, _or_};
 ghost use Rattle.model.specs.Numbers.{answerOfVerdict};
 ghost use Rattle.model.specs.Verdicts.{firstFault};
 ghost use Rattle.model.specs.market.Faults.{counts, lengths, values, verdict, clearingFaults};
-ghost use Rattle.model.specs.market.Market.{regular, tables};
-ghost use Rattle.model.specs.market.Outcome.{results};
+ghost use Rattle.model.specs.contracts.Lent.{tablesIn, regularIn, resultsIn};
 
 fn lengths_differ(n: usize, m: usize, bays: usize, bids: usize, width: usize) -> bool
     requires { ⌜ (n ≤ maxGuests) × (m ≤ maxStations) ⌝ }
@@ -40,8 +39,7 @@ fn list_lengths_differ(
 
 // The first fault of a value: all asks, then all bays, then all amounts, then all bids.
 fn value_fault(asks: &[u32], bays: &[u16], amounts: &[u16], bids: &[u32]) -> Verdict
-    ensures { λ r. ⌜ answerOfVerdict r ≡ firstFault (values
-        (regular (now (asks .entry)) (now (bays .entry)) (now (amounts .entry)) (now (bids .entry)))) ⌝ }
+    ensures { λ r. ⌜ answerOfVerdict r ≡ firstFault (values (regularIn asks bays amounts bids)) ⌝ }
 {
     if scans::any_outside32(asks, 0, MAX_PRICE) {
         return Verdict::Refused(Refusal::AskOutOfRange);
@@ -79,8 +77,7 @@ pub fn market_fault(
     bids: &[u32],
     width: usize,
 ) -> Verdict
-    ensures { λ r. ⌜ answerOfVerdict r ≡ verdict
-        (tables (now (asks .entry)) (now (bays .entry)) (now (amounts .entry)) (now (bids .entry)) width) ⌝ }
+    ensures { λ r. ⌜ answerOfVerdict r ≡ verdict (tablesIn asks bays amounts bids width) ⌝ }
 {
     match size_fault(amounts.len(), asks.len(), bays.len(), bids.len(), width) {
         Verdict::Refused(refusal) => Verdict::Refused(refusal),
@@ -101,8 +98,7 @@ pub fn clearing_fault(
     paid: &[u64],
 ) -> Verdict
     ensures { λ r. ⌜ answerOfVerdict r ≡ firstFault (clearingFaults
-        (tables (now (asks .entry)) (now (bays .entry)) (now (amounts .entry)) (now (bids .entry)) width)
-        (results (now (stations .entry)) (now (charges .entry)) (now (sold .entry)) (now (paid .entry)))) ⌝ }
+        (tablesIn asks bays amounts bids width) (resultsIn stations charges sold paid)) ⌝ }
 {
     let n = amounts.len();
     let m = asks.len();

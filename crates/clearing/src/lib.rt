@@ -15,9 +15,10 @@ ghost use mathlib.Core.Path.{_≡_};
 ghost use lib.ListN.{length};
 ghost use Rattle.model.specs.claims.Meaning.{WithinLimits, RightLengths};
 ghost use Rattle.model.specs.Counting.{list};
-ghost use Rattle.model.specs.market.Market.{market, cut, regular, tables};
+ghost use Rattle.model.specs.market.Market.{market, cut, regular};
 ghost use Rattle.model.specs.market.Outcome.{results};
 ghost use Rattle.model.specs.contracts.Clears.{Clears};
+ghost use Rattle.model.specs.contracts.Lent.{tablesIn, regularIn, resultsIn, resultsOut};
 ghost use Rattle.pricing.specs.Charges.{leastAt};
 ghost use Rattle.clearing.specs.ClearsAccepted.{ClearsAccepted};
 
@@ -37,9 +38,8 @@ fn clear_with_room(
     requires { ⌜ RightLengths (regular (now asks) (now bays) (now amounts) (now bids))
         (results (now stations) (now charges) (now sold) (now paid)) ⌝ }
     requires { ⌜ length (now least) ≡ length (now amounts) ⌝ }
-    ensures { λ r. ⌜ (let t =
-        regular (now (asks .entry)) (now (bays .entry)) (now (amounts .entry)) (now (bids .entry)) in
-        ClearsAccepted t r (results (now (stations .exit)) (now (charges .exit)) (now (sold .exit)) (now (paid .exit)))
+    ensures { λ r. ⌜ (let t = regularIn asks bays amounts bids in
+        ClearsAccepted t r (resultsOut stations charges sold paid)
         × (now (least .exit) ≡ list (length (t .amounts)) (leastAt (t .amounts) (cut (market t))))) ⌝ }
 {
     let cut = cut::cut(asks);
@@ -63,9 +63,7 @@ fn clear_accepted(
     requires { ⌜ WithinLimits (regular (now asks) (now bays) (now amounts) (now bids)) ⌝ }
     requires { ⌜ RightLengths (regular (now asks) (now bays) (now amounts) (now bids))
         (results (now stations) (now charges) (now sold) (now paid)) ⌝ }
-    ensures { λ r. ⌜ ClearsAccepted
-        (regular (now (asks .entry)) (now (bays .entry)) (now (amounts .entry)) (now (bids .entry))) r
-        (results (now (stations .exit)) (now (charges .exit)) (now (sold .exit)) (now (paid .exit))) ⌝ }
+    ensures { λ r. ⌜ ClearsAccepted (regularIn asks bays amounts bids) r (resultsOut stations charges sold paid) ⌝ }
 {
     let mut least = [0u32; MAX_GUESTS];
     let n = amounts.len();
@@ -94,10 +92,8 @@ pub fn clear(
     sold: &mut [u32],
     paid: &mut [u64],
 ) -> Clearing
-    ensures { λ r. ⌜ Clears
-        (tables (now (asks .entry)) (now (bays .entry)) (now (amounts .entry)) (now (bids .entry)) width)
-        (results (now (stations .entry)) (now (charges .entry)) (now (sold .entry)) (now (paid .entry))) r
-        (results (now (stations .exit)) (now (charges .exit)) (now (sold .exit)) (now (paid .exit))) ⌝ }
+    ensures { λ r. ⌜ Clears (tablesIn asks bays amounts bids width) (resultsIn stations charges sold paid) r
+        (resultsOut stations charges sold paid) ⌝ }
 {
     let verdict = faults::clearing_fault(
         asks,

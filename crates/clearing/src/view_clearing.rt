@@ -2,9 +2,9 @@
 use crate::views;
 use crate::views::BidTable;
 use model::answers::Clearing;
-ghost use Rattle.model.specs.market.Outcome.{results};
 ghost use Rattle.model.specs.market.Market.{tables};
 ghost use Rattle.model.specs.contracts.Clears.{Clears};
+ghost use Rattle.model.specs.contracts.Lent.{tablesIn, resultsIn, resultsOut};
 
 // Clears a market whose bids stand in a view, or refuses it and writes nothing: `clear` of what the view holds.
 pub fn clear_table(
@@ -20,8 +20,7 @@ pub fn clear_table(
     ensures { λ r. ⌜ Clears
         (tables (now (asks .entry)) (now (bays .entry)) (now (amounts .entry))
         (now (table .entry .bids)) (table .entry .width))
-        (results (now (stations .entry)) (now (charges .entry)) (now (sold .entry)) (now (paid .entry)))
-        r (results (now (stations .exit)) (now (charges .exit)) (now (sold .exit)) (now (paid .exit))) ⌝ }
+        (resultsIn stations charges sold paid) r (resultsOut stations charges sold paid) ⌝ }
 {
     crate::clear(
         asks,
@@ -49,10 +48,8 @@ pub fn clear_through_view(
     sold: &mut [u32],
     paid: &mut [u64],
 ) -> Clearing
-    ensures { λ r. ⌜ Clears
-        (tables (now (asks .entry)) (now (bays .entry)) (now (amounts .entry)) (now (bids .entry)) width)
-        (results (now (stations .entry)) (now (charges .entry)) (now (sold .entry)) (now (paid .entry))) r
-        (results (now (stations .exit)) (now (charges .exit)) (now (sold .exit)) (now (paid .exit))) ⌝ }
+    ensures { λ r. ⌜ Clears (tablesIn asks bays amounts bids width) (resultsIn stations charges sold paid) r
+        (resultsOut stations charges sold paid) ⌝ }
 {
     clear_table(
         asks,

@@ -7,13 +7,12 @@ use model::limits;
 use model::limits::MAX_GUESTS;
 use model::limits::MAX_STATIONS;
 use model::refusal::Refusal;
-ghost use Rattle.model.specs.market.Market.{tables};
+ghost use Rattle.model.specs.contracts.Lent.{tablesIn};
 ghost use Rattle.ledger.specs.Plans.{Planned};
 
 // The round that the market clears to, or a refused one.
 pub fn plan(asks: &[u32], bays: &[u16], amounts: &[u16], bids: &[u32], width: usize) -> Round
-    ensures { λ r. ⌜ Planned
-        (tables (now (asks .entry)) (now (bays .entry)) (now (amounts .entry)) (now (bids .entry)) width) r ⌝ }
+    ensures { λ r. ⌜ Planned (tablesIn asks bays amounts bids width) r ⌝ }
 {
     let n = amounts.len();
     let m = asks.len();

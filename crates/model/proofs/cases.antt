@@ -1,4 +1,5 @@
 pub mod Cases
+pub mod Computing
 pub mod Example
 pub mod Instances
 pub mod Sheets

@@ -1,5 +1,6 @@
 pub mod Clears
 pub mod ClearsOut
+pub mod Lent
 pub mod Posts
 pub mod PostsOut
 pub mod Prints

@@ -7,9 +7,9 @@ ghost use Prim.Native.Nat.{_≤_};
 ghost use mathlib.Core.Path.{_≡_};
 ghost use lib.ListN.{length};
 ghost use Rattle.model.specs.Limits.{maxGuests, maxStations};
-ghost use Rattle.model.specs.market.Market.{regular};
 ghost use Rattle.model.specs.text.MarketText.{marketTextOf};
 ghost use Rattle.model.specs.contracts.Prints.{Prints};
+ghost use Rattle.model.specs.contracts.Lent.{regularIn};
 
 // The text of a market, by way of lent result lists.
 fn print_cleared(
@@ -26,9 +26,7 @@ fn print_cleared(
     requires { ⌜ (length (now amounts) ≤ maxGuests) × (length (now asks) ≤ maxStations) ⌝ }
     requires { ⌜ (length (now stations) ≡ length (now amounts)) × (length (now charges) ≡ length (now amounts))
         × (length (now sold) ≡ length (now asks)) × (length (now paid) ≡ length (now asks)) ⌝ }
-    ensures { λ r. ⌜ Prints
-        (marketTextOf (regular (now (asks .entry)) (now (bays .entry)) (now (amounts .entry)) (now (bids .entry))))
-        (now (out .entry)) r (now (out .exit)) ⌝ }
+    ensures { λ r. ⌜ Prints (marketTextOf (regularIn asks bays amounts bids)) (now (out .entry)) r (now (out .exit)) ⌝ }
 {
     let answer = clearing::clear(
         asks,
@@ -64,9 +62,7 @@ pub fn print_market(
     out: &mut [u8],
 ) -> usize
     requires { ⌜ (length (now amounts) ≤ maxGuests) × (length (now asks) ≤ maxStations) ⌝ }
-    ensures { λ r. ⌜ Prints
-        (marketTextOf (regular (now (asks .entry)) (now (bays .entry)) (now (amounts .entry)) (now (bids .entry))))
-        (now (out .entry)) r (now (out .exit)) ⌝ }
+    ensures { λ r. ⌜ Prints (marketTextOf (regularIn asks bays amounts bids)) (now (out .entry)) r (now (out .exit)) ⌝ }
 {
     let n = amounts.len();
     let m = asks.len();

@@ -18,9 +18,9 @@ use model::limits::MAX_STATIONS;
 use model::refusal::Refusal;
 ghost use mathlib.Core.Path.{_≡_};
 ghost use Rattle.model.specs.Verdicts.{_gives_};
-ghost use Rattle.model.specs.contracts.Reads.{lentTables, tableLengths, Reads};
+ghost use Rattle.model.specs.contracts.Reads.{tableLengths, Reads};
 ghost use Rattle.model.specs.contracts.Writes.{Writes};
-ghost use Rattle.model.specs.market.Market.{tables};
+ghost use Rattle.model.specs.contracts.Lent.{tablesIn, lentTablesIn, lentTablesOut};
 
 fn table_lengths_differ(amounts: usize, asks: usize, bays: usize, bids: usize) -> bool
     ensures { λ r. ⌜ tableLengths amounts asks bays bids ≡ (r gives 10) ⌝ }
@@ -36,10 +36,8 @@ pub fn read(
     bays: &mut [u16],
     bids: &mut [u32],
 ) -> Reading
-    ensures { λ r. ⌜ Reads (now (sheet .entry))
-        (lentTables (now (amounts .entry)) (now (asks .entry)) (now (bays .entry)) (now (bids .entry)))
-        r
-        (lentTables (now (amounts .exit)) (now (asks .exit)) (now (bays .exit)) (now (bids .exit))) ⌝ }
+    ensures { λ r. ⌜ Reads (now (sheet .entry)) (lentTablesIn amounts asks bays bids) r
+        (lentTablesOut amounts asks bays bids) ⌝ }
 {
     if table_lengths_differ(amounts.len(), asks.len(), bays.len(), bids.len()) {
         return Reading::Refused(Refusal::LentLengths);
@@ -65,9 +63,7 @@ pub fn write(
     width: usize,
     out: &mut [u8],
 ) -> Writing
-    ensures { λ r. ⌜ Writes
-        (tables (now (asks .entry)) (now (bays .entry)) (now (amounts .entry)) (now (bids .entry)) width)
-        (now (out .entry)) r (now (out .exit)) ⌝ }
+    ensures { λ r. ⌜ Writes (tablesIn asks bays amounts bids width) (now (out .entry)) r (now (out .exit)) ⌝ }
 {
     match faults::market_fault(asks, bays, amounts, bids, width) {
         Verdict::Refused(refusal) => Writing::Refused(refusal),

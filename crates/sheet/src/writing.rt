@@ -8,7 +8,7 @@ ghost use lib.ListN.{getD, length};
 ghost use Rattle.model.specs.Limits.{maxGuests, maxStations, maxBids};
 ghost use Rattle.model.specs.Counting.{_<?_, only, count, joined};
 ghost use Rattle.model.specs.sheet.Shortest.{shortest};
-ghost use Rattle.model.specs.market.Market.{regular};
+ghost use Rattle.model.specs.contracts.Lent.{regularOf, regularIn};
 ghost use Rattle.model.specs.market.Shape.{Shaped};
 ghost use Rattle.sheet.specs.Laid.{stationBytes, stationOf, bidsFrom, bidField, rowMap, rowBytes, rowOf};
 ghost use Rattle.sheet.specs.Wrote.{Wrote};
@@ -31,9 +31,8 @@ fn count_bids(bids: &[u32]) -> u32
 
 // The length of the shortest sheet.
 pub fn sheet_length(asks: &[u32], bays: &[u16], amounts: &[u16], bids: &[u32]) -> usize
-    requires { ⌜ Shaped (regular (now asks) (now bays) (now amounts) (now bids)) ⌝ }
-    ensures { λ r. ⌜ r ≡ length (shortest
-        (regular (now (asks .entry)) (now (bays .entry)) (now (amounts .entry)) (now (bids .entry)))) ⌝ }
+    requires { ⌜ Shaped (regularOf asks bays amounts bids) ⌝ }
+    ensures { λ r. ⌜ r ≡ length (shortest (regularIn asks bays amounts bids)) ⌝ }
 {
     let m = asks.len();
     let row = 2 + fields::map_width(m);
@@ -151,11 +150,9 @@ fn put_rows(amounts: &[u16], bids: &[u32], stations: usize, out: &mut [u8], at: 
 
 // The shortest sheet, over the first places of the output.
 pub fn put_sheet(asks: &[u32], bays: &[u16], amounts: &[u16], bids: &[u32], out: &mut [u8]) -> usize
-    requires { ⌜ Shaped (regular (now asks) (now bays) (now amounts) (now bids))
-        × (length (shortest (regular (now asks) (now bays) (now amounts) (now bids))) ≤ length (now out)) ⌝ }
-    ensures { λ r. ⌜ Wrote (now (out .entry)) 0
-        (shortest (regular (now (asks .entry)) (now (bays .entry)) (now (amounts .entry)) (now (bids .entry))))
-        (now (out .exit)) r ⌝ }
+    requires { ⌜ Shaped (regularOf asks bays amounts bids)
+        × (length (shortest (regularOf asks bays amounts bids)) ≤ length (now out)) ⌝ }
+    ensures { λ r. ⌜ Wrote (now (out .entry)) 0 (shortest (regularIn asks bays amounts bids)) (now (out .exit)) r ⌝ }
 {
     let p = putting::put_two(out, 0, amounts.len() as u16);
     let q = putting::put_two(out, p, asks.len() as u16);

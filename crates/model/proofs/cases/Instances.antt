@@ -4,19 +4,17 @@ use mathlib.Core.Path.{_≡_, refl}
 use native.Mathlib.Omega.{arith}
 use lib.IntN.{pos, negsuc}
 use lib.ListN.{getD}
-use Rattle.model.specs.Counting.{_<?_, _≤?_, _=?_, _and_, _or_, only, sum, greatest, count, some, any}
-use Rattle.model.specs.Verdicts.{firstFault}
-use Rattle.model.specs.market.Market.{bidAt, marketBy, median, byNumber, market, cut, opens, screen, queue}
-use Rattle.model.specs.market.Market.{before, rank, provisional, critical}
-use Rattle.model.specs.market.Mechanism.{at, charge, charged, obtained, sold, paid, margin, better, best, surplus}
-use Rattle.model.specs.market.Mechanism.{truthful}
+use Rattle.model.specs.Counting.{sum}
+use Rattle.model.specs.market.Market.{bidAt, median, market}
+use Rattle.model.specs.market.Mechanism.{charged, paid, margin}
 use Rattle.model.specs.market.Outcome.{screened, decision}
-use Rattle.model.specs.market.Faults.{outside, counts, lengths, values, marketFaults, verdict, Accepted}
+use Rattle.model.specs.market.Faults.{Accepted}
 use Rattle.model.specs.market.Gains.{guestGain, stationGain}
 use Rattle.model.specs.claims.Truth.{AlikeButForGuest, AlikeButForStation}
 use Rattle.model.specs.cases.Cases.{pair, caseE, caseG}
 use Rattle.model.specs.cases.Instances.{overbid, GuestInstance, costly, underasked, StationInstance, MenuInstance}
 use Rattle.model.specs.cases.Instances.{LimitsInstance}
+use Rattle.model.proofs.cases.Computing.{clearing-computes}
 use Rattle.model.proofs.market.Pivots.{without, left-out, pivot, past, bar}
 use Rattle.model.proofs.market.Menus.{menu}
 use Rattle.model.proofs.claims.Truth.{guest-truthful, station-truthful, menu-of, clearing-limits}
@@ -39,11 +37,7 @@ pub record Numbers : Type 0 where
   pub margin-is : margin (screened caseE) (decision caseE) ≡ 6
 
 numbers : Numbers
-unfolding _<?_ _≤?_ _=?_ _and_ _or_ only sum greatest count some any firstFault bidAt marketBy median byNumber market
-    cut opens screen queue before rank provisional critical at charge charged obtained sold paid margin better best
-    surplus truthful screened decision outside counts lengths values marketFaults verdict
-    guestGain stationGain pair caseE
-    caseG overbid costly underasked without left-out pivot past bar menu
+unfolding clearing-computes pair caseE caseG overbid costly underasked without left-out pivot past bar menu
 numbers = record {
   accepted-G = refl;
   accepted-overbid = refl;

@@ -7,19 +7,16 @@ use native.Mathlib.Omega.{arith}
 use lib.ListN.{getD}
 use lib.IntN.{pos, negsuc}
 use lib.Signed.{_≤ℤ_}
-use Rattle.model.specs.Counting.{_<?_, _≤?_, _=?_, _and_, _or_, only, sum, greatest, count, some, any, list}
-use Rattle.model.specs.Verdicts.{firstFault, giving, updated}
-use Rattle.model.specs.market.Market.{Tables, bidAt, marketBy, median, byNumber, market, cut, opens, screen}
-use Rattle.model.specs.market.Market.{queue, before, rank, provisional, critical, tables}
-use Rattle.model.specs.market.Mechanism.{at, charge, charged, sold, paid, margin, better, best, surplus, truthful}
-use Rattle.model.specs.market.Outcome.{Results, outcomeBy, screened, decision, outcome, results}
-use Rattle.model.specs.market.Faults.{outside, counts, lengths, listLengths, values, clearingFaults}
+use Rattle.model.specs.market.Market.{Tables, tables, bidAt}
+use Rattle.model.specs.market.Mechanism.{at}
+use Rattle.model.specs.market.Outcome.{Results, results}
 use Rattle.model.specs.claims.Truth.{AlikeButForGuest, AlikeButForStation}
 use Rattle.model.specs.contracts.Clears.{Clears}
 use Rattle.model.specs.Numbers.{answerOfClearing}
 use Rattle.model.specs.declared.answers.Clearing.{Clearing}
 use Rattle.model.specs.claims.Calls.{ClearedCall, guestGainIn, stationGainIn, CallWithin}
 use Rattle.model.specs.declared.answers.Clearing.the-variants.{Cleared}
+use Rattle.model.proofs.cases.Computing.{clearing-computes}
 use Rattle.model.proofs.claims.Calls.{guest-truthful-calls, station-truthful-calls, call-limits}
 
 abbrev lists : Results
@@ -56,11 +53,7 @@ called t cut margin exit c =
     }
 
 pub calls : ClearedCall honest × ClearedCall overbid × ClearedCall overask
-unfolding answerOfClearing giving updated firstFault clearingFaults counts lengths listLengths values outside any
-    some _<?_ _≤?_ _=?_ _and_
-    _or_ only sum greatest count list bidAt marketBy median byNumber market cut opens screen queue before rank
-    provisional critical at charge charged sold paid margin better best surplus truthful outcomeBy
-    screened decision outcome
+unfolding clearing-computes
 calls = (
   called honest 6 2 (results (1 ∷ 0 ∷ []) (20 ∷ 0 ∷ []) (3 ∷ 0 ∷ []) (18 ∷ 0 ∷ []))
       (record { answered = refl; left = refl }),

@@ -1,0 +1,51 @@
+-- What computes in the proofs of cases. Such a proof unfolds one of these names, and with it what its line names.
+use Rattle.model.specs.Counting.{_<?_, _≤?_, _=?_, _and_, _or_, only, sum, greatest, count, some, any, list}
+use Rattle.model.specs.Counting.{joined}
+use Rattle.model.specs.Numbers.{answerOfClearing}
+use Rattle.model.specs.Verdicts.{firstFault, giving, updated}
+use Rattle.model.specs.market.Market.{bidAt, marketBy, median, byNumber, market, cut, opens, screen, queue}
+use Rattle.model.specs.market.Market.{before, rank, provisional, critical}
+use Rattle.model.specs.market.Mechanism.{at, charge, charged, obtained, sold, paid, margin, better, best, surplus}
+use Rattle.model.specs.market.Mechanism.{truthful}
+use Rattle.model.specs.market.Outcome.{outcomeBy, screened, decision, outcome}
+use Rattle.model.specs.market.Faults.{outside, counts, lengths, values, listLengths, marketFaults, verdict}
+use Rattle.model.specs.market.Faults.{clearingFaults}
+use Rattle.model.specs.market.Gains.{guestGain, stationGain}
+use Rattle.model.specs.book.PlainBook.{raised, entered, overLimit, bookSize, outOfTurn, postingFaults, emptyPlain}
+use Rattle.model.specs.book.PlainBook.{answer, after, answers, final}
+use Rattle.model.specs.book.Book.{soldOf, paidOf, emptyBook, plain}
+use Rattle.model.specs.sheet.Fields.{littleEndian, mapWidth, hasBit}
+use Rattle.model.specs.sheet.Rows.{mapAt, bidsAt, nextAt, rowAt, askOf, baysOf, amountOf, bidBy, bidOf, rowFaults}
+use Rattle.model.specs.sheet.Rows.{rowsFaults}
+use Rattle.model.specs.sheet.Content.{guests, stations, tablesOf, sheetFaults, readSheet}
+use Rattle.model.specs.contracts.Reads.{tableLengths, readVerdict}
+use Rattle.model.specs.text.Decimal.{higher, digits, decimal, field}
+use Rattle.model.specs.text.Lines.{guestLine, stationLine, guestLines, stationLines}
+use Rattle.model.specs.text.Text.{text, refusalText}
+use Rattle.model.specs.text.MarketText.{marketText, marketTextOf}
+
+unfoldable pub counting-computes : Unit {0}
+unfolding _<?_ _≤?_ _=?_ _and_ _or_ only sum greatest count some any list joined firstFault giving updated
+counting-computes = tt
+
+unfoldable pub clearing-computes : Unit {0}
+unfolding counting-computes bidAt marketBy median byNumber market cut opens screen queue before rank provisional
+    critical at charge charged obtained sold paid margin better best surplus truthful outcomeBy screened decision
+    outcome guestGain stationGain outside counts lengths values listLengths marketFaults verdict clearingFaults
+    answerOfClearing
+clearing-computes = tt
+
+unfoldable pub posting-computes : Unit {0}
+unfolding clearing-computes raised entered overLimit bookSize outOfTurn postingFaults emptyPlain answer after answers
+    final soldOf paidOf emptyBook plain
+posting-computes = tt
+
+unfoldable pub reading-computes : Unit {0}
+unfolding counting-computes counts littleEndian mapWidth hasBit mapAt bidsAt nextAt rowAt askOf baysOf amountOf bidBy
+    bidOf rowFaults rowsFaults guests stations tablesOf sheetFaults readSheet tableLengths readVerdict
+reading-computes = tt
+
+unfoldable pub printing-computes : Unit {0}
+unfolding clearing-computes higher digits decimal field guestLine stationLine guestLines stationLines text refusalText
+    marketText marketTextOf
+printing-computes = tt

@@ -1,0 +1,51 @@
+-- What a contract's parameters lend, by their names: at entry (`..In`) and at exit (`..Out`).
+use Prim.Native.Nat.{ℕ}
+use mathlib.Core.List.{List}
+use denote.Ref.{RefT, now}
+use denote.Triple.Both.{Both}
+use Rattle.model.specs.market.Market.{Tables, tables, regular}
+use Rattle.model.specs.market.Outcome.{Results, results}
+use Rattle.model.specs.book.Book.{Book, book}
+use Rattle.model.specs.contracts.Reads.{LentTables, lentTables}
+use Rattle.model.specs.declared.account.StationAccount.{StationAccount}
+
+-- a lent value, as an `ensures` names it
+abbrev pub Lent : Type 0 → Type 0
+Lent X = Both (RefT X) (RefT X)
+
+-- a market in four lists, with the row width of its bids
+abbrev pub tablesIn : (asks bays amounts bids : Lent (List ℕ)) (width : ℕ) → Tables
+tablesIn asks bays amounts bids width =
+    tables (now (asks .entry)) (now (bays .entry)) (now (amounts .entry)) (now (bids .entry)) width
+
+-- the same, with rows as wide as there are stations
+abbrev pub regularIn : (asks bays amounts bids : Lent (List ℕ)) → Tables
+regularIn asks bays amounts bids =
+    regular (now (asks .entry)) (now (bays .entry)) (now (amounts .entry)) (now (bids .entry))
+
+-- the result lists of a clearing
+abbrev pub resultsIn : (stations charges sold paid : Lent (List ℕ)) → Results
+resultsIn stations charges sold paid =
+    results (now (stations .entry)) (now (charges .entry)) (now (sold .entry)) (now (paid .entry))
+
+abbrev pub resultsOut : (stations charges sold paid : Lent (List ℕ)) → Results
+resultsOut stations charges sold paid =
+    results (now (stations .exit)) (now (charges .exit)) (now (sold .exit)) (now (paid .exit))
+
+-- a book
+abbrev pub bookIn : (guests : Lent (List ℕ)) (stations : Lent (List StationAccount)) (house last : Lent ℕ) → Book
+bookIn guests stations house last =
+    book (now (guests .entry)) (now (stations .entry)) (now (house .entry)) (now (last .entry))
+
+abbrev pub bookOut : (guests : Lent (List ℕ)) (stations : Lent (List StationAccount)) (house last : Lent ℕ) → Book
+bookOut guests stations house last =
+    book (now (guests .exit)) (now (stations .exit)) (now (house .exit)) (now (last .exit))
+
+-- the tables that a sheet is read into
+abbrev pub lentTablesIn : (amounts asks bays bids : Lent (List ℕ)) → LentTables
+lentTablesIn amounts asks bays bids =
+    lentTables (now (amounts .entry)) (now (asks .entry)) (now (bays .entry)) (now (bids .entry))
+
+abbrev pub lentTablesOut : (amounts asks bays bids : Lent (List ℕ)) → LentTables
+lentTablesOut amounts asks bays bids =
+    lentTables (now (amounts .exit)) (now (asks .exit)) (now (bays .exit)) (now (bids .exit))
