@@ -1,5 +1,5 @@
 -- Lines: what they are made of, and how long they are at most.
-use Prim.Native.Nat.{ℕ, zero, suc, _+_, _*_, _≤_}
+use Prim.Native.Nat.{ℕ, zero, suc, _+_, _*_, _<_, _≤_}
 use mathlib.Core.List.{List, _++_}
 use native.Mathlib.Nat.{le-antisymm}
 use native.Mathlib.Numerals.{add-one}
@@ -9,7 +9,7 @@ use Rattle.model.specs.Counting.{joined}
 use Rattle.model.specs.text.Decimal.{field}
 use Rattle.report.specs.Wrote.{Wrote}
 use Rattle.report.proofs.text.Fields.{length-field}
-use Rattle.report.proofs.text.Writing.{wrote-then}
+use Rattle.report.proofs.text.Writing.{wrote-none, wrote-then}
 use Rattle.model.specs.text.Lines.{guestWord, atStationWord, chargeWord, stationWord, soldWord, paidWord, lineEnd}
 use Rattle.model.specs.text.Lines.{guestLine, stationLine, guestLines, stationLines}
 
@@ -40,22 +40,33 @@ module _ (f : ℕ → List ℕ) (b : ℕ) (short : (k : ℕ) → length (f k) �
   length-joined zero = omega arith
   length-joined (suc n) = omega (arith, length-append (joined n f) (f n), length-joined n, short n)
 
-pub wrote-joined :
-    (f : ℕ → List ℕ) {l l′ l″ : List ℕ} {p q r : ℕ} (k : ℕ) → Wrote l p (joined k f) l′ q → Wrote l′ q (f k) l″ r
-    → Wrote l p (joined (k + 1) f) l″ r
-unfolding joined
-wrote-joined f k a b = rw add-one (wrote-then a b)
+  pub joined-end : {l l′ : List ℕ} {p q : ℕ} (n : ℕ) → Wrote l p (joined n f) l′ q → q ≤ p + b * n
+  joined-end n a = omega (arith, a .next, length-joined n)
 
-pub wrote-lines :
-    (f : ℕ → List ℕ) {l l′ : List ℕ} {p q k n : ℕ} → Wrote l p (joined k f) l′ q → k ≤ n → n ≤ k
-    → Wrote l p (joined n f) l′ q
-wrote-lines f a h g = rw (le-antisymm g h) a
+-- the first k of n lines, written one after the other
+pub record Listing (n : ℕ) (f : ℕ → List ℕ) (l : List ℕ) (p k : ℕ) (l′ : List ℕ) (q : ℕ) : Type 0 where
+  pub within : k ≤ n
+  pub wrote : Wrote l p (joined k f) l′ q
 
-guest-short : (g s c : ℕ) → length (guestLine g s c) ≤ 84
+module _ {n : ℕ} {f : ℕ → List ℕ} {l : List ℕ} {p : ℕ} where
+  pub listing-none : Listing n f l p 0 l p
+  unfolding joined
+  listing-none = record { within = omega arith; wrote = wrote-none l p }
+
+  pub listing-more :
+      {l′ l″ : List ℕ} {q r k : ℕ} → Listing n f l p k l′ q → k < n → Wrote l′ q (f k) l″ r
+      → Listing n f l p (k + 1) l″ r
+  unfolding joined
+  listing-more a h w = record { within = omega arith; wrote = rw add-one (wrote-then (a .wrote) w) }
+
+  pub listing-end : {l′ : List ℕ} {q k : ℕ} → Listing n f l p k l′ q → n ≤ k → Wrote l p (joined n f) l′ q
+  listing-end a h = rw (le-antisymm h (a .within)) (a .wrote)
+
+pub guest-short : (g s c : ℕ) → length (guestLine g s c) ≤ 84
 unfolding guestLine
 guest-short g s c = length-line guestWord atStationWord chargeWord g s c
 
-station-short : (j s p : ℕ) → length (stationLine j s p) ≤ 81
+pub station-short : (j s p : ℕ) → length (stationLine j s p) ≤ 81
 unfolding stationLine
 station-short j s p = length-line stationWord soldWord paidWord j s p
 
@@ -67,12 +78,13 @@ pub length-station-lines : (sold paid : List ℕ) (m : ℕ) → length (stationL
 unfolding stationLines
 length-station-lines sold paid m = length-joined _ 81 (λ k. station-short _ _ _) m
 
--- where n lines end at the most
 pub guest-lines-end :
     {l l′ : List ℕ} (stations charges : List ℕ) {p q : ℕ} (n : ℕ)
     → Wrote l p (guestLines stations charges n) l′ q → q ≤ p + 84 * n
-guest-lines-end stations charges n a = omega (arith, a .next, length-guest-lines stations charges n)
+unfolding guestLines
+guest-lines-end stations charges n a = joined-end _ 84 (λ k. guest-short _ _ _) n a
 
 pub station-lines-end :
     {l l′ : List ℕ} (sold paid : List ℕ) {p q : ℕ} (m : ℕ) → Wrote l p (stationLines sold paid m) l′ q → q ≤ p + 81 * m
-station-lines-end sold paid m a = omega (arith, a .next, length-station-lines sold paid m)
+unfolding stationLines
+station-lines-end sold paid m a = joined-end _ 81 (λ k. station-short _ _ _) m a
