@@ -21,6 +21,9 @@ loop-holds c = offers-none (c .before .before .before .before .pre)
 abbrev entry-before-loop : tie.At-loop Inv-loop μ-loop → tie.Start Inv-loop μ-loop
 entry-before-loop p = p .before .before .before .before .before
 
+abbrev wide-before-gain-for : tie.After-gain-for Inv-loop μ-loop → tie.After-wide Inv-loop μ-loop
+wide-before-gain-for p = p .before .before .before .before .before
+
 larger-small-requires : tie.Need-larger-small-requires Inv-loop μ-loop
 larger-small-requires c κs =
     let at-loop-test = c .before .before .before .before in
@@ -69,7 +72,7 @@ gain-for-requires c κs =
 pick-requires : tie.Need-pick-requires Inv-loop μ-loop
 pick-requires c κs =
     let at-gain-for = c .before .before .before in
-    let at-wide = at-gain-for .before .before .before .before .before in
+    let at-wide = wide-before-gain-for at-gain-for in
     let at-loop-test = at-wide .before .before in
     let at-loop = at-loop-test .before in
     let entry = entry-before-loop at-loop in (
@@ -85,7 +88,7 @@ pick-requires c κs =
 larger-small-requires-2 : tie.Need-larger-small-requires-2 Inv-loop μ-loop
 larger-small-requires-2 c κs =
     let at-gain-for = c .before .before .before .before in
-    let at-wide = at-gain-for .before .before .before .before .before in
+    let at-wide = wide-before-gain-for at-gain-for in
     let at-loop-test = at-wide .before .before in
     let at-loop = at-loop-test .before in
     let entry = entry-before-loop at-loop in (
@@ -106,7 +109,7 @@ narrow-requires : tie.Need-narrow-requires Inv-loop μ-loop
 narrow-requires c κs =
     let at-wide3 = c .before .before .before in
     let at-gain-for = at-wide3 .before .before in
-    let at-wide = at-gain-for .before .before .before .before .before in
+    let at-wide = wide-before-gain-for at-gain-for in
     let at-loop-test = at-wide .before .before in
     let at-loop = at-loop-test .before in
     let entry = entry-before-loop at-loop in

@@ -78,9 +78,10 @@ count-above-requires-3 c κs =
 
 largest-at-most-requires-2 : tie.Need-largest-at-most-requires-2 Inv-loop μ-loop
 largest-at-most-requires-2 c κs =
-    let at-loop = c .before .before .before .before .before .before in
+    let at-middle = c .before .before in
+    let at-loop = at-middle .before .before .before .before in
     let entry = entry-before-loop at-loop in
-    (entry .pre .1 .0, omega (arith, c .before .before .middle .ensures, at-loop .loop .inv .0, at-loop .loop .inv .1))
+    (entry .pre .1 .0, omega (arith, at-middle .middle .ensures, at-loop .loop .inv .0, at-loop .loop .inv .1))
 
 returns-4 : tie.Need-returns-4 Inv-loop μ-loop
 returns-4 c =

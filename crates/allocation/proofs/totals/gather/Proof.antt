@@ -68,17 +68,18 @@ larger-small-requires c κs =
 
 loop-again : tie.Need-loop-again Inv-loop μ-loop
 loop-again c =
-    let at-loop-test = c .before .before .before .before .before in
+    let at-total-for = c .before .before in
+    let at-loop-test = at-total-for .before .before .before in
     let at-loop = at-loop-test .before in (
       filling-turn (at-loop .loop .inv .0) (at-loop-test .loop-test .taken)
-          (c .before .narrow .ensures ∙ c .before .before .total-for .ensures),
-      greatest-turn (at-loop .loop .inv .1) (at-loop-test .loop-test .taken) (c .before .before .total-for .ensures)
+          (c .before .narrow .ensures ∙ at-total-for .total-for .ensures),
+      greatest-turn (at-loop .loop .inv .1) (at-loop-test .loop-test .taken) (at-total-for .total-for .ensures)
           (c .larger-small .ensures),
       omega (
         arith,
         c .larger-small .ensures,
         at-loop .loop .inv .2,
-        total-here at-loop-test (c .before .before .total-for .ensures),
+        total-here at-loop-test (at-total-for .total-for .ensures),
       ),
     )
 
