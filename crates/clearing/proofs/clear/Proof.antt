@@ -17,8 +17,10 @@ returns c =
 
 returns-2 : tie.Need-returns-2
 returns-2 c =
-    let at-clear-accepted = c .before .before .before .before .before .before .before .before in
-    let at-enum-told = at-clear-accepted .before .before .before .before .before in
+    let at-charges = c .before .before .before .before in
+    let at-clear-accepted = at-charges .before .before .before .before in
+    let at-call = at-clear-accepted .before in
+    let at-enum-told = at-call .before .before .before .before in
     let at-first-fault = at-enum-told .before .before in
     clear-accepted-clears _ _ _ _ _ _ (told (at-enum-told .enum-told .given .1) (at-first-fault .first-fault .ensures))
     (at-clear-accepted .clear-accepted .ensures)

@@ -22,19 +22,21 @@ fits p =
 
 returns : tie.Need-returns
 returns c =
-    let entry = c .before .before .before .before .before .before in
+    let at-enum-told = c .before .before .before in
+    let entry = at-enum-told .before .before .before in
     settled-size (entry .args .t1) (entry .args .full) (entry .args .stations) _ _ _ _ _
-    (c .before .before .before .enum-told .given .1) (c .before .before .book-size-differs .ensures)
+    (at-enum-told .enum-told .given .1) (c .before .before .book-size-differs .ensures)
     _ (c .before .if1 .taken)
     (c .refusing2 .ensures)
 
 returns-2 : tie.Need-returns-2
 returns-2 c =
-    let at-book-size-differs = c .before .before .before .before .before in
+    let else1 = c .before .before .before .before in
+    let at-book-size-differs = else1 .before in
     let entry = at-book-size-differs .before .before .before .before in
     settled-late (entry .args .t1) (entry .args .full) (entry .args .stations) _ _ _ _ _
     (at-book-size-differs .before .enum-told .given .1) (at-book-size-differs .book-size-differs .ensures) _
-    (c .before .before .before .before .if1 .left) (c .before .before .round-out-of-turn .ensures)
+    (else1 .if1 .left) (c .before .before .round-out-of-turn .ensures)
     _ (c .before .if2 .taken)
     (c .refusing3 .ensures)
 
@@ -43,7 +45,8 @@ any-exceeds-requires c κs = fits (c .before .before .before)
 
 returns-3 : tie.Need-returns-3
 returns-3 c =
-    let at-any-exceeds = c .before .before .before .before .before in
+    let at-mills-exceed = c .before .before in
+    let at-any-exceeds = at-mills-exceed .before .before .before in
     let else2 = at-any-exceeds .before .before .before .before in
     let at-book-size-differs = else2 .before .before .before .before in
     let args = start else2 .args in
@@ -51,7 +54,7 @@ returns-3 c =
     (at-book-size-differs .before .enum-told .given .1) (at-book-size-differs .book-size-differs .ensures) _
     (else2 .before .before .before .if1 .left) (else2 .before .round-out-of-turn .ensures) _ (else2 .if2 .left)
     (sym (test-is (args .t1) (args .full) (args .stations) (args .round) _ _ (args .last .now) _ _
-    (at-any-exceeds .any-exceeds .ensures) (c .before .before .mills-exceed .ensures)) ∙ c .before .if3 .taken)
+    (at-any-exceeds .any-exceeds .ensures) (at-mills-exceed .mills-exceed .ensures)) ∙ c .before .if3 .taken)
     (c .refusing4 .ensures)
 
 add-requires : tie.Need-add-requires
@@ -67,7 +70,8 @@ add-requires c κs =
 
 plus-requires : tie.Need-plus-requires
 plus-requires c κs =
-    let else3 = c .before .before .before .before .before .before .before in
+    let at-add = c .before .before .before in
+    let else3 = at-add .before .before .before .before in
     let at-mills-exceed = else3 .before in
     let at-any-exceeds = at-mills-exceed .before .before .before in
     let else2 = at-any-exceeds .before .before .before .before in
@@ -82,7 +86,8 @@ returns-4 c = settled-refused _ _ _ _ _ _ _ _ _ (c .before .before .reply .given
 
 returns-5 : tie.Need-returns-5
 returns-5 c =
-    let else3 = c .before .before .before .before .before .before .before .before in
+    let at-add = c .before .before .before .before in
+    let else3 = at-add .before .before .before .before in
     let at-mills-exceed = else3 .before in
     let at-any-exceeds = at-mills-exceed .before .before .before in
     let else2 = at-any-exceeds .before .before .before .before in
@@ -94,7 +99,7 @@ returns-5 c =
     (sym (test-is (args .t1) (args .full) (args .stations) (args .round) _ _ (args .last .now) _ _
     (at-any-exceeds .any-exceeds .ensures) (at-mills-exceed .mills-exceed .ensures)) ∙ else3 .if3 .left)
     (at-book-size-differs .before .enum-told .given .1) refl
-    (c .before .before .before .before .add .ensures) (c .plus .ensures)
+    (at-add .add .ensures) (c .plus .ensures)
 
 pub settle-spec : {M : Type 1} → statement M
 settle-spec =

@@ -34,7 +34,8 @@ plus-requires c κs =
 
 returns-3 : tie.Need-returns-3
 returns-3 c =
-    let else1 = c .before .before .before .before .before in
+    let else2 = c .before .before .before .before in
+    let else1 = else2 .before in
     let args = else1 .before .before .args in
     credited-yes (args .t2) (args .j) (args .account) (else1 .before .station-exceeds .ensures) (else1 .if1 .left)
     (ap (λ x. args .account .sold + x) (sold-in (args .t2) (args .j) (omega arith)))

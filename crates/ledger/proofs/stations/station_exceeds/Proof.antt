@@ -15,11 +15,12 @@ returns c =
 
 returns-2 : tie.Need-returns-2
 returns-2 c =
-    let entry = c .before .before .before .before .before in
+    let at-kwh-exceed = c .before .before in
+    let entry = at-kwh-exceed .before .before .before in
     let r = entry .args .t2 in
     let j = entry .args .j in
     exceeds-is r j _ (entry .args .before) _ _ (sold-in r j (omega arith)) (paid-in r j (omega arith))
-    (c .before .before .kwh-exceed2 .ensures) (c .mills-exceed2 .ensures)
+    (at-kwh-exceed .kwh-exceed2 .ensures) (c .mills-exceed2 .ensures)
 
 pub station-exceeds-spec : {M : Type 1} → statement M
 station-exceeds-spec =
