@@ -14,15 +14,21 @@ use Rattle.sheet.proofs.filling.Filled.{over-pastes}
 use Rattle.sheet.proofs.read.Statement.{statement}
 use Rattle.sheet.proofs.read.Tie as tie
 
+abbrev entry-before-check : tie.Else1 → tie.Start
+entry-before-check p = p .before .before .before .before .before .before .before
+
+abbrev stations-before-rows : tie.After-fill-rows-arg2 → tie.After-fill-stations
+stations-before-rows p = p .before .before .before .before .before .before
+
 got : (c : tie.After-guests) →
-    let entry = c .before .before .before .before .before .before .before .before .before .before in
+    let entry = entry-before-check (c .before .before .before) in
     (firstFault (sheetFaults (entry .args .sheet .now)) ≡ accepted tt)
     × (c .guests .given .0 .0 ≡ guests (entry .args .sheet .now))
     × (c .guests .given .0 .1 .0 ≡ stations (entry .args .sheet .now))
 got c = told-read _ _ _ _ _ _ (c .before .before .check .ensures) (c .guests .given .1)
 
 lengths : (c : tie.Else1) →
-    let entry = c .before .before .before .before .before .before .before in
+    let entry = entry-before-check c in
     tableLengths (length (entry .args .amounts .now)) (length (entry .args .asks .now))
     (length (entry .args .bays .now))
     (length (entry .args .bids .now)) ≡ (false gives 10)
@@ -52,7 +58,7 @@ fill-stations-requires c κs =
 
 fill-rows-requires : tie.Need-fill-rows-requires
 fill-rows-requires c κs =
-    let at-fill-stations = c .before .before .before .before .before .before in
+    let at-fill-stations = stations-before-rows c in
     let at-header = at-fill-stations .before .before .before in
     let after-guests = at-header .before .before .before in
     let else1 = after-guests .before .before .before in
@@ -69,7 +75,7 @@ fill-rows-requires c κs =
 returns-2 : tie.Need-returns-2
 returns-2 c =
     let at-fill-rows = c .before .before .before .before in
-    let at-fill-stations = at-fill-rows .before .before .before .before .before .before .before in
+    let at-fill-stations = stations-before-rows (at-fill-rows .before) in
     let at-header = at-fill-stations .before .before .before in
     let after-guests = at-header .before .before .before in
     let else1 = after-guests .before .before .before in

@@ -16,8 +16,14 @@ use Rattle.model.proofs.sheet.Answers.{answer-fault, answer-read}
 use Rattle.sheet.proofs.checking.check.Statement.{statement}
 use Rattle.sheet.proofs.checking.check.Tie as tie
 
+abbrev entry-before-header : tie.After-header → tie.Start
+entry-before-header p = p .before .before .before .before .before
+
+abbrev header-before-rows : tie.Else3 → tie.After-header
+header-before-rows p = p .before .before .before .before .before
+
 head : (c : tie.After-header) →
-    let entry = c .before .before .before .before .before in
+    let entry = entry-before-header c in
     Headed (entry .args .s .now) (c .header .result .guests) (c .header .result .stations)
 head c =
     let at-ends = c .before .before in
@@ -34,11 +40,11 @@ good : (c : tie.Else2) →
 good c = counts-by _ _ _ (sym (c .if2 .left) ∙ c .before .counts-out-of-range .ensures)
 
 enough : (c : tie.Else3) →
-    let at-header = c .before .before .before .before .before in
-    let entry = at-header .before .before .before .before .before in
+    let at-header = header-before-rows c in
+    let entry = entry-before-header at-header in
     4 + 6 * at-header .header .result .stations ≤ length (entry .args .s .now)
 enough c =
-    let at-header = c .before .before .before .before .before in
+    let at-header = header-before-rows c in
     omega (arith, lt-no _ _ (sym (c .before .ends2 .ensures) ∙ c .if3 .left), at-header .header .ensures .place)
 
 returns : tie.Need-returns
@@ -80,11 +86,8 @@ mul-skip c = let h = counts-within _ _ (good (c .before .before .before)) .2 in 
 
 skip-requires : tie.Need-skip-requires
 skip-requires c κs =
-    let at-header = c .before .before .before .before .before in
+    let at-header = header-before-rows c in
     omega (arith, enough c, at-header .header .ensures .place)
-
-abbrev entry-before-header : tie.After-header → tie.Start
-entry-before-header p = p .before .before .before .before .before
 
 check-rows-requires : tie.Need-check-rows-requires
 check-rows-requires c κs =
@@ -101,7 +104,7 @@ ends-requires-3 : tie.Need-ends-requires-3
 ends-requires-3 c κs =
     let at-check-rows = c .before .before .before in
     let else3 = at-check-rows .before .before in
-    let at-header = else3 .before .before .before .before .before in
+    let at-header = header-before-rows else3 in
     let entry = entry-before-header at-header in
     let t = told-next _ _ _ _ (at-check-rows .check-rows .ensures) (c .before .end .given .1) in
     let first = first-row (entry .args .s .now) (at-header .header .result .stations) in
