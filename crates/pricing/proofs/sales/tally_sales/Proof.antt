@@ -1,4 +1,4 @@
-use Prim.Native.Nat.{_-_}
+use Prim.Native.Nat.{_-_, _<_}
 use mathlib.Core.Path.{refl, ap}
 use native.Mathlib.Omega.{arith}
 use lib.ListN.{length}
@@ -37,14 +37,19 @@ cast-x c =
     let entry = entry-before-loop (at-loop-test .before) in
     omega (arith, entry .pre .1 .0 _ (at-loop-test .loop-test .taken))
 
+-- a slot is a place of the table
+slot-inside : (c : tie.After-slot Inv-loop μ-loop) →
+    let at-loop = c .before .before .before in
+    c .slot .result < length (at-loop .loop .kwh)
+slot-inside c =
+    let at-loop = c .before .before .before in
+    omega (arith, c .slot .ensures .0, at-loop .loop .inv .long)
+
 mul-kwh : tie.Need-mul-kwh Inv-loop μ-loop
 mul-kwh c = omega (arith, c .before .slot .ensures .0)
 
 slice-read-kwh : tie.Need-slice-read-kwh Inv-loop μ-loop
-slice-read-kwh c =
-    let at-slot = c .before .before in
-    let at-loop = at-slot .before .before .before in
-    omega (arith, at-slot .slot .ensures .0, at-loop .loop .inv .long)
+slice-read-kwh c = slot-inside (c .before .before)
 
 add-kwh : tie.Need-add-kwh Inv-loop μ-loop
 add-kwh c =
@@ -63,10 +68,7 @@ mul-kwh-2 : tie.Need-mul-kwh-2 Inv-loop μ-loop
 mul-kwh-2 c = omega (arith, c .before .before .slot .ensures .0)
 
 slice-write-kwh : tie.Need-slice-write-kwh Inv-loop μ-loop
-slice-write-kwh c =
-    let at-slot = c .before .before in
-    let at-loop = at-slot .before .before .before in
-    omega (arith, at-slot .slot .ensures .0, at-loop .loop .inv .long)
+slice-write-kwh c = slot-inside (c .before .before)
 
 loop-again : tie.Need-loop-again Inv-loop μ-loop
 loop-again c =
