@@ -46,10 +46,10 @@ fill-stations-requires : tie.Need-fill-stations-requires
 fill-stations-requires c κs =
     let at-header = c .before .before in
     let after-guests = at-header .before .before .before in
-    let else1 = after-guests .before .before .before in
+    let past-lengths = after-guests .before .before .before in
     let g = got after-guests in
     let t = sheet-sound _ (g .0) in
-    let l = lent-lengths _ _ _ _ (lengths else1) in (
+    let l = lent-lengths _ _ _ _ (lengths past-lengths) in (
       at-header .header .ensures .place,
       omega (arith, t .stations-in, g .2),
       omega (arith, t .narrow, g .2, l .1),
@@ -61,10 +61,10 @@ fill-rows-requires c κs =
     let at-fill-stations = stations-before-rows c in
     let at-header = at-fill-stations .before .before .before in
     let after-guests = at-header .before .before .before in
-    let else1 = after-guests .before .before .before in
+    let past-lengths = after-guests .before .before .before in
     let g = got after-guests in
     let t = sheet-sound _ (g .0) in
-    let l = lent-lengths _ _ _ _ (lengths else1) in (
+    let l = lent-lengths _ _ _ _ (lengths past-lengths) in (
       omega (arith, t .narrow, g .2),
       at-fill-stations .fill-stations .ensures .place,
       rows-good t (g .1) (g .2),
@@ -78,19 +78,19 @@ returns-2 c =
     let at-fill-stations = stations-before-rows (at-fill-rows .before) in
     let at-header = at-fill-stations .before .before .before in
     let after-guests = at-header .before .before .before in
-    let else1 = after-guests .before .before .before in
+    let past-lengths = after-guests .before .before .before in
     let g = got after-guests in
     let f = at-fill-stations .fill-stations .ensures in
     let r = at-fill-rows .fill-rows .ensures in
-    read-all _ _ _ _ _ (lengths else1) _ _ _ _ _ _ (g .0) (g .1) (g .2)
+    read-all _ _ _ _ _ (lengths past-lengths) _ _ _ _ _ _ (g .0) (g .1) (g .2)
     (r .amounts-are ∙ over-pastes _ _) (f .asks-are ∙ over-pastes _ _) (f .bays-are ∙ over-pastes _ _)
     (r .bids-are ∙ over-pastes _ _)
 
 returns-3 : tie.Need-returns-3
 returns-3 c =
     let at-check = c .before .before .before in
-    let else1 = at-check .before in
-    refused-sheet _ _ _ _ _ (lengths else1) _ _ (at-check .check .ensures) (c .before .r .given .1)
+    let past-lengths = at-check .before in
+    refused-sheet _ _ _ _ _ (lengths past-lengths) _ _ (at-check .check .ensures) (c .before .r .given .1)
 
 pub read-spec : {M : Type 1} → statement M
 read-spec =

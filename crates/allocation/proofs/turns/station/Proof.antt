@@ -118,8 +118,8 @@ returns c =
     let at-tie-bound = at-narrow .before in
     let at-critical = at-tie-bound .before .before in
     let at-gather = gather-before-critical at-critical in
-    let in-if1 = at-gather .before .before in
-    let at-below = in-if1 .before in
+    let at-open = at-gather .before .before in
+    let at-below = at-open .before in
     let entry = entry-before-below at-below in
     let g = at-gather .gather .ensures in
     let critical = at-critical .critical-total .ensures in (
@@ -128,7 +128,7 @@ returns c =
           _ (g .totals-are) _ _ _ refl (critical .least-few)
           (rw (← critical .counted) (at-tie-bound .tie-bound .ensures)) _ refl (entry .pre .1 .1)
           (at-offer .offer .ensures)),
-      rw (sym (at-below .below .ensures) ∙ in-if1 .if1 .taken) (g .totals-are),
+      rw (sym (at-below .below .ensures) ∙ at-open .if1 .taken) (g .totals-are),
     )
 
 returns-2 : tie.Need-returns-2

@@ -26,22 +26,22 @@ returns-3 : tie.Need-returns-3
 unfolding clearingFaults counts lengths listLengths answerOfVerdict
 returns-3 c =
     let at-lengths-differ = c .before .before .before in
-    let at-if1 = at-lengths-differ .before in
-    let at-counts = at-if1 .before in
-    sym ((fault-later _ _ (sym (at-counts .counts-out-of-range .ensures) ∙ at-if1 .if1 .left)
+    let past-counts = at-lengths-differ .before in
+    let at-counts = past-counts .before in
+    sym ((fault-later _ _ (sym (at-counts .counts-out-of-range .ensures) ∙ past-counts .if1 .left)
     ∙ fault-later _ _ (sym (at-lengths-differ .lengths-differ .ensures) ∙ c .before .before .if2 .left)
     ∙ fault-here _ (sym (c .before .list-lengths-differ .ensures) ∙ c .if3 .taken)))
 
 returns-4 : tie.Need-returns-4
 unfolding clearingFaults counts lengths listLengths values
 returns-4 c =
-    let at-if2 = c .before .before .before in
-    let at-lengths-differ = at-if2 .before in
-    let at-if1 = at-lengths-differ .before in
-    let at-counts = at-if1 .before in
+    let past-lengths = c .before .before .before in
+    let at-lengths-differ = past-lengths .before in
+    let past-counts = at-lengths-differ .before in
+    let at-counts = past-counts .before in
     c .value-fault .ensures
-    ∙ sym ((fault-later _ _ (sym (at-counts .counts-out-of-range .ensures) ∙ at-if1 .if1 .left)
-    ∙ fault-later _ _ (sym (at-lengths-differ .lengths-differ .ensures) ∙ at-if2 .if2 .left)
+    ∙ sym ((fault-later _ _ (sym (at-counts .counts-out-of-range .ensures) ∙ past-counts .if1 .left)
+    ∙ fault-later _ _ (sym (at-lengths-differ .lengths-differ .ensures) ∙ past-lengths .if2 .left)
     ∙ fault-later _ _ (sym (c .before .before .list-lengths-differ .ensures) ∙ c .before .if3 .left)))
 
 pub first-fault-spec : {M : Type 1} → statement M

@@ -22,8 +22,8 @@ bays-inside : (c : tie.Else2) →
 bays-inside c = sym (c .before .any-outside16 .ensures) ∙ c .if2 .left
 
 amounts-inside : (c : tie.Else3) →
-    let else2 = c .before .before in
-    let entry = entry-before-asks (else2 .before .before .before) in
+    let past-bays = c .before .before in
+    let entry = entry-before-asks (past-bays .before .before .before) in
     any (entry .args .amounts .now) (outside 1 maxAmount) ≡ false
 amounts-inside c = sym (c .before .any-outside162 .ensures) ∙ c .if3 .left
 
@@ -40,26 +40,26 @@ returns-2 c =
 returns-3 : tie.Need-returns-3
 unfolding values answerOfVerdict
 returns-3 c =
-    let else2 = c .before .before in
-    sym ((fault-later _ _ (asks-inside (else2 .before .before)) ∙ fault-later _ _ (bays-inside else2)
+    let past-bays = c .before .before in
+    sym ((fault-later _ _ (asks-inside (past-bays .before .before)) ∙ fault-later _ _ (bays-inside past-bays)
     ∙ fault-here _ (sym (c .before .any-outside162 .ensures) ∙ c .if3 .taken)))
 
 returns-4 : tie.Need-returns-4
 unfolding values answerOfVerdict
 returns-4 c =
-    let else3 = c .before .before in
-    let else2 = else3 .before .before in
-    sym ((fault-later _ _ (asks-inside (else2 .before .before)) ∙ fault-later _ _ (bays-inside else2)
-    ∙ fault-later _ _ (amounts-inside else3)
+    let past-amounts = c .before .before in
+    let past-bays = past-amounts .before .before in
+    sym ((fault-later _ _ (asks-inside (past-bays .before .before)) ∙ fault-later _ _ (bays-inside past-bays)
+    ∙ fault-later _ _ (amounts-inside past-amounts)
     ∙ fault-here _ (sym (c .before .any-outside322 .ensures) ∙ c .if4 .taken)))
 
 returns-5 : tie.Need-returns-5
 unfolding values answerOfVerdict
 returns-5 c =
-    let else3 = c .before .before in
-    let else2 = else3 .before .before in
-    sym ((fault-later _ _ (asks-inside (else2 .before .before)) ∙ fault-later _ _ (bays-inside else2)
-    ∙ fault-later _ _ (amounts-inside else3)
+    let past-amounts = c .before .before in
+    let past-bays = past-amounts .before .before in
+    sym ((fault-later _ _ (asks-inside (past-bays .before .before)) ∙ fault-later _ _ (bays-inside past-bays)
+    ∙ fault-later _ _ (amounts-inside past-amounts)
     ∙ fault-later _ _ (sym (c .before .any-outside322 .ensures) ∙ c .if4 .left) ∙ fault-none))
 
 pub value-fault-spec : {M : Type 1} → statement M

@@ -36,8 +36,8 @@ part-result-end-4 c = omega (arith, lies c .end)
 
 returns-4 : tie.Need-returns-4
 returns-4 c =
-    let else3 = c .before in
-    rw add-sub-cancel-left (row-in _ _ _ (positive _ (else3 .before .before .if1 .left)) (lies else3 .whole))
+    let past-tests = c .before in
+    rw add-sub-cancel-left (row-in _ _ _ (positive _ (past-tests .before .before .if1 .left)) (lies past-tests .whole))
 
 pub row-spec : {M : Type 1} → statement M
 row-spec =

@@ -6,11 +6,11 @@ use Rattle.ledger.proofs.stations.station_exceeds.Tie as tie
 
 returns : tie.Need-returns
 returns c =
-    let else1 = c .before .before in
-    let r = else1 .before .args .t2 in
-    let j = else1 .before .args .j in
-    let past = else1 .if1 .taken in
-    exceeds-is r j _ (else1 .before .args .before) _ _ (sold-past r j past) (paid-past r j past)
+    let at-outside = c .before .before in
+    let r = at-outside .before .args .t2 in
+    let j = at-outside .before .args .j in
+    let past = at-outside .if1 .taken in
+    exceeds-is r j _ (at-outside .before .args .before) _ _ (sold-past r j past) (paid-past r j past)
     (c .before .kwh-exceed .ensures) (c .mills-exceed .ensures)
 
 returns-2 : tie.Need-returns-2

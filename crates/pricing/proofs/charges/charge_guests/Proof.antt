@@ -52,15 +52,15 @@ cast-stations c =
 narrow-requires : tie.Need-narrow-requires Inv-loop μ-loop
 narrow-requires c κs =
     let at-wide = c .before .before .before in
-    let at-shared-slice-known5 = at-wide .before in
-    let at-loop = at-shared-slice-known5 .before .before .before in
+    let at-criticals = at-wide .before in
+    let at-loop = at-criticals .before .before .before in
     let entry = entry-before-loop at-loop in
     charge-fits _ _ _ (c .charge-at .ensures)
     (omega (arith, c .before .wide2 .ensures, c .before .before .shared-slice-known6 .given (at-loop .loop .i)))
     (omega (
       arith,
       at-wide .wide .ensures,
-      at-shared-slice-known5 .shared-slice-known5 .given (getD (entry .args .chosen .now) (at-loop .loop .i) 0),
+      at-criticals .shared-slice-known5 .given (getD (entry .args .chosen .now) (at-loop .loop .i) 0),
     ))
 
 loop-again : tie.Need-loop-again Inv-loop μ-loop
