@@ -10,22 +10,19 @@ use Rattle.report.proofs.print_clearing.Tie as tie
 abbrev entry-before-read : tie.After-read → tie.Start
 entry-before-read p = p .before .before .before .before .before .before .before
 
-abbrev read-before-guests : tie.After-guests → tie.After-read
-read-before-guests p = p .before .before .before .before .before .before
-
-abbrev read-before-refusal : tie.After-refusal → tie.After-read
-read-before-refusal p = p .before .before .before .before .before .before
+abbrev read-before-match : tie.After-bids2 → tie.After-read
+read-before-match p = p .before .before .before .before
 
 abbrev guests-before-bids : tie.After-bids3 → tie.After-guests
 guests-before-bids p = p .before .before .before .before .before
 
 -- where the sheet was read as a market, the tables hold it
 held : (p : tie.After-guests) →
-    let at-read = read-before-guests p in
+    let at-read = read-before-match (p .before .before) in
     let exit = at-read .read .last .1 in
     ReadTables (entry-before-read at-read .args .sheet .now) (p .guests .given .0 .0) (p .guests .given .0 .1 .0)
     (lentTables (exit .0) (exit .1 .0) (exit .1 .1 .0) (exit .1 .1 .1 .0))
-held p = read-tables _ _ _ _ (read-before-guests p .read .ensures) _ _ (p .guests .given .1)
+held p = read-tables _ _ _ _ (read-before-match (p .before .before) .read .ensures) _ _ (p .guests .given .1)
 
 array-share-prefix-asks : tie.Need-array-share-prefix-asks
 array-share-prefix-asks c =
@@ -81,7 +78,7 @@ returns : tie.Need-returns
 returns c =
     let at-refusal-text = c .before .before in
     let at-refusal = at-refusal-text .before .before .before in
-    let at-read = read-before-refusal at-refusal in
+    let at-read = read-before-match (at-refusal .before .before) in
     prints-fault _ _
     (read-fault _ _ _ _ (at-read .read .ensures) _ refl refl refl refl (at-refusal .refusal .given .1))
     (at-refusal-text .refusal-text .ensures)

@@ -9,11 +9,8 @@ abbrev entry-before-clear : tie.After-clear → tie.Start
 entry-before-clear p =
     p .before .before .before .before .before .before .before .before .before .before .before .before .before .before
 
-abbrev clear-before-refused : tie.After-answer → tie.After-clear
-clear-before-refused p = p .before .before .before .before .before .before .before .before .before .before
-
-abbrev clear-before-cleared : tie.After-answer2 → tie.After-clear
-clear-before-cleared p = p .before .before .before .before .before .before .before .before .before .before
+abbrev clear-before-match : tie.After-slice-known9 → tie.After-clear
+clear-before-match p = p .before .before .before .before .before .before .before .before
 
 abbrev cleared-before-text : tie.After-clearing-text-arg5 → tie.After-answer2
 cleared-before-text p = p .before .before .before .before .before .before
@@ -22,7 +19,7 @@ returns : tie.Need-returns
 returns c =
     let at-text = c .before .before in
     let at-refused = at-text .before .before .before in
-    let at-clear = clear-before-refused at-refused in
+    let at-clear = clear-before-match (at-refused .before .before) in
     let entry = entry-before-clear at-clear in
     let l = entry .pre .1 in
     prints-refused _ _ (clear-refused _ _ _ _ (at-clear .clear .ensures)
@@ -31,7 +28,8 @@ returns c =
 
 clearing-text-requires : tie.Need-clearing-text-requires
 clearing-text-requires c κs =
-    let entry = entry-before-clear (clear-before-cleared (cleared-before-text c)) in
+    let at-cleared = cleared-before-text c in
+    let entry = entry-before-clear (clear-before-match (at-cleared .before .before)) in
     let (few, narrow) = entry .pre .0 in
     let (stations, charges, sold, paid) = entry .pre .1 in (
       omega (arith, few, stations),
@@ -44,7 +42,7 @@ returns-2 : tie.Need-returns-2
 returns-2 c =
     let at-text = c .before .before in
     let at-cleared = cleared-before-text (at-text .before) in
-    let at-clear = clear-before-cleared at-cleared in
+    let at-clear = clear-before-match (at-cleared .before .before) in
     let entry = entry-before-clear at-clear in
     let l = entry .pre .1 in
     prints-cleared _ _ _ _ (clear-cleared _ _ _ _ (at-clear .clear .ensures)
