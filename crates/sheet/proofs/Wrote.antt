@@ -59,24 +59,27 @@ pub room-for-second :
     → q + length u ≤ length l′
 room-for-second {t = t} u w h = omega (arith, w .same, w .next, length-append t u)
 
--- lists one after the other
-pub wrote-joined :
-    (f : ℕ → List ℕ) {l l′ l″ : List ℕ} {p q r : ℕ} (k : ℕ) → Wrote l p (joined k f) l′ q → Wrote l′ q (f k) l″ r
-    → Wrote l p (joined (k + 1) f) l″ r
-unfolding joined
-wrote-joined f k a b = rw add-one (wrote-then a b)
+-- the first k of n lists, written one after the other
+pub record Listing (n : ℕ) (f : ℕ → List ℕ) (l : List ℕ) (p k : ℕ) (l′ : List ℕ) (q : ℕ) : Type 0 where
+  pub within : k ≤ n
+  pub wrote : Wrote l p (joined k f) l′ q
 
-pub wrote-all-joined :
-    (f : ℕ → List ℕ) {l l′ : List ℕ} {p q k n : ℕ} → Wrote l p (joined k f) l′ q → k ≤ n → n ≤ k
-    → Wrote l p (joined n f) l′ q
-wrote-all-joined f a h g = rw (le-antisymm g h) a
+module _ {n : ℕ} {f : ℕ → List ℕ} {l : List ℕ} {p : ℕ} where
+  pub listing-none : Listing n f l p 0 l p
+  unfolding joined
+  listing-none = record { within = omega arith; wrote = wrote-none l p }
 
-pub wrote-none-joined : (f : ℕ → List ℕ) (l : List ℕ) (p : ℕ) → Wrote l p (joined 0 f) l p
-unfolding joined
-wrote-none-joined f l p = wrote-none l p
+  pub listing-more :
+      {l′ l″ : List ℕ} {q r k : ℕ} → Listing n f l p k l′ q → k < n → Wrote l′ q (f k) l″ r
+      → Listing n f l p (k + 1) l″ r
+  unfolding joined
+  listing-more a h w = record { within = omega arith; wrote = rw add-one (wrote-then (a .wrote) w) }
+
+  pub listing-end : {l′ : List ℕ} {q k : ℕ} → Listing n f l p k l′ q → n ≤ k → Wrote l p (joined n f) l′ q
+  listing-end a h = rw (le-antisymm h (a .within)) (a .wrote)
 
 -- where all of them have room, the next one has
-pub joined-up : (f : ℕ → List ℕ) (n k : ℕ) → k ≤ n → length (joined k f) ≤ length (joined n f)
+joined-up : (f : ℕ → List ℕ) (n k : ℕ) → k ≤ n → length (joined k f) ≤ length (joined n f)
 unfolding joined
 joined-up f zero k h = let e : k ≡ 0 = omega arith in rw e (omega arith)
 joined-up f (suc n) k h = ⊎-elim
@@ -85,11 +88,11 @@ joined-up f (suc n) k h = ⊎-elim
     (eq-or-lt-of-le h)
 
 pub room-for-next :
-    (f : ℕ → List ℕ) {l l′ : List ℕ} {p q k n : ℕ} → Wrote l p (joined k f) l′ q → k < n
+    (f : ℕ → List ℕ) {l l′ : List ℕ} {p q k n : ℕ} → Listing n f l p k l′ q → k < n
     → p + length (joined n f) ≤ length l → q + length (f k) ≤ length l′
 unfolding joined
-room-for-next f {l} {l′} {p} {q} {k} {n} w h room =
-    omega (arith, w .same, w .next, joined-up f n (suc k) h, length-append (joined k f) (f k))
+room-for-next f {l} {l′} {p} {q} {k} {n} a h room =
+    omega (arith, a .wrote .same, a .wrote .next, joined-up f n (suc k) h, length-append (joined k f) (f k))
 
 -- a word, byte by byte
 pub wrote-next :

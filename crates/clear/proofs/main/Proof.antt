@@ -17,10 +17,11 @@ array-share-prefix-sheet c =
 
 slice-aggregate-print-clearing : tie.Need-slice-aggregate-print-clearing
 slice-aggregate-print-clearing c =
-    let at-read-input = c .before .before .before .before .before in
+    let at-input = c .before .before in
+    let at-read-input = at-input .before .before .before in
     part-long _ _ (omega (
       arith,
-      bytes-within _ _ (maxSheet + 1) (at-read-input .read-input .ensures) (c .before .before .input .given .1),
+      bytes-within _ _ (maxSheet + 1) (at-read-input .read-input .ensures) (at-input .input .given .1),
       at-read-input .read-input .kept .0,
     ))
 

@@ -18,10 +18,13 @@ returns c =
 
 returns-2 : tie.Need-returns-2
 returns-2 c =
-    let at-clear-accepted = c .before .before .before .before .before .before .before .before in
-    let at-enum-told = at-clear-accepted .before .before .before .before .before in
+    let at-charges = c .before .before .before .before in
+    let at-clear-accepted = at-charges .before .before .before .before in
+    let at-call = at-clear-accepted .before in
+    let at-enum-told = at-call .before .before .before .before in
     let at-clearing-fault = at-enum-told .before .before in
-    clear-accepted-clears _ _ _ _ _ _ (told (at-enum-told .enum-told .given .1) (at-clearing-fault .clearing-fault .ensures))
+    clear-accepted-clears _ _ _ _ _ _
+    (told (at-enum-told .enum-told .given .1) (at-clearing-fault .clearing-fault .ensures))
     (at-clear-accepted .clear-accepted .ensures)
 
 pub clear-spec : {M : Type 1} → statement M

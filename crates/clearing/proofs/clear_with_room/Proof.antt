@@ -11,6 +11,15 @@ use Rattle.clearing.proofs.clear_with_room.Tie as tie
 abbrev entry-before-cut : tie.After-cut → tie.Start
 entry-before-cut p = p .before .before .before .before .before .before .before .before .before .before
 
+abbrev least-before-assign : tie.After-assign-all-arg3 → tie.After-least-charges
+least-before-assign p = p .before .before .before .before .before
+
+abbrev assign-before-sell : tie.After-sell-arg3 → tie.After-assign-all
+assign-before-sell p = p .before .before .before .before .before .before .before
+
+abbrev sell-before-margin : tie.After-margin-arg2 → tie.After-sell
+sell-before-margin p = p .before .before .before .before .before .before
+
 least-charges-requires : tie.Need-least-charges-requires
 least-charges-requires c κs =
     let entry = entry-before-cut (c .before) in (
@@ -20,18 +29,19 @@ least-charges-requires c κs =
 
 assign-all-requires : tie.Need-assign-all-requires
 assign-all-requires c κs =
-    let at-least-charges = c .before .before .before .before .before in
-    let at-cut′ = at-least-charges .before .before in
-    let entry = entry-before-cut at-cut′ in (
-      at-cut (regular _ _ _ _) (entry .pre .0) (at-cut′ .cut .ensures) (at-least-charges .least-charges .ensures),
+    let at-least = least-before-assign c in
+    let after-cut = at-least .before .before in
+    let entry = entry-before-cut after-cut in (
+      at-cut (regular _ _ _ _) (entry .pre .0) (after-cut .cut .ensures) (at-least .least-charges .ensures),
       (entry .pre .1 .0 .stations-long, entry .pre .1 .0 .charges-long),
     )
 
 sell-requires : tie.Need-sell-requires
 sell-requires c κs =
-    let at-assign-all = c .before .before .before .before .before .before .before in
-    let entry = entry-before-cut (at-assign-all .before .before .before .before .before .before .before .before) in
-    let done = at-assign-all .assign-all .ensures in (
+    let at-assign = assign-before-sell c in
+    let at-least = least-before-assign (at-assign .before) in
+    let entry = entry-before-cut (at-least .before .before) in
+    let done = at-assign .assign-all .ensures in (
       (stations-count (regular _ _ _ _) done, entry .pre .0 .shape .guests-most),
       (
         entry .pre .0 .amount-most,
@@ -47,25 +57,25 @@ sell-requires c κs =
 
 margin-requires : tie.Need-margin-requires
 margin-requires c κs =
-    let at-assign-all = c .before .before .before .before .before .before .before .before .before .before .before
-    .before .before .before in
-    let at-least-charges = at-assign-all .before .before .before .before .before .before in
-    let entry = entry-before-cut (at-least-charges .before .before) in
-    let many = charges-count (regular _ _ _ _) (at-assign-all .assign-all .ensures) in (
-      long _ _ (at-least-charges .least-charges .ensures) ∙ sym many,
+    let at-sell = sell-before-margin c in
+    let at-assign = assign-before-sell (at-sell .before) in
+    let at-least = least-before-assign (at-assign .before) in
+    let entry = entry-before-cut (at-least .before .before) in
+    let many = charges-count (regular _ _ _ _) (at-assign .assign-all .ensures) in (
+      long _ _ (at-least .least-charges .ensures) ∙ sym many,
       omega (arith, many, entry .pre .0 .shape .guests-most),
     )
 
 returns : tie.Need-returns
 returns c =
-    let at-sell = c .before .before .before .before .before .before .before in
-    let at-assign-all = at-sell .before .before .before .before .before .before .before .before in
-    let at-least-charges = at-assign-all .before .before .before .before .before .before in
-    let at-cut′ = at-least-charges .before .before in
-    let entry = entry-before-cut at-cut′ in
-    let A = at-cut (regular _ _ _ _) (entry .pre .0) (at-cut′ .cut .ensures) (at-least-charges .least-charges .ensures)
+    let at-sell = sell-before-margin (c .before) in
+    let at-assign = assign-before-sell (at-sell .before) in
+    let at-least = least-before-assign (at-assign .before) in
+    let after-cut = at-least .before .before in
+    let entry = entry-before-cut after-cut in
+    let A = at-cut (regular _ _ _ _) (entry .pre .0) (after-cut .cut .ensures) (at-least .least-charges .ensures)
     in (
-      clears-accepted (regular _ _ _ _) (at-assign-all .assign-all .ensures) A
+      clears-accepted (regular _ _ _ _) (at-assign .assign-all .ensures) A
           _ _ refl (entry .pre .1 .0 .sold-long) (at-sell .sell .ensures) (c .margin .ensures),
       least-at-cut _ A,
     )

@@ -1,5 +1,5 @@
 -- Lines: what they are made of, and how long they are at most.
-use Prim.Native.Nat.{ℕ, zero, suc, _+_, _*_, _≤_}
+use Prim.Native.Nat.{ℕ, zero, suc, _+_, _*_, _<_, _≤_}
 use mathlib.Core.List.{List, _++_}
 use native.Mathlib.Omega.{arith}
 use lib.ListN.{length, length-append}
@@ -38,11 +38,14 @@ module _ (f : ℕ → List ℕ) (b : ℕ) (short : (k : ℕ) → length (f k) �
   length-joined zero = omega arith
   length-joined (suc n) = omega (arith, length-append (joined n f) (f n), length-joined n, short n)
 
-guest-short : (g s c : ℕ) → length (guestLine g s c) ≤ 84
+  pub joined-end : {l l′ : List ℕ} {p q : ℕ} (n : ℕ) → Wrote l p (joined n f) l′ q → q ≤ p + b * n
+  joined-end n a = omega (arith, a .next, length-joined n)
+
+pub guest-short : (g s c : ℕ) → length (guestLine g s c) ≤ 84
 unfolding guestLine
 guest-short g s c = length-line guestWord atStationWord chargeWord g s c
 
-station-short : (j s p : ℕ) → length (stationLine j s p) ≤ 81
+pub station-short : (j s p : ℕ) → length (stationLine j s p) ≤ 81
 unfolding stationLine
 station-short j s p = length-line stationWord soldWord paidWord j s p
 
@@ -54,12 +57,13 @@ pub length-station-lines : (sold paid : List ℕ) (m : ℕ) → length (stationL
 unfolding stationLines
 length-station-lines sold paid m = length-joined _ 81 (λ k. station-short _ _ _) m
 
--- where n lines end at the most
 pub guest-lines-end :
     {l l′ : List ℕ} (stations charges : List ℕ) {p q : ℕ} (n : ℕ)
     → Wrote l p (guestLines stations charges n) l′ q → q ≤ p + 84 * n
-guest-lines-end stations charges n a = omega (arith, a .next, length-guest-lines stations charges n)
+unfolding guestLines
+guest-lines-end stations charges n a = joined-end _ 84 (λ k. guest-short _ _ _) n a
 
 pub station-lines-end :
     {l l′ : List ℕ} (sold paid : List ℕ) {p q : ℕ} (m : ℕ) → Wrote l p (stationLines sold paid m) l′ q → q ≤ p + 81 * m
-station-lines-end sold paid m a = omega (arith, a .next, length-station-lines sold paid m)
+unfolding stationLines
+station-lines-end sold paid m a = joined-end _ 81 (λ k. station-short _ _ _) m a

@@ -14,15 +14,21 @@ use Rattle.sheet.proofs.filling.Filled.{over-pastes}
 use Rattle.sheet.proofs.read.Statement.{statement}
 use Rattle.sheet.proofs.read.Tie as tie
 
+abbrev entry-before-check : tie.Else1 → tie.Start
+entry-before-check p = p .before .before .before .before .before .before .before
+
+abbrev stations-before-rows : tie.After-fill-rows-arg2 → tie.After-fill-stations
+stations-before-rows p = p .before .before .before .before .before .before
+
 got : (c : tie.After-guests) →
-    let entry = c .before .before .before .before .before .before .before .before .before .before in
+    let entry = entry-before-check (c .before .before .before) in
     (firstFault (sheetFaults (entry .args .sheet .now)) ≡ accepted tt)
     × (c .guests .given .0 .0 ≡ guests (entry .args .sheet .now))
     × (c .guests .given .0 .1 .0 ≡ stations (entry .args .sheet .now))
 got c = told-read _ _ _ _ _ _ (c .before .before .check .ensures) (c .guests .given .1)
 
 lengths : (c : tie.Else1) →
-    let entry = c .before .before .before .before .before .before .before in
+    let entry = entry-before-check c in
     tableLengths (length (entry .args .amounts .now)) (length (entry .args .asks .now))
     (length (entry .args .bays .now))
     (length (entry .args .bids .now)) ≡ (false gives 10)
@@ -40,10 +46,10 @@ fill-stations-requires : tie.Need-fill-stations-requires
 fill-stations-requires c κs =
     let at-header = c .before .before in
     let after-guests = at-header .before .before .before in
-    let else1 = after-guests .before .before .before in
+    let past-lengths = after-guests .before .before .before in
     let g = got after-guests in
     let t = sheet-sound _ (g .0) in
-    let l = lent-lengths _ _ _ _ (lengths else1) in (
+    let l = lent-lengths _ _ _ _ (lengths past-lengths) in (
       at-header .header .ensures .place,
       omega (arith, t .stations-in, g .2),
       omega (arith, t .narrow, g .2, l .1),
@@ -52,13 +58,13 @@ fill-stations-requires c κs =
 
 fill-rows-requires : tie.Need-fill-rows-requires
 fill-rows-requires c κs =
-    let at-fill-stations = c .before .before .before .before .before .before in
+    let at-fill-stations = stations-before-rows c in
     let at-header = at-fill-stations .before .before .before in
     let after-guests = at-header .before .before .before in
-    let else1 = after-guests .before .before .before in
+    let past-lengths = after-guests .before .before .before in
     let g = got after-guests in
     let t = sheet-sound _ (g .0) in
-    let l = lent-lengths _ _ _ _ (lengths else1) in (
+    let l = lent-lengths _ _ _ _ (lengths past-lengths) in (
       omega (arith, t .narrow, g .2),
       at-fill-stations .fill-stations .ensures .place,
       rows-good t (g .1) (g .2),
@@ -69,22 +75,22 @@ fill-rows-requires c κs =
 returns-2 : tie.Need-returns-2
 returns-2 c =
     let at-fill-rows = c .before .before .before .before in
-    let at-fill-stations = at-fill-rows .before .before .before .before .before .before .before in
+    let at-fill-stations = stations-before-rows (at-fill-rows .before) in
     let at-header = at-fill-stations .before .before .before in
     let after-guests = at-header .before .before .before in
-    let else1 = after-guests .before .before .before in
+    let past-lengths = after-guests .before .before .before in
     let g = got after-guests in
     let f = at-fill-stations .fill-stations .ensures in
     let r = at-fill-rows .fill-rows .ensures in
-    read-all _ _ _ _ _ (lengths else1) _ _ _ _ _ _ (g .0) (g .1) (g .2)
+    read-all _ _ _ _ _ (lengths past-lengths) _ _ _ _ _ _ (g .0) (g .1) (g .2)
     (r .amounts-are ∙ over-pastes _ _) (f .asks-are ∙ over-pastes _ _) (f .bays-are ∙ over-pastes _ _)
     (r .bids-are ∙ over-pastes _ _)
 
 returns-3 : tie.Need-returns-3
 returns-3 c =
     let at-check = c .before .before .before in
-    let else1 = at-check .before in
-    refused-sheet _ _ _ _ _ (lengths else1) _ _ (at-check .check .ensures) (c .before .r .given .1)
+    let past-lengths = at-check .before in
+    refused-sheet _ _ _ _ _ (lengths past-lengths) _ _ (at-check .check .ensures) (c .before .r .given .1)
 
 pub read-spec : {M : Type 1} → statement M
 read-spec =

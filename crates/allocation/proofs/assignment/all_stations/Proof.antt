@@ -16,13 +16,19 @@ abbrev μ-loop : tie.MeasureT-loop
 μ-loop asks bays amounts bids cut least totals₀ chosen₀ gains₀ criticals₀ j₀ totals chosen gains criticals j =
     length asks - j
 
-loop-holds : tie.Need-loop-holds Inv-loop μ-loop
-loop-holds c =
-    let entry = c .before .before .before .before .before .before .before .before .before in
-    turning-none (entry .pre .1 .0) (entry .pre .1 .1)
+abbrev entry-before-first-turn : tie.After-slice-known4 Inv-loop μ-loop → tie.Start Inv-loop μ-loop
+entry-before-first-turn p = p .before .before .before .before .before .before .before .before .before
 
 abbrev entry-before-loop : tie.At-loop Inv-loop μ-loop → tie.Start Inv-loop μ-loop
-entry-before-loop p = p .before .before .before .before .before .before .before .before .before .before
+entry-before-loop p = entry-before-first-turn (p .before)
+
+abbrev station-before-next-turn : tie.After-slice-known8 Inv-loop μ-loop → tie.After-station Inv-loop μ-loop
+station-before-next-turn p = p .before .before .before .before .before .before .before .before
+
+loop-holds : tie.Need-loop-holds Inv-loop μ-loop
+loop-holds c =
+    let entry = entry-before-first-turn c in
+    turning-none (entry .pre .1 .0) (entry .pre .1 .1)
 
 station-requires : tie.Need-station-requires Inv-loop μ-loop
 station-requires c κs =
@@ -33,8 +39,9 @@ station-requires c κs =
 
 loop-again : tie.Need-loop-again Inv-loop μ-loop
 loop-again c =
-    let at-station = c .before .before .before .before .before .before .before .before in
-    let at-loop-test = at-station .before .before .before .before .before in
+    let at-station = station-before-next-turn c in
+    let at-call = at-station .before in
+    let at-loop-test = at-call .before .before .before .before in
     let at-loop = at-loop-test .before in
     turning-more (at-loop .loop .inv) (at-loop-test .loop-test .taken)
     (at-station .station .kept .1 .1 .1 .1 .1 .1 .1 .0) (at-station .station .ensures)

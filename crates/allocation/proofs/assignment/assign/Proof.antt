@@ -4,31 +4,32 @@ use Rattle.allocation.proofs.assignment.Assignment.{chargeable, assigne
 use Rattle.allocation.proofs.assignment.assign.Statement.{statement}
 use Rattle.allocation.proofs.assignment.assign.Tie as tie
 
-all-stations-requires : tie.Need-all-stations-requires
-all-stations-requires c κs =
-    let entry = c .before .before .before .before .before .before .before .before .before .before .before .before
-    .before .before .before in
-    (entry .pre .0, (entry .pre .1 .0, entry .pre .1 .1 .0))
-
-abbrev entry-before-all-stations : tie.After-all-stations → tie.Start
+abbrev entry-before-all-stations : tie.After-all-stations-arg4 → tie.Start
 entry-before-all-stations p =
     p .before .before .before .before .before .before .before .before .before .before .before .before
-    .before .before .before .before
+    .before .before .before
+
+abbrev all-stations-before-charges : tie.After-charge-guests-arg4 → tie.After-all-stations
+all-stations-before-charges p =
+    p .before .before .before .before .before .before .before .before .before .before .before .before
+
+all-stations-requires : tie.Need-all-stations-requires
+all-stations-requires c κs =
+    let entry = entry-before-all-stations c in
+    (entry .pre .0, (entry .pre .1 .0, entry .pre .1 .1 .0))
 
 charge-guests-requires : tie.Need-charge-guests-requires
 charge-guests-requires c κs =
-    let at-all-stations = c .before .before .before .before .before .before .before .before .before
-    .before .before .before in
-    let entry = entry-before-all-stations at-all-stations in
+    let at-all-stations = all-stations-before-charges c in
+    let entry = entry-before-all-stations (at-all-stations .before) in
     chargeable (regular _ _ _ _) (entry .pre .0) (at-all-stations .all-stations .ensures .after)
     (entry .pre .1 .1 .1 .0) (entry .pre .1 .1 .1 .1)
 
 returns : tie.Need-returns
 returns c =
     let at-charge-guests = c .before .before .before .before in
-    let at-all-stations = at-charge-guests .before .before .before .before .before .before .before .before .before
-    .before .before .before .before in
-    let entry = entry-before-all-stations at-all-stations in (
+    let at-all-stations = all-stations-before-charges (at-charge-guests .before) in
+    let entry = entry-before-all-stations (at-all-stations .before) in (
       at-all-stations .all-stations .ensures,
       assigned (regular _ _ _ _) (entry .pre .0) (at-all-stations .all-stations .ensures .after)
           (at-charge-guests .charge-guests .ensures),

@@ -6,31 +6,35 @@ use Rattle.allocation.proofs.assignment.Assignment.{after-none}
 use Rattle.allocation.proofs.assignment.assign_all.Statement.{statement}
 use Rattle.allocation.proofs.assignment.assign_all.Tie as tie
 
+abbrev entry-before-totals : tie.After-totals → tie.Start
+entry-before-totals p = p .before .before .before .before .before .before .before .before
+
 slice-aggregate-assign : tie.Need-slice-aggregate-assign
 slice-aggregate-assign c =
-    let entry = c .before .before .before .before .before .before .before .before in
+    let entry = entry-before-totals c in
     zeros-long maxGuests _ (entry .pre .0 .within .shape .guests-most)
 
 slice-aggregate-assign-2 : tie.Need-slice-aggregate-assign-2
 slice-aggregate-assign-2 c =
-    let entry = c .before .before .before .before .before .before .before .before .before in
+    let entry = entry-before-totals (c .before) in
     zeros-long maxGuests _ (entry .pre .0 .within .shape .guests-most)
 
 slice-aggregate-assign-3 : tie.Need-slice-aggregate-assign-3
 slice-aggregate-assign-3 c =
-    let entry = c .before .before .before .before .before .before .before .before .before .before in
+    let entry = entry-before-totals (c .before .before) in
     zeros-long maxGuests _ (entry .pre .0 .within .shape .guests-most)
 
 assign-requires : tie.Need-assign-requires
 assign-requires c κs =
-    let entry = c .before .before .before .before .before .before .before .before .before .before
-    .before .before .before in
+    let at-gains = c .before .before .before in
+    let entry = entry-before-totals (at-gains .before .before) in
     let most = entry .pre .0 .within .shape .guests-most in
     (entry .pre .0, (sym (zeros-long maxGuests _ most), (after-none most, entry .pre .1)))
 
 returns : tie.Need-returns
 returns c =
-    let at-assign = c .before .before .before .before .before .before .before .before in
+    let at-criticals = c .before .before .before .before in
+    let at-assign = at-criticals .before .before .before .before in
     at-assign .assign .ensures .1
 
 pub assign-all-spec : {M : Type 1} → statement M

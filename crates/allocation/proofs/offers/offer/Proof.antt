@@ -1,8 +1,9 @@
-use Prim.Native.Nat.{_-_}
+use Prim.Native.Nat.{_+_, _-_, _≤_}
 use mathlib.Core.Path.{sym, _∙_}
 use native.Mathlib.Omega.{arith}
 use lib.ListN.{length}
 use borrow.Author.Needs.{needs}
+use Rattle.allocation.specs.Totals.{maxTotal}
 use Rattle.allocation.proofs.offers.Offers.{won-pays, gain-low, gain-left, Offering, offers-none, offers-more}
 use Rattle.allocation.proofs.offers.Offers.{offers-end}
 use Rattle.allocation.proofs.offers.offer.Statement.{statement}
@@ -20,6 +21,9 @@ loop-holds c = offers-none (c .before .before .before .before .pre)
 
 abbrev entry-before-loop : tie.At-loop Inv-loop μ-loop → tie.Start Inv-loop μ-loop
 entry-before-loop p = p .before .before .before .before .before
+
+abbrev wide-before-gain-for : tie.After-gain-for Inv-loop μ-loop → tie.After-wide Inv-loop μ-loop
+wide-before-gain-for p = p .before .before .before .before .before
 
 larger-small-requires : tie.Need-larger-small-requires Inv-loop μ-loop
 larger-small-requires c κs =
@@ -66,58 +70,36 @@ gain-for-requires c κs =
           (entry .pre .no-tie) (sym (c .wins .ensures) ∙ w))),
     )
 
-pick-requires : tie.Need-pick-requires Inv-loop μ-loop
-pick-requires c κs =
-    let at-gain-for = c .before .before .before in
-    let at-wide = at-gain-for .before .before .before .before .before in
+-- the offer's gain and the best so far are within the limits
+gain-inside : (c : tie.After-gain-for Inv-loop μ-loop) → c .gain-for .result .0 ≤ maxTotal + 1
+gain-inside c =
+    let at-wide = wide-before-gain-for c in
+    let at-loop-test = at-wide .before .before in
+    let entry = entry-before-loop (at-loop-test .before) in
+    gain-low _ _ _ (omega (arith, at-wide .wide .ensures, entry .pre .totals-low _ (at-loop-test .loop-test .taken)))
+    (c .gain-for .ensures)
+
+best-inside : (c : tie.After-wide3 Inv-loop μ-loop) → c .wide3 .result .0 ≤ maxTotal + 1
+best-inside c =
+    let at-wide = wide-before-gain-for (c .before .before) in
     let at-loop-test = at-wide .before .before in
     let at-loop = at-loop-test .before in
-    let entry = entry-before-loop at-loop in (
-      omega (
-        arith,
-        c .before .wide3 .ensures,
-        gain-left (entry .pre) (at-loop .loop .inv) (at-loop-test .loop-test .taken),
-      ),
-      gain-low _ _ _ (omega (arith, at-wide .wide .ensures, entry .pre .totals-low _ (at-loop-test .loop-test .taken)))
-          (at-gain-for .gain-for .ensures),
-    )
+    let entry = entry-before-loop at-loop in
+    omega (arith, c .wide3 .ensures, gain-left (entry .pre) (at-loop .loop .inv) (at-loop-test .loop-test .taken))
+
+pick-requires : tie.Need-pick-requires Inv-loop μ-loop
+pick-requires c κs = (best-inside (c .before), gain-inside (c .before .before .before))
 
 larger-small-requires-2 : tie.Need-larger-small-requires-2 Inv-loop μ-loop
-larger-small-requires-2 c κs =
-    let at-gain-for = c .before .before .before .before in
-    let at-wide = at-gain-for .before .before .before .before .before in
-    let at-loop-test = at-wide .before .before in
-    let at-loop = at-loop-test .before in
-    let entry = entry-before-loop at-loop in (
-      omega (
-        arith,
-        c .before .before .wide3 .ensures,
-        gain-left (entry .pre) (at-loop .loop .inv) (at-loop-test .loop-test .taken),
-      ),
-      omega (
-        arith,
-        gain-low _ _ _
-            (omega (arith, at-wide .wide .ensures, entry .pre .totals-low _ (at-loop-test .loop-test .taken)))
-            (at-gain-for .gain-for .ensures),
-      ),
-    )
+larger-small-requires-2 c κs = (
+  omega (arith, best-inside (c .before .before)),
+  omega (arith, gain-inside (c .before .before .before .before)),
+)
 
 narrow-requires : tie.Need-narrow-requires Inv-loop μ-loop
 narrow-requires c κs =
     let at-wide3 = c .before .before .before in
-    let at-gain-for = at-wide3 .before .before in
-    let at-wide = at-gain-for .before .before .before .before .before in
-    let at-loop-test = at-wide .before .before in
-    let at-loop = at-loop-test .before in
-    let entry = entry-before-loop at-loop in
-    omega (
-      arith,
-      c .larger-small2 .ensures,
-      at-wide3 .wide3 .ensures,
-      gain-left (entry .pre) (at-loop .loop .inv) (at-loop-test .loop-test .taken),
-      gain-low _ _ _ (omega (arith, at-wide .wide .ensures, entry .pre .totals-low _ (at-loop-test .loop-test .taken)))
-          (at-gain-for .gain-for .ensures),
-    )
+    omega (arith, c .larger-small2 .ensures, best-inside at-wide3, gain-inside (at-wide3 .before .before))
 
 loop-again : tie.Need-loop-again Inv-loop μ-loop
 loop-again c =

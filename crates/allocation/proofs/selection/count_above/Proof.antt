@@ -21,9 +21,10 @@ loop-holds c = counted-none
 
 below-small-requires : tie.Need-below-small-requires Inv-loop μ-loop
 below-small-requires c κs =
-    let entry = c .before .before .before .before .before in (
+    let at-loop-test = c .before .before in
+    let entry = at-loop-test .before .before .before in (
       omega (arith, entry .pre .2),
-      omega (arith, c .wide .ensures, entry .pre .1 _ (c .before .before .loop-test .taken)),
+      omega (arith, c .wide .ensures, entry .pre .1 _ (at-loop-test .loop-test .taken)),
     )
 
 add-n : tie.Need-add-n Inv-loop μ-loop

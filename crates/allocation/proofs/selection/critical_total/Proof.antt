@@ -78,9 +78,10 @@ count-above-requires-3 c κs =
 
 largest-at-most-requires-2 : tie.Need-largest-at-most-requires-2 Inv-loop μ-loop
 largest-at-most-requires-2 c κs =
-    let at-loop = c .before .before .before .before .before .before in
+    let at-middle = c .before .before in
+    let at-loop = at-middle .before .before .before .before in
     let entry = entry-before-loop at-loop in
-    (entry .pre .1 .0, omega (arith, c .before .before .middle .ensures, at-loop .loop .inv .0, at-loop .loop .inv .1))
+    (entry .pre .1 .0, omega (arith, at-middle .middle .ensures, at-loop .loop .inv .0, at-loop .loop .inv .1))
 
 returns-4 : tie.Need-returns-4 Inv-loop μ-loop
 returns-4 c =
@@ -90,8 +91,8 @@ returns-4 c =
 loop-less : tie.Need-loop-less Inv-loop μ-loop
 loop-less c =
     let at-middle = c .before .before .before in
-    let at-if4 = at-middle .before in
-    omega (arith, at-middle .middle .ensures, at-if4 .if4 .taken)
+    let still-apart = at-middle .before in
+    omega (arith, at-middle .middle .ensures, still-apart .if4 .taken)
 
 loop-again : tie.Need-loop-again Inv-loop μ-loop
 loop-again c =
@@ -112,16 +113,16 @@ plus-requires c κs =
 loop-less-2 : tie.Need-loop-less-2 Inv-loop μ-loop
 loop-less-2 c =
     let at-middle = c .before .before .before .before in
-    let at-if4 = at-middle .before in
-    omega (arith, c .plus .ensures, at-middle .middle .ensures, at-if4 .if4 .taken)
+    let still-apart = at-middle .before in
+    omega (arith, c .plus .ensures, at-middle .middle .ensures, still-apart .if4 .taken)
 
 loop-again-2 : tie.Need-loop-again-2 Inv-loop μ-loop
 loop-again-2 c =
     let at-count-above3 = c .before .before .before in
     let at-middle = at-count-above3 .before in
-    let at-if4 = at-middle .before in
-    let at-loop = at-if4 .before .before .before in (
-      omega (arith, c .plus .ensures, at-middle .middle .ensures, at-if4 .if4 .taken),
+    let still-apart = at-middle .before in
+    let at-loop = still-apart .before .before .before in (
+      omega (arith, c .plus .ensures, at-middle .middle .ensures, still-apart .if4 .taken),
       at-loop .loop .inv .1,
       at-loop .loop .inv .2,
       (λ u l. many-below _ _ _ _ (at-count-above3 .count-above3 .ensures)

@@ -22,8 +22,9 @@ loop-holds c = greatest-none
 
 capped-requires : tie.Need-capped-requires Inv-loop μ-loop
 capped-requires c κs =
-    let entry = c .before .before .before .before .before in
-    (omega (arith, c .wide .ensures, entry .pre .0 _ (c .before .before .loop-test .taken)), entry .pre .1)
+    let at-loop-test = c .before .before in
+    let entry = at-loop-test .before .before .before in
+    (omega (arith, c .wide .ensures, entry .pre .0 _ (at-loop-test .loop-test .taken)), entry .pre .1)
 
 larger-small-requires : tie.Need-larger-small-requires Inv-loop μ-loop
 larger-small-requires c κs =

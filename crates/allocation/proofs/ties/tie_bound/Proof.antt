@@ -32,8 +32,8 @@ returns-2 c =
 
 loop-again : tie.Need-loop-again Inv-loop μ-loop
 loop-again c =
-    let at-if2 = c .before .before .before in
-    let at-loop = at-if2 .before .before in
+    let room-left = c .before .before .before in
+    let at-loop = room-left .before .before in
     let entry = at-loop .before .before .before .before in (
       omega arith,
       omega (arith, c .tally .ensures .1),
@@ -41,7 +41,7 @@ loop-again c =
           (c .tally .ensures .0
           ∙ ap (λ x. at-loop .loop .s + only (x =? entry .args .t .0) 1) (c .before .wide .ensures)),
       room-more (entry .args .totals .now) _ _ _ _ _ (at-loop .loop .inv .2)
-          (at-if2 .if2 .left) (at-loop .loop .inv .3),
+          (room-left .if2 .left) (at-loop .loop .inv .3),
     )
 
 returns-3 : tie.Need-returns-3 Inv-loop μ-loop

@@ -19,28 +19,28 @@ Inv-loop bids amounts m j cut totals₀ top₀ i₀ totals top i =
 abbrev μ-loop : tie.MeasureT-loop
 μ-loop bids amounts m j cut totals₀ top₀ i₀ totals top i = length amounts - i
 
-abbrev start : tie.In-loop Inv-loop μ-loop → tie.Start Inv-loop μ-loop
-start c = c .before .before .before .before .before
+abbrev entry : tie.In-loop Inv-loop μ-loop → tie.Start Inv-loop μ-loop
+entry c = c .before .before .before .before .before
 
 -- in the loop's body the index of the bid is within the table
 inside :
     (c : tie.In-loop Inv-loop μ-loop)
-    → c .before .loop .i * start c .args .m + start c .args .j < length (start c .args .bids .now)
+    → c .before .loop .i * entry c .args .m + entry c .args .j < length (entry c .args .bids .now)
 inside c =
     omega (
       arith,
-      in-table (length (start c .args .amounts .now)) (start c .args .m) (c .before .loop .i) (start c .args .j)
-          (c .loop-test .taken) (start c .pre .1 .0 .0),
+      in-table (length (entry c .args .amounts .now)) (entry c .args .m) (c .before .loop .i) (entry c .args .j)
+          (c .loop-test .taken) (entry c .pre .1 .0 .0),
     )
 
 -- and the total is within the limits
 total-here :
     (c : tie.In-loop Inv-loop μ-loop) {x : ℕ}
     → x
-    ≡ totalAt (start c .args .bids .now) (start c .args .amounts .now) (start c .args .m) (start c .args .j)
-    (start c .args .cut .0) (c .before .loop .i) → x ≤ maxTotal
+    ≡ totalAt (entry c .args .bids .now) (entry c .args .amounts .now) (entry c .args .m) (entry c .args .j)
+    (entry c .args .cut .0) (c .before .loop .i) → x ≤ maxTotal
 total-here c e =
-    rw e (total-low _ _ _ (start c .pre .1 .1 .0 _ (inside c)) (start c .pre .1 .1 .1 _ (c .loop-test .taken)))
+    rw e (total-low _ _ _ (entry c .pre .1 .1 .0 _ (inside c)) (entry c .pre .1 .1 .1 _ (c .loop-test .taken)))
 
 loop-holds : tie.Need-loop-holds Inv-loop μ-loop
 loop-holds c = (filling-none (c .before .before .before .pre .1 .0 .1), greatest-none, omega arith)
@@ -68,17 +68,18 @@ larger-small-requires c κs =
 
 loop-again : tie.Need-loop-again Inv-loop μ-loop
 loop-again c =
-    let at-loop-test = c .before .before .before .before .before in
+    let at-total-for = c .before .before in
+    let at-loop-test = at-total-for .before .before .before in
     let at-loop = at-loop-test .before in (
       filling-turn (at-loop .loop .inv .0) (at-loop-test .loop-test .taken)
-          (c .before .narrow .ensures ∙ c .before .before .total-for .ensures),
-      greatest-turn (at-loop .loop .inv .1) (at-loop-test .loop-test .taken) (c .before .before .total-for .ensures)
+          (c .before .narrow .ensures ∙ at-total-for .total-for .ensures),
+      greatest-turn (at-loop .loop .inv .1) (at-loop-test .loop-test .taken) (at-total-for .total-for .ensures)
           (c .larger-small .ensures),
       omega (
         arith,
         c .larger-small .ensures,
         at-loop .loop .inv .2,
-        total-here at-loop-test (c .before .before .total-for .ensures),
+        total-here at-loop-test (at-total-for .total-for .ensures),
       ),
     )
 

@@ -1,10 +1,31 @@
-use mathlib.Core.Path.{sym, _∙_}
+use mathlib.Core.Bool.{false}
+use mathlib.Core.Path.{_≡_, sym, _∙_}
 use borrow.Author.Needs.{needs}
-use Rattle.model.specs.market.Faults.{values}
+use Rattle.model.specs.Limits.{maxPrice, maxBays, maxAmount}
+use Rattle.model.specs.Counting.{any}
+use Rattle.model.specs.market.Faults.{outside, values}
 use Rattle.model.proofs.Verdicts.{fault-none, fault-here, fault-later}
 use Rattle.model.specs.Numbers.{answerOfVerdict}
 use Rattle.checks.proofs.faults.value_fault.Statement.{statement}
 use Rattle.checks.proofs.faults.value_fault.Tie as tie
+
+abbrev entry-before-asks : tie.After-any-outside32 → tie.Start
+entry-before-asks p = p .before .before .before .before .before
+
+-- the lists that were scanned and have no fault
+asks-inside : (c : tie.Else1) → any (entry-before-asks (c .before) .args .asks .now) (outside 0 maxPrice) ≡ false
+asks-inside c = sym (c .before .any-outside32 .ensures) ∙ c .if1 .left
+
+bays-inside : (c : tie.Else2) →
+    let entry = entry-before-asks (c .before .before .before) in
+    any (entry .args .bays .now) (outside 1 maxBays) ≡ false
+bays-inside c = sym (c .before .any-outside16 .ensures) ∙ c .if2 .left
+
+amounts-inside : (c : tie.Else3) →
+    let past-bays = c .before .before in
+    let entry = entry-before-asks (past-bays .before .before .before) in
+    any (entry .args .amounts .now) (outside 1 maxAmount) ≡ false
+amounts-inside c = sym (c .before .any-outside162 .ensures) ∙ c .if3 .left
 
 returns : tie.Need-returns
 unfolding values answerOfVerdict
@@ -13,44 +34,32 @@ returns c = sym ((fault-here _ (sym (c .before .any-outside32 .ensures) ∙ c .i
 returns-2 : tie.Need-returns-2
 unfolding values answerOfVerdict
 returns-2 c =
-    sym ((fault-later _ _
-    (sym (c .before .before .before .any-outside32 .ensures) ∙ c .before .before .if1 .left)
+    sym ((fault-later _ _ (asks-inside (c .before .before))
     ∙ fault-here _ (sym (c .before .any-outside16 .ensures) ∙ c .if2 .taken)))
 
 returns-3 : tie.Need-returns-3
 unfolding values answerOfVerdict
 returns-3 c =
-    let at-any-outside16 = c .before .before .before in
-    let at-if1 = at-any-outside16 .before in
-    let at-any-outside32 = at-if1 .before in
-    sym ((fault-later _ _ (sym (at-any-outside32 .any-outside32 .ensures) ∙ at-if1 .if1 .left)
-    ∙ fault-later _ _ (sym (at-any-outside16 .any-outside16 .ensures) ∙ c .before .before .if2 .left)
+    let past-bays = c .before .before in
+    sym ((fault-later _ _ (asks-inside (past-bays .before .before)) ∙ fault-later _ _ (bays-inside past-bays)
     ∙ fault-here _ (sym (c .before .any-outside162 .ensures) ∙ c .if3 .taken)))
 
 returns-4 : tie.Need-returns-4
 unfolding values answerOfVerdict
 returns-4 c =
-    let at-any-outside162 = c .before .before .before in
-    let at-if2 = at-any-outside162 .before in
-    let at-any-outside16 = at-if2 .before in
-    let at-if1 = at-any-outside16 .before in
-    let at-any-outside32 = at-if1 .before in
-    sym ((fault-later _ _ (sym (at-any-outside32 .any-outside32 .ensures) ∙ at-if1 .if1 .left)
-    ∙ fault-later _ _ (sym (at-any-outside16 .any-outside16 .ensures) ∙ at-if2 .if2 .left)
-    ∙ fault-later _ _ (sym (at-any-outside162 .any-outside162 .ensures) ∙ c .before .before .if3 .left)
+    let past-amounts = c .before .before in
+    let past-bays = past-amounts .before .before in
+    sym ((fault-later _ _ (asks-inside (past-bays .before .before)) ∙ fault-later _ _ (bays-inside past-bays)
+    ∙ fault-later _ _ (amounts-inside past-amounts)
     ∙ fault-here _ (sym (c .before .any-outside322 .ensures) ∙ c .if4 .taken)))
 
 returns-5 : tie.Need-returns-5
 unfolding values answerOfVerdict
 returns-5 c =
-    let at-any-outside162 = c .before .before .before in
-    let at-if2 = at-any-outside162 .before in
-    let at-any-outside16 = at-if2 .before in
-    let at-if1 = at-any-outside16 .before in
-    let at-any-outside32 = at-if1 .before in
-    sym ((fault-later _ _ (sym (at-any-outside32 .any-outside32 .ensures) ∙ at-if1 .if1 .left)
-    ∙ fault-later _ _ (sym (at-any-outside16 .any-outside16 .ensures) ∙ at-if2 .if2 .left)
-    ∙ fault-later _ _ (sym (at-any-outside162 .any-outside162 .ensures) ∙ c .before .before .if3 .left)
+    let past-amounts = c .before .before in
+    let past-bays = past-amounts .before .before in
+    sym ((fault-later _ _ (asks-inside (past-bays .before .before)) ∙ fault-later _ _ (bays-inside past-bays)
+    ∙ fault-later _ _ (amounts-inside past-amounts)
     ∙ fault-later _ _ (sym (c .before .any-outside322 .ensures) ∙ c .if4 .left) ∙ fault-none))
 
 pub value-fault-spec : {M : Type 1} → statement M

@@ -35,7 +35,8 @@ plus-requires c κs =
 
 loop-again : tie.Need-loop-again Inv-loop μ-loop
 loop-again c =
-    let at-loop = c .before .before .before .before .before in (
+    let in-loop = c .before .before .before .before in
+    let at-loop = in-loop .before in (
       omega arith,
       filled-more (at-loop .loop .inv .1) (omega arith) (c .plus .ensures
           ∙ ap₂ _+_ (at-loop .loop .inv .1 .left (at-loop .loop .k) (le-refl _)) (c .before .wide .ensures)),

@@ -12,8 +12,14 @@ use Rattle.ledger.proofs.planning.Cleared.{miscounted, clear-refuses, c
 use Rattle.ledger.proofs.planning.plan.Statement.{statement}
 use Rattle.ledger.proofs.planning.plan.Tie as tie
 
+abbrev entry-before-counts : tie.After-counts-out-of-range → tie.Start
+entry-before-counts p = p .before .before .before .before .before
+
+abbrev counted-before-clear : tie.After-clear → tie.Else1
+counted-before-clear p = p .before .before .before .before .before
+
 within : (c : tie.Else1) →
-    let entry = c .before .before .before .before .before .before in
+    let entry = entry-before-counts (c .before) in
     (length (entry .args .amounts .now) ≤ maxGuests) × (length (entry .args .asks .now) ≤ maxStations)
 within c =
     let k = counted _ _ (sym (c .before .counts-out-of-range .ensures) ∙ c .if1 .left) in
@@ -50,16 +56,18 @@ slice-aggregate-clear-4 c = zeros-long maxStations _ (within (c .before .before 
 
 returns-2 : tie.Need-returns-2
 returns-2 c =
-    let at-clear = c .before .before .before .before .before .before .before .before in
-    let w = within (at-clear .before .before .before .before .before) in
+    let at-match = c .before .before .before .before in
+    let at-clear = at-match .before .before .before .before in
+    let w = within (counted-before-clear at-clear) in
     clear-refuses _ _ _ _ _ _ _ _ (at-clear .clear .ensures) (lengths _ (w .0) (w .1)) _ _
     (c .before .before .answer .given .1) (c .refusing2 .ensures)
 
 returns-3 : tie.Need-returns-3
 unfolding posted
 returns-3 c =
-    let at-clear = c .before .before .before .before .before .before .before in
-    let w = within (at-clear .before .before .before .before .before) in
+    let at-match = c .before .before .before in
+    let at-clear = at-match .before .before .before .before in
+    let w = within (counted-before-clear at-clear) in
     clear-posts _ _ _ _ _ _ _ _ (at-clear .clear .ensures) (lengths _ (w .0) (w .1)) _ _ _ (w .0) (w .1)
     (c .before .answer2 .given .1) refl
 

@@ -21,7 +21,8 @@ loop-holds c = (search needs, scan-none _)
 
 loop-again : tie.Need-loop-again Inv-loop μ-loop
 loop-again c =
-    let at-loop = c .before .before .before .before .before in
+    let in-loop = c .before .before .before .before in
+    let at-loop = in-loop .before in
     let entry = at-loop .before .before in (
       search needs,
       scan-turn _ _ _ _ (at-loop .loop .inv .1) (c .mills-exceed .ensures

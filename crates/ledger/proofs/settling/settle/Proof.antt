@@ -10,31 +10,34 @@ use Rattle.ledger.proofs.settling.Settling.{settled-late, settled-over,
 use Rattle.ledger.proofs.settling.settle.Statement.{statement}
 use Rattle.ledger.proofs.settling.settle.Tie as tie
 
-abbrev start : tie.Else2 → tie.Start
-start p = p .before .before .before .before .before .before .before .before
+abbrev entry-before-room : tie.Else2 → tie.Start
+entry-before-room p = p .before .before .before .before .before .before .before .before
 
 -- the book is not too large
-fits : (p : tie.Else2) → length (start p .args .guests .now) ≤ maxGuests
+fits : (p : tie.Else2) → length (entry-before-room p .args .guests .now) ≤ maxGuests
 fits p =
     let at-book-size-differs = p .before .before .before .before in
-    sized (start p .args .t1 .guests) (start p .args .t1 .stations) _ (start p .args .stations) _
+    let args = entry-before-room p .args in
+    sized (args .t1 .guests) (args .t1 .stations) _ (args .stations) _
     (at-book-size-differs .book-size-differs .ensures) (p .before .before .before .if1 .left) .0
 
 returns : tie.Need-returns
 returns c =
-    let entry = c .before .before .before .before .before .before in
+    let at-enum-told = c .before .before .before in
+    let entry = at-enum-told .before .before .before in
     settled-size (entry .args .t1) (entry .args .full) (entry .args .stations) _ _ _ _ _
-    (c .before .before .before .enum-told .given .1) (c .before .before .book-size-differs .ensures)
+    (at-enum-told .enum-told .given .1) (c .before .before .book-size-differs .ensures)
     _ (c .before .if1 .taken)
     (c .refusing2 .ensures)
 
 returns-2 : tie.Need-returns-2
 returns-2 c =
-    let at-book-size-differs = c .before .before .before .before .before in
+    let past-size = c .before .before .before .before in
+    let at-book-size-differs = past-size .before in
     let entry = at-book-size-differs .before .before .before .before in
     settled-late (entry .args .t1) (entry .args .full) (entry .args .stations) _ _ _ _ _
     (at-book-size-differs .before .enum-told .given .1) (at-book-size-differs .book-size-differs .ensures) _
-    (c .before .before .before .before .if1 .left) (c .before .before .round-out-of-turn .ensures)
+    (past-size .if1 .left) (c .before .before .round-out-of-turn .ensures)
     _ (c .before .if2 .taken)
     (c .refusing3 .ensures)
 
@@ -43,38 +46,42 @@ any-exceeds-requires c κs = fits (c .before .before .before)
 
 returns-3 : tie.Need-returns-3
 returns-3 c =
-    let at-any-exceeds = c .before .before .before .before .before in
-    let else2 = at-any-exceeds .before .before .before .before in
-    let at-book-size-differs = else2 .before .before .before .before in
-    let args = start else2 .args in
+    let at-mills-exceed = c .before .before in
+    let at-any-exceeds = at-mills-exceed .before .before .before in
+    let past-turn = at-any-exceeds .before .before .before .before in
+    let at-book-size-differs = past-turn .before .before .before .before in
+    let args = entry-before-room past-turn .args in
     settled-over (args .t1) (args .full) (args .stations) _ _ _ _ _
     (at-book-size-differs .before .enum-told .given .1) (at-book-size-differs .book-size-differs .ensures) _
-    (else2 .before .before .before .if1 .left) (else2 .before .round-out-of-turn .ensures) _ (else2 .if2 .left)
+    (past-turn .before .before .before .if1 .left) (past-turn .before .round-out-of-turn .ensures) _
+    (past-turn .if2 .left)
     (sym (test-is (args .t1) (args .full) (args .stations) (args .round) _ _ (args .last .now) _ _
-    (at-any-exceeds .any-exceeds .ensures) (c .before .before .mills-exceed .ensures)) ∙ c .before .if3 .taken)
+    (at-any-exceeds .any-exceeds .ensures) (at-mills-exceed .mills-exceed .ensures)) ∙ c .before .if3 .taken)
     (c .refusing4 .ensures)
 
 add-requires : tie.Need-add-requires
 add-requires c κs =
     let at-mills-exceed = c .before .before .before .before in
     let at-any-exceeds = at-mills-exceed .before .before .before in
-    let else2 = at-any-exceeds .before .before .before .before in (
-      fits else2,
+    let past-turn = at-any-exceeds .before .before .before .before in (
+      fits past-turn,
       addable _ _ (sym (at-any-exceeds .any-exceeds .ensures)
-          ∙ all-fail (start else2 .args .full) _ (at-mills-exceed .mills-exceed .result)
+          ∙ all-fail (entry-before-room past-turn .args .full) _ (at-mills-exceed .mills-exceed .result)
           (c .before .before .before .if3 .left) .0),
     )
 
 plus-requires : tie.Need-plus-requires
 plus-requires c κs =
-    let else3 = c .before .before .before .before .before .before .before in
-    let at-mills-exceed = else3 .before in
+    let at-add = c .before .before .before in
+    let past-room = at-add .before .before .before .before in
+    let at-mills-exceed = past-room .before in
     let at-any-exceeds = at-mills-exceed .before .before .before in
-    let else2 = at-any-exceeds .before .before .before .before in
+    let past-turn = at-any-exceeds .before .before .before .before in
     omega (
       arith,
       lt-no _ _ (sym (at-mills-exceed .mills-exceed .ensures)
-          ∙ all-fail (start else2 .args .full) (at-any-exceeds .any-exceeds .result) _ (else3 .if3 .left) .1),
+          ∙ all-fail (entry-before-room past-turn .args .full) (at-any-exceeds .any-exceeds .result) _
+          (past-room .if3 .left) .1),
     )
 
 returns-4 : tie.Need-returns-4
@@ -82,19 +89,21 @@ returns-4 c = settled-refused _ _ _ _ _ _ _ _ _ (c .before .before .reply .given
 
 returns-5 : tie.Need-returns-5
 returns-5 c =
-    let else3 = c .before .before .before .before .before .before .before .before in
-    let at-mills-exceed = else3 .before in
+    let at-add = c .before .before .before .before in
+    let past-room = at-add .before .before .before .before in
+    let at-mills-exceed = past-room .before in
     let at-any-exceeds = at-mills-exceed .before .before .before in
-    let else2 = at-any-exceeds .before .before .before .before in
-    let at-book-size-differs = else2 .before .before .before .before in
-    let args = start else2 .args in
+    let past-turn = at-any-exceeds .before .before .before .before in
+    let at-book-size-differs = past-turn .before .before .before .before in
+    let args = entry-before-room past-turn .args in
     settled-posted (args .t1) (args .full) (args .stations) _ _ _ _ _
     (at-book-size-differs .before .enum-told .given .1) (at-book-size-differs .book-size-differs .ensures) _
-    (else2 .before .before .before .if1 .left) (else2 .before .round-out-of-turn .ensures) _ _ _ (else2 .if2 .left)
+    (past-turn .before .before .before .if1 .left) (past-turn .before .round-out-of-turn .ensures) _ _ _
+    (past-turn .if2 .left)
     (sym (test-is (args .t1) (args .full) (args .stations) (args .round) _ _ (args .last .now) _ _
-    (at-any-exceeds .any-exceeds .ensures) (at-mills-exceed .mills-exceed .ensures)) ∙ else3 .if3 .left)
+    (at-any-exceeds .any-exceeds .ensures) (at-mills-exceed .mills-exceed .ensures)) ∙ past-room .if3 .left)
     (at-book-size-differs .before .enum-told .given .1) refl
-    (c .before .before .before .before .add .ensures) (c .plus .ensures)
+    (at-add .add .ensures) (c .plus .ensures)
 
 pub settle-spec : {M : Type 1} → statement M
 settle-spec =

@@ -14,29 +14,31 @@ returns-2 c = credited-past _ _ _ (c .before .before .station-exceeds .ensures) 
 
 add-t13 : tie.Need-add-t13
 add-t13 c =
-    let else1 = c .before .before .before in
-    let args = else1 .before .before .args in
+    let past-room = c .before .before .before in
+    let args = past-room .before .before .args in
     omega (
       arith,
-      room (args .t2) _ _ (else1 .before .station-exceeds .ensures) (else1 .if1 .left) .0,
+      room (args .t2) _ _ (past-room .before .station-exceeds .ensures) (past-room .if1 .left) .0,
       sold-in (args .t2) (args .j) (omega arith),
     )
 
 plus-requires : tie.Need-plus-requires
 plus-requires c κs =
-    let else1 = c .before .before .before .before in
-    let args = else1 .before .before .args in
+    let past-room = c .before .before .before .before in
+    let args = past-room .before .before .args in
     omega (
       arith,
-      room (args .t2) _ _ (else1 .before .station-exceeds .ensures) (else1 .if1 .left) .1,
+      room (args .t2) _ _ (past-room .before .station-exceeds .ensures) (past-room .if1 .left) .1,
       paid-in (args .t2) (args .j) (omega arith),
     )
 
 returns-3 : tie.Need-returns-3
 returns-3 c =
-    let else1 = c .before .before .before .before .before in
-    let args = else1 .before .before .args in
-    credited-yes (args .t2) (args .j) (args .account) (else1 .before .station-exceeds .ensures) (else1 .if1 .left)
+    let past-count = c .before .before .before .before in
+    let past-room = past-count .before in
+    let args = past-room .before .before .args in
+    credited-yes (args .t2) (args .j) (args .account) (past-room .before .station-exceeds .ensures)
+    (past-room .if1 .left)
     (ap (λ x. args .account .sold + x) (sold-in (args .t2) (args .j) (omega arith)))
     (c .plus .ensures ∙ ap (λ x. args .account .paid + x) (paid-in (args .t2) (args .j) (omega arith)))
 

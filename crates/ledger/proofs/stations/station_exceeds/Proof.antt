@@ -6,20 +6,21 @@ use Rattle.ledger.proofs.stations.station_exceeds.Tie as tie
 
 returns : tie.Need-returns
 returns c =
-    let else1 = c .before .before in
-    let r = else1 .before .args .t2 in
-    let j = else1 .before .args .j in
-    let past = else1 .if1 .taken in
-    exceeds-is r j _ (else1 .before .args .before) _ _ (sold-past r j past) (paid-past r j past)
+    let at-outside = c .before .before in
+    let r = at-outside .before .args .t2 in
+    let j = at-outside .before .args .j in
+    let past = at-outside .if1 .taken in
+    exceeds-is r j _ (at-outside .before .args .before) _ _ (sold-past r j past) (paid-past r j past)
     (c .before .kwh-exceed .ensures) (c .mills-exceed .ensures)
 
 returns-2 : tie.Need-returns-2
 returns-2 c =
-    let entry = c .before .before .before .before .before in
+    let at-kwh-exceed = c .before .before in
+    let entry = at-kwh-exceed .before .before .before in
     let r = entry .args .t2 in
     let j = entry .args .j in
     exceeds-is r j _ (entry .args .before) _ _ (sold-in r j (omega arith)) (paid-in r j (omega arith))
-    (c .before .before .kwh-exceed2 .ensures) (c .mills-exceed2 .ensures)
+    (at-kwh-exceed .kwh-exceed2 .ensures) (c .mills-exceed2 .ensures)
 
 pub station-exceeds-spec : {M : Type 1} → statement M
 station-exceeds-spec =

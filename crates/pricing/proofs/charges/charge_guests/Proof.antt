@@ -17,13 +17,16 @@ Inv-loop chosen least criticals stations₀ charges₀ i₀ stations charges i =
 abbrev μ-loop : tie.MeasureT-loop
 μ-loop chosen least criticals stations₀ charges₀ i₀ stations charges i = length chosen - i
 
-loop-holds : tie.Need-loop-holds Inv-loop μ-loop
-loop-holds c =
-    let entry = c .before .before .before .before .before in
-    (filling-none (entry .pre .stations-long), filling-none (entry .pre .charges-long))
+abbrev entry-before-first-turn : tie.After-slice-known2 Inv-loop μ-loop → tie.Start Inv-loop μ-loop
+entry-before-first-turn p = p .before .before .before .before .before
 
 abbrev entry-before-loop : tie.At-loop Inv-loop μ-loop → tie.Start Inv-loop μ-loop
-entry-before-loop p = p .before .before .before .before .before .before
+entry-before-loop p = entry-before-first-turn (p .before)
+
+loop-holds : tie.Need-loop-holds Inv-loop μ-loop
+loop-holds c =
+    let entry = entry-before-first-turn c in
+    (filling-none (entry .pre .stations-long), filling-none (entry .pre .charges-long))
 
 cast-wide : tie.Need-cast-wide Inv-loop μ-loop
 cast-wide c =
@@ -49,15 +52,15 @@ cast-stations c =
 narrow-requires : tie.Need-narrow-requires Inv-loop μ-loop
 narrow-requires c κs =
     let at-wide = c .before .before .before in
-    let at-shared-slice-known5 = at-wide .before in
-    let at-loop = at-shared-slice-known5 .before .before .before in
+    let at-criticals = at-wide .before in
+    let at-loop = at-criticals .before .before .before in
     let entry = entry-before-loop at-loop in
     charge-fits _ _ _ (c .charge-at .ensures)
     (omega (arith, c .before .wide2 .ensures, c .before .before .shared-slice-known6 .given (at-loop .loop .i)))
     (omega (
       arith,
       at-wide .wide .ensures,
-      at-shared-slice-known5 .shared-slice-known5 .given (getD (entry .args .chosen .now) (at-loop .loop .i) 0),
+      at-criticals .shared-slice-known5 .given (getD (entry .args .chosen .now) (at-loop .loop .i) 0),
     ))
 
 loop-again : tie.Need-loop-again Inv-loop μ-loop

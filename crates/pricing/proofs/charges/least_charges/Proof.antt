@@ -20,11 +20,12 @@ loop-holds c = filling-none (c .before .before .pre .0 .0)
 
 narrow-requires : tie.Need-narrow-requires Inv-loop μ-loop
 narrow-requires c κs =
-    let entry = c .before .before .before .before .before .before in
+    let at-loop-test = c .before .before in
+    let entry = at-loop-test .before .before .before .before in
     omega (
       arith,
       c .least-charge .ensures,
-      product _ _ (entry .pre .0 .1) (entry .pre .1 _ (c .before .before .loop-test .taken)),
+      product _ _ (entry .pre .0 .1) (entry .pre .1 _ (at-loop-test .loop-test .taken)),
     )
 
 loop-again : tie.Need-loop-again Inv-loop μ-loop

@@ -1,30 +1,23 @@
-use mathlib.Core.Path.{sym, _∙_}
+use mathlib.Core.Path.{_≡_, sym, _∙_}
 use native.Mathlib.Omega.{arith}
 use borrow.Author.Needs.{needs}
 use Rattle.model.proofs.Tests.{lt-yes, lt-no}
+use Rattle.pricing.specs.MedianAsk.{eligible}
 use Rattle.pricing.proofs.cut.MedianAsk.{eligible-yes, eligible-no}
 use Rattle.pricing.proofs.cut.raised.Statement.{statement}
 use Rattle.pricing.proofs.cut.raised.Tie as tie
 
+-- fewer than `position` asks lie below x
+x-eligible : (c : tie.After-below) →
+    let entry = c .before .before .before .before in
+    eligible (entry .args .asks .now) (entry .args .position) (entry .args .x .0) ≡ entry .args .x .0
+x-eligible c = eligible-yes _ _ _ _ (c .before .before .count-below .ensures) (c .before .if1 .taken)
+
 returns : tie.Need-returns
-returns c =
-    let at-count-below = c .before .before .before in
-    let entry = at-count-below .before .before in
-    omega (
-      arith,
-      eligible-yes _ _ _ _ (at-count-below .count-below .ensures) (c .before .before .if1 .taken),
-      lt-yes (entry .args .r .0) (entry .args .x .0) (sym (c .before .below .ensures) ∙ c .if2 .taken),
-    )
+returns c = omega (arith, x-eligible (c .before), lt-yes _ _ (sym (c .before .below .ensures) ∙ c .if2 .taken))
 
 returns-2 : tie.Need-returns-2
-returns-2 c =
-    let at-count-below = c .before .before .before in
-    let entry = at-count-below .before .before in
-    omega (
-      arith,
-      eligible-yes _ _ _ _ (at-count-below .count-below .ensures) (c .before .before .if1 .taken),
-      lt-no (entry .args .r .0) (entry .args .x .0) (sym (c .before .below .ensures) ∙ c .if2 .left),
-    )
+returns-2 c = omega (arith, x-eligible (c .before), lt-no _ _ (sym (c .before .below .ensures) ∙ c .if2 .left))
 
 returns-3 : tie.Need-returns-3
 returns-3 c = omega (arith, eligible-no _ _ _ _ (c .before .count-below .ensures) (c .if1 .left))

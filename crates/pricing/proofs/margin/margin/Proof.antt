@@ -17,17 +17,17 @@ abbrev μ-loop : tie.MeasureT-loop
 plus-requires : tie.Need-plus-requires Inv-loop μ-loop
 plus-requires c κs =
     let at-wide = c .before .before .before in
-    let at-shared-slice-known3 = at-wide .before in
-    let at-loop-test = at-shared-slice-known3 .before in
+    let at-charges = at-wide .before in
+    let at-loop-test = at-charges .before in
     let at-loop = at-loop-test .before in
     let entry = at-loop .before .before .before in
     omega (
       arith,
       c .excess .ensures,
       at-wide .wide .ensures,
-      at-shared-slice-known3 .shared-slice-known3 .given (at-loop .loop .i),
+      at-charges .shared-slice-known3 .given (at-loop .loop .i),
       sum-low 4294967295 (at-loop .loop .inv)
-          (λ k l. omega (arith, at-shared-slice-known3 .shared-slice-known3 .given k)),
+          (λ k l. omega (arith, at-charges .shared-slice-known3 .given k)),
       at-loop-test .loop-test .taken,
       entry .pre .1,
     )

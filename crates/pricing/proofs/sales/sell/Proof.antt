@@ -6,26 +6,27 @@ use Rattle.pricing.proofs.sales.sell.Statement.{statement}
 use Rattle.pricing.proofs.sales.sell.Tie as tie
 use Rattle.pricing.proofs.sales.Sales.{sells}
 
+abbrev entry-before-tally : tie.After-kwh → tie.Start
+entry-before-tally p = p .before .before .before .before .before
+
 tally-sales-requires : tie.Need-tally-sales-requires
 tally-sales-requires c κs =
-    let entry = c .before .before .before .before .before in
+    let entry = entry-before-tally c in
     (entry .pre .0, (entry .pre .1 .0, (entry .pre .1 .1 .0, zeros slots)))
-
-abbrev entry-before-tally-sales : tie.After-tally-sales → tie.Start
-entry-before-tally-sales p = p .before .before .before .before .before .before
 
 pay-out-requires : tie.Need-pay-out-requires
 pay-out-requires c κs =
-    let at-tally-sales = c .before .before .before .before in
-    let entry = entry-before-tally-sales at-tally-sales in
-    (omega (arith, long slots _ (at-tally-sales .tally-sales .ensures), entry .pre .1 .1 .1 .0), entry .pre .1 .1 .1 .1)
+    let at-tally = c .before .before .before .before in
+    let entry = entry-before-tally (at-tally .before) in
+    (omega (arith, long slots _ (at-tally .tally-sales .ensures), entry .pre .1 .1 .1 .0), entry .pre .1 .1 .1 .1)
 
 returns : tie.Need-returns
 returns c =
     let at-pay-out = c .before .before .before .before in
-    let at-tally-sales = at-pay-out .before .before .before .before .before in
-    let entry = entry-before-tally-sales at-tally-sales in
-    sells _ _ (at-tally-sales .tally-sales .ensures) (entry .pre .1 .1 .1 .0) (at-pay-out .pay-out .ensures)
+    let at-call = at-pay-out .before in
+    let at-tally = at-call .before .before .before .before in
+    let entry = entry-before-tally (at-tally .before) in
+    sells _ _ (at-tally .tally-sales .ensures) (entry .pre .1 .1 .1 .0) (at-pay-out .pay-out .ensures)
 
 pub sell-spec : {M : Type 1} → statement M
 sell-spec =

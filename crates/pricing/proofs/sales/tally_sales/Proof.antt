@@ -1,4 +1,4 @@
-use Prim.Native.Nat.{_-_}
+use Prim.Native.Nat.{_-_, _<_}
 use mathlib.Core.Path.{refl, ap}
 use native.Mathlib.Omega.{arith}
 use lib.ListN.{length}
@@ -37,34 +37,38 @@ cast-x c =
     let entry = entry-before-loop (at-loop-test .before) in
     omega (arith, entry .pre .1 .0 _ (at-loop-test .loop-test .taken))
 
+-- a slot is a place of the table
+slot-inside : (c : tie.After-slot Inv-loop μ-loop) →
+    let at-loop = c .before .before .before in
+    c .slot .result < length (at-loop .loop .kwh)
+slot-inside c =
+    let at-loop = c .before .before .before in
+    omega (arith, c .slot .ensures .0, at-loop .loop .inv .long)
+
 mul-kwh : tie.Need-mul-kwh Inv-loop μ-loop
 mul-kwh c = omega (arith, c .before .slot .ensures .0)
 
 slice-read-kwh : tie.Need-slice-read-kwh Inv-loop μ-loop
-slice-read-kwh c =
-    let at-loop = c .before .before .before .before .before in
-    omega (arith, c .before .before .slot .ensures .0, at-loop .loop .inv .long)
+slice-read-kwh c = slot-inside (c .before .before)
 
 add-kwh : tie.Need-add-kwh Inv-loop μ-loop
 add-kwh c =
-    let loop-test = c .before .before .before .before .loop-test in
-    let loop = c .before .before .before .before .before .loop in
-    let pre = c .before .before .before .before .before .before .before .before .before .pre in
+    let at-loop-test = c .before .before .before .before in
+    let at-loop = at-loop-test .before in
+    let entry = entry-before-loop at-loop in
     omega (
       arith,
-      pre .1 .0 _ (loop-test .taken),
-      tallied-low _ (loop .inv) (c .before .before .slot .ensures .0) (pre .1 .0),
-      loop .inv .within,
-      pre .0 .1,
+      entry .pre .1 .0 _ (at-loop-test .loop-test .taken),
+      tallied-low _ (at-loop .loop .inv) (c .before .before .slot .ensures .0) (entry .pre .1 .0),
+      at-loop .loop .inv .within,
+      entry .pre .0 .1,
     )
 
 mul-kwh-2 : tie.Need-mul-kwh-2 Inv-loop μ-loop
 mul-kwh-2 c = omega (arith, c .before .before .slot .ensures .0)
 
 slice-write-kwh : tie.Need-slice-write-kwh Inv-loop μ-loop
-slice-write-kwh c =
-    let at-loop = c .before .before .before .before .before in
-    omega (arith, c .before .before .slot .ensures .0, at-loop .loop .inv .long)
+slice-write-kwh c = slot-inside (c .before .before)
 
 loop-again : tie.Need-loop-again Inv-loop μ-loop
 loop-again c =

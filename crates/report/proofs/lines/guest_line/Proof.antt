@@ -1,3 +1,4 @@
+use Prim.Native.Nat.{_+_, _<_, _^_}
 use native.Mathlib.Omega.{arith}
 use borrow.Author.Needs.{needs}
 use Rattle.report.proofs.text.Fields.{field-end}
@@ -6,49 +7,40 @@ use Rattle.report.proofs.lines.Lines.{wrote-line}
 use Rattle.report.proofs.lines.guest_line.Statement.{statement}
 use Rattle.report.proofs.lines.guest_line.Tie as tie
 
-abbrev entry-before-put-field : tie.After-put-field → tie.Start
-entry-before-put-field p = p .before .before .before .before
+abbrev guest-before-station : tie.After-put-field2 → tie.After-put-field
+guest-before-station p = p .before .before .before .before .before
+
+abbrev station-before-charge : tie.After-put-field3 → tie.After-put-field2
+station-before-charge p = p .before .before .before .before .before
+
+-- where each field ends at the most
+guest-end : (p : tie.After-put-field) → p .put-field .result < 2 ^ 32 + 30
+guest-end p = omega (arith, field-end _ _ (p .put-field .ensures), p .before .before .before .before .pre)
+
+station-end : (p : tie.After-put-field2) → p .put-field2 .result < 2 ^ 32 + 60
+station-end p = omega (arith, field-end _ _ (p .put-field2 .ensures), guest-end (guest-before-station p))
+
+charge-end : (p : tie.After-put-field3) → p .put-field3 .result < 2 ^ 32 + 90
+charge-end p = omega (arith, field-end _ _ (p .put-field3 .ensures), station-end (station-before-charge p))
 
 put-field-requires-2 : tie.Need-put-field-requires-2
-put-field-requires-2 c κs =
-    let at-put-field = c .before .before .before .before in
-    let entry = entry-before-put-field at-put-field in
-    omega (arith, field-end _ _ (at-put-field .put-field .ensures), entry .pre)
+put-field-requires-2 c κs = omega (arith, guest-end (c .before .before .before .before))
 
 put-field-requires-3 : tie.Need-put-field-requires-3
-put-field-requires-3 c κs =
-    let at-put-field2 = c .before .before .before .before in
-    let at-put-field = at-put-field2 .before .before .before .before .before in
-    let entry = entry-before-put-field at-put-field in
-    omega (
-      arith,
-      field-end _ _ (at-put-field2 .put-field2 .ensures),
-      field-end _ _ (at-put-field .put-field .ensures),
-      entry .pre,
-    )
+put-field-requires-3 c κs = omega (arith, station-end (c .before .before .before .before))
 
 put-requires : tie.Need-put-requires
-put-requires c κs =
-    let at-put-field3 = c .before .before .before in
-    let at-put-field2 = at-put-field3 .before .before .before .before .before in
-    let at-put-field = at-put-field2 .before .before .before .before .before in
-    let entry = entry-before-put-field at-put-field in
-    omega (
-      arith,
-      field-end _ _ (at-put-field3 .put-field3 .ensures),
-      field-end _ _ (at-put-field2 .put-field2 .ensures),
-      field-end _ _ (at-put-field .put-field .ensures),
-      entry .pre,
-    )
+put-requires c κs = omega (arith, charge-end (c .before .before .before))
 
 returns : tie.Need-returns
 unfolding guestLine
 returns c =
-    let at-put-field3 = c .before .before .before .before .before .before in
-    let at-put-field2 = at-put-field3 .before .before .before .before .before in
-    let at-put-field = at-put-field2 .before .before .before .before .before in
-    wrote-line _ _ _ _ _ _ (at-put-field .put-field .ensures) (at-put-field2 .put-field2 .ensures)
-    (at-put-field3 .put-field3 .ensures) (c .before .before .put .ensures)
+    let at-line-end = c .before .before in
+    let at-charge = at-line-end .before .before .before .before in
+    let at-station = station-before-charge at-charge in
+    let at-guest = guest-before-station at-station in
+    wrote-line _ _ _ _ _ _ (at-guest .put-field .ensures) (at-station .put-field2 .ensures)
+    (at-charge .put-field3 .ensures) (at-line-end .put .ensures)
 
 pub guest-line-spec : {M : Type 1} → statement M
 guest-line-spec =

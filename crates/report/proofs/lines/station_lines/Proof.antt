@@ -1,24 +1,22 @@
-use Prim.Native.Nat.{_≤_, _-_}
+use Prim.Native.Nat.{_+_, _-_}
 use native.Mathlib.Omega.{arith}
-use lib.ListN.{length}
+use lib.ListN.{length, getD}
 use borrow.Author.Needs.{needs}
-use Rattle.model.specs.Counting.{joined}
-use Rattle.sheet.specs.Wrote.{Wrote}
-use Rattle.sheet.proofs.Wrote.{wrote-none, wrote-joined, wrote-all-joined}
-use Rattle.model.specs.text.Lines.{stationLines}
-use Rattle.report.proofs.lines.Lines.{station-lines-end}
+use Rattle.model.specs.text.Lines.{stationLine, stationLines}
+use Rattle.sheet.proofs.Wrote.{Listing, listing-none, listing-more, listing-end}
+use Rattle.report.proofs.lines.Lines.{joined-end, station-short}
 use Rattle.report.proofs.lines.station_lines.Statement.{statement}
 use Rattle.report.proofs.lines.station_lines.Tie as tie
 
 abbrev Inv-loop : tie.InvT-loop
-Inv-loop out₀ at sold paid p₀ k₀ out p k = (k ≤ length sold) × Wrote out₀ at (stationLines sold paid k) out p
+Inv-loop out₀ at sold paid p₀ k₀ out p k =
+    Listing (length sold) (λ i. stationLine (i + 1) (getD sold i 0) (getD paid i 0)) out₀ at k out p
 
 abbrev μ-loop : tie.MeasureT-loop
 μ-loop out₀ at sold paid p₀ k₀ out p k = length sold - k
 
 loop-holds : tie.Need-loop-holds Inv-loop μ-loop
-unfolding stationLines joined
-loop-holds c = (search needs, wrote-none _ _)
+loop-holds c = listing-none
 
 cast-kwh : tie.Need-cast-kwh Inv-loop μ-loop
 cast-kwh c = omega (arith, c .shared-slice-known3 .given (c .before .before .loop .k))
@@ -27,20 +25,20 @@ station-line-requires : tie.Need-station-line-requires Inv-loop μ-loop
 station-line-requires c κs =
     let at-loop = c .before .before .before .before in
     let entry = at-loop .before .before .before .before in
-    omega (arith, station-lines-end _ _ _ (at-loop .loop .inv .1), entry .pre)
+    omega (arith, joined-end _ 81 (λ i. station-short _ _ _) _ (at-loop .loop .inv .wrote), entry .pre)
 
 loop-again : tie.Need-loop-again Inv-loop μ-loop
-unfolding stationLines
 loop-again c =
-    let at-loop = c .before .before .before .before .before .before .before in
-    (omega arith, wrote-joined _ _ (at-loop .loop .inv .1) (c .before .before .station-line .ensures))
+    let at-line = c .before .before in
+    let in-loop = at-line .before .before .before .before in
+    listing-more (in-loop .before .loop .inv) (in-loop .loop-test .taken) (at-line .station-line .ensures)
 
 same-length : tie.Need-same-length Inv-loop μ-loop
-same-length c = c .before .loop .inv .1 .same
+same-length c = c .before .loop .inv .wrote .same
 
 returns : tie.Need-returns Inv-loop μ-loop
 unfolding stationLines
-returns c = wrote-all-joined _ (c .before .loop .inv .1) (c .before .loop .inv .0) (c .loop-test .left)
+returns c = listing-end (c .before .loop .inv) (c .loop-test .left)
 
 pub station-lines-spec : {M : Type 1} → statement M
 station-lines-spec =

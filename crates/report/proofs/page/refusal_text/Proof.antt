@@ -12,9 +12,10 @@ put-requires c κs = omega (arith, field-end _ _ (c .before .before .before .put
 returns : tie.Need-returns
 unfolding refusalText
 returns c =
-    let at-put-field = c .before .before .before .before .before .before in
+    let at-line-end = c .before .before in
+    let at-put-field = at-line-end .before .before .before .before in
     let at-number = at-put-field .before in
-    wrote-then (rw (at-number .number .ensures) at (at-put-field .put-field .ensures)) (c .before .before .put .ensures)
+    wrote-then (rw (at-number .number .ensures) at (at-put-field .put-field .ensures)) (at-line-end .put .ensures)
 
 pub refusal-text-spec : {M : Type 1} → statement M
 refusal-text-spec =

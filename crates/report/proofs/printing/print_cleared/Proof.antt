@@ -9,21 +9,27 @@ abbrev entry-before-clear : tie.After-clear → tie.Start
 entry-before-clear p =
     p .before .before .before .before .before .before .before .before .before .before .before .before .before .before
 
+abbrev clear-before-match : tie.After-slice-known9 → tie.After-clear
+clear-before-match p = p .before .before .before .before .before .before .before .before
+
+abbrev cleared-before-text : tie.After-clearing-text-arg5 → tie.After-answer2
+cleared-before-text p = p .before .before .before .before .before .before
+
 returns : tie.Need-returns
 returns c =
-    let at-answer = c .before .before .before .before .before in
-    let at-clear = at-answer .before .before .before .before .before .before .before .before .before .before in
+    let at-text = c .before .before in
+    let at-refused = at-text .before .before .before in
+    let at-clear = clear-before-match (at-refused .before .before) in
     let entry = entry-before-clear at-clear in
     let l = entry .pre .1 in
     prints-refused _ _ (clear-refused _ _ _ _ (at-clear .clear .ensures)
     (record { stations-long = l .0; charges-long = l .1; sold-long = l .2; paid-long = l .3 }) _
-    (at-answer .answer .given .1)) (c .before .before .refusal-text .ensures)
+    (at-refused .answer .given .1)) (at-text .refusal-text .ensures)
 
 clearing-text-requires : tie.Need-clearing-text-requires
 clearing-text-requires c κs =
-    let at-answer2 = c .before .before .before .before .before .before in
-    let at-clear = at-answer2 .before .before .before .before .before .before .before .before .before .before in
-    let entry = entry-before-clear at-clear in
+    let at-cleared = cleared-before-text c in
+    let entry = entry-before-clear (clear-before-match (at-cleared .before .before)) in
     let (few, narrow) = entry .pre .0 in
     let (stations, charges, sold, paid) = entry .pre .1 in (
       omega (arith, few, stations),
@@ -34,14 +40,15 @@ clearing-text-requires c κs =
 
 returns-2 : tie.Need-returns-2
 returns-2 c =
-    let at-answer2 = c .before .before .before .before .before .before .before .before .before in
-    let at-clear = at-answer2 .before .before .before .before .before .before .before .before .before .before in
+    let at-text = c .before .before in
+    let at-cleared = cleared-before-text (at-text .before) in
+    let at-clear = clear-before-match (at-cleared .before .before) in
     let entry = entry-before-clear at-clear in
     let l = entry .pre .1 in
     prints-cleared _ _ _ _ (clear-cleared _ _ _ _ (at-clear .clear .ensures)
     (record { stations-long = l .0; charges-long = l .1; sold-long = l .2; paid-long = l .3 }) _ _
-    (at-answer2 .answer2 .given .1)) (entry .pre .0 .0) (entry .pre .0 .1)
-    (c .before .before .clearing-text .ensures)
+    (at-cleared .answer2 .given .1)) (entry .pre .0 .0) (entry .pre .0 .1)
+    (at-text .clearing-text .ensures)
 
 pub print-cleared-spec : {M : Type 1} → statement M
 print-cleared-spec =

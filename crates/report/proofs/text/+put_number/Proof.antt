@@ -72,9 +72,10 @@ put-number-returns-2 : (t : ℕ) → put-number-lts.Need-returns-2 (
   put-number.Post,
 ) (put-number-at t) put-number.Post
 put-number-returns-2 t c =
-    let at-put-number = c .before .before .before .before .before .before in
-    let at-if1 = at-put-number .before .before in
-    λ k b. wrote-last k _ (at-if1 .if1 .left) b (at-put-number .put-number .ensures) (c .before .before .put2 .ensures)
+    let at-last = c .before .before in
+    let at-put-number = at-last .before .before .before .before in
+    let past-digit = at-put-number .before .before in
+    λ k b. wrote-last k _ (past-digit .if1 .left) b (at-put-number .put-number .ensures) (at-last .put2 .ensures)
 
 pub +put-number-spec : {M : Type 1} → statement M
 +put-number-spec = close μ-put-number λ t. put-number-lts.spec (

@@ -6,8 +6,9 @@ use Rattle.report.proofs.text.put_field.Tie as tie
 
 returns : tie.Need-returns
 returns c =
-    let at-put-word = c .before .before .before .before .before .before in
-    wrote-field _ (omega arith) (at-put-word .put-word .ensures) (c .before .before .put-number .ensures)
+    let at-number = c .before .before in
+    let at-word = at-number .before .before .before .before in
+    wrote-field _ (omega arith) (at-word .put-word .ensures) (at-number .put-number .ensures)
 
 pub put-field-spec : {M : Type 1} → statement M
 put-field-spec = tie.close (tie.spec (λ c κs. search needs) (λ c κs. search needs) (λ c. search needs) returns)

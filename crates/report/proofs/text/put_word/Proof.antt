@@ -24,10 +24,11 @@ put-requires c κs =
 
 loop-again : tie.Need-loop-again Inv-loop μ-loop
 loop-again c =
-    let at-loop-test = c .before .before .before .before .before in
+    let at-put = c .before .before in
+    let at-loop-test = at-put .before .before .before in
     let at-loop = at-loop-test .before in (
       omega arith,
-      wrote-next _ _ (at-loop .loop .inv .1) (at-loop-test .loop-test .taken) (c .before .before .put .ensures),
+      wrote-next _ _ (at-loop .loop .inv .1) (at-loop-test .loop-test .taken) (at-put .put .ensures),
     )
 
 same-length : tie.Need-same-length Inv-loop μ-loop

@@ -22,10 +22,11 @@ fill-all-requires c κs = (omega (arith, full (c .before)), omega arith)
 
 returns : tie.Need-returns
 returns c =
-    let then1 = c .before .before .before .before in
+    let at-fill-all = c .before .before in
+    let f = full (at-fill-all .before .before) in
     record {
-      place = omega (arith, c .before .before .fill-all .ensures .place, full then1);
-      bids-are = c .before .before .fill-all .ensures .bids-are ∙ placed-cong _ _ _ _ _ (bid-full _ _ _ _ (full then1));
+      place = omega (arith, at-fill-all .fill-all .ensures .place, f);
+      bids-are = at-fill-all .fill-all .ensures .bids-are ∙ placed-cong _ _ _ _ _ (bid-full _ _ _ _ f);
     }
 
 pub fill-row-spec : {M : Type 1} → statement M

@@ -27,7 +27,7 @@ abbrev entry-before-loop : tie.At-loop Inv-loop μ-loop → tie.Start Inv-loop �
 entry-before-loop p = p .before .before .before .before
 
 sound : (c : tie.In-loop Inv-loop μ-loop) →
-    let entry = c .before .before .before .before .before in
+    let entry = entry-before-loop (c .before) in
     RowSound (entry .args .s .now) (entry .args .stations) (c .before .loop .d .at)
 sound c =
     let entry = entry-before-loop (c .before) in
@@ -35,7 +35,7 @@ sound c =
 
 taken : (c : tie.After-map Inv-loop μ-loop) →
     let at-loop = c .before .before .before in
-    let entry = at-loop .before .before .before .before in
+    let entry = entry-before-loop at-loop in
     MapTaken (entry .args .s .now) (entry .args .stations) (at-loop .loop .d .at) (c .map .result .bits)
     (c .map .result .next .at)
 taken c =

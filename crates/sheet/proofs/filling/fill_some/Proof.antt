@@ -59,8 +59,9 @@ mul-bids c = let h = station (c .before) in search needs
 
 slice-write-bids : tie.Need-slice-write-bids Inv-loop μ-loop
 slice-write-bids c =
-    let at-clear-row = c .before .before .before .before .before in
-    omega (arith, c .before .before .loop .inv .0, at-clear-row .clear-row .kept, station (c .before))
+    let at-loop = c .before .before in
+    let at-clear-row = at-loop .before .before .before in
+    omega (arith, at-loop .loop .inv .0, at-clear-row .clear-row .kept, station (c .before))
 
 shl-left : tie.Need-shl-left Inv-loop μ-loop
 shl-left c = omega (arith, station (c .before .before))

@@ -54,12 +54,13 @@ same-length-2 c = c .before .loop .inv .3 .same
 
 returns : tie.Need-returns Inv-loop μ-loop
 returns c =
-    let entry = c .before .before .before .before .before in
-    let e = le-antisymm (c .before .loop .inv .0) (c .loop-test .left) in
+    let at-loop = c .before in
+    let entry = at-loop .before .before .before .before in
+    let e = le-antisymm (at-loop .loop .inv .0) (c .loop-test .left) in
     record {
       place = omega (arith, first-row (entry .args .s .now) (entry .args .stations));
-      asks-are = filled-end _ _ _ _ _ (c .before .loop .inv .2) e;
-      bays-are = filled-end _ _ _ _ _ (c .before .loop .inv .3) e;
+      asks-are = filled-end _ _ _ _ _ (at-loop .loop .inv .2) e;
+      bays-are = filled-end _ _ _ _ _ (at-loop .loop .inv .3) e;
     }
 
 pub fill-stations-spec : {M : Type 1} → statement M

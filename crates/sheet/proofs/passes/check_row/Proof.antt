@@ -11,8 +11,15 @@ use Rattle.sheet.proofs.passes.Steps.{step-fault, step-next}
 use Rattle.sheet.proofs.passes.check_row.Statement.{statement}
 use Rattle.sheet.proofs.passes.check_row.Tie as tie
 
+abbrev past-stray-before-bits : tie.After-count-bits → tie.Else3
+past-stray-before-bits p = p .before
+
+abbrev map-before-bits : tie.After-count-bits → tie.After-map
+map-before-bits p = p .before .before .before
+
 taken : (c : tie.After-map) →
-    let entry = c .before .before .before .before .before .before .before .before in
+    let at-skip = c .before .before .before .before in
+    let entry = at-skip .before .before .before .before in
     MapTaken (entry .args .s .now) (entry .args .stations) (entry .args .c .at) (c .map .result .bits)
     (c .map .result .next .at)
 taken c =
@@ -38,10 +45,10 @@ ends-requires-2 c κs =
 returns-2 : tie.Need-returns-2
 returns-2 c =
     let at-skip = c .before .before .before in
-    let at-if1 = at-skip .before in
-    let at-ends = at-if1 .before in
+    let past-amount = at-skip .before in
+    let at-ends = past-amount .before in
     let entry = at-ends .before .before in
-    let h = lt-no _ _ (sym (at-ends .ends .ensures) ∙ at-if1 .if1 .left) in
+    let h = lt-no _ _ (sym (at-ends .ends .ensures) ∙ past-amount .if1 .left) in
     let g = lt-yes _ _ (sym (c .before .ends2 .ensures) ∙ c .if2 .taken) in
     step-fault _ _ _ (map-ends _ _ _ h (omega (
       arith,
@@ -72,9 +79,9 @@ ends-requires-3 c κs =
 returns-4 : tie.Need-returns-4
 returns-4 c =
     let count-bits = c .before .before .before .count-bits in
-    let if3 = c .before .before .before .before .if3 in
+    let if3 = past-stray-before-bits (c .before .before .before) .if3 in
     let h = lt-yes _ _ (sym (c .before .ends3 .ensures) ∙ c .if4 .taken) in
-    step-fault _ _ _ (bids-end (taken (c .before .before .before .before .before .before)) (omega arith) (if3 .left)
+    step-fault _ _ _ (bids-end (taken (map-before-bits (c .before .before .before))) (omega arith) (if3 .left)
     (omega (arith, h, count-bits .ensures)))
 
 skip-requires-2 : tie.Need-skip-requires-2
@@ -83,10 +90,10 @@ skip-requires-2 c κs = omega (arith, lt-no _ _ (sym (c .before .ends3 .ensures)
 returns-5 : tie.Need-returns-5
 returns-5 c =
     let count-bits = c .before .before .before .before .count-bits in
-    let if3 = c .before .before .before .before .before .if3 in
+    let if3 = past-stray-before-bits (c .before .before .before .before) .if3 in
     let h = lt-no _ _ (sym (c .before .before .ends3 .ensures) ∙ c .before .if4 .left) in
     let n = count-bits .ensures in
-    let t = taken (c .before .before .before .before .before .before .before) in
+    let t = taken (map-before-bits (c .before .before .before .before)) in
     step-next _ _ _ (row-good t (omega arith) (if3 .left) (omega (arith, h, n)))
     (omega (arith, c .skip2 .ensures, n, next-is t (omega arith) (if3 .left)))
 

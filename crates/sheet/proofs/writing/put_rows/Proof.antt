@@ -1,25 +1,22 @@
 -- The loop: the rows of the first i guests are written.
-use Prim.Native.Nat.{_*_, _-_, _≤_}
+use Prim.Native.Nat.{_-_}
 use native.Mathlib.Nat.{mul-le-mul-right}
 use native.Mathlib.Omega.{arith}
 use lib.ListN.{length}
 use borrow.Author.Needs.{needs}
-use Rattle.model.specs.Counting.{joined}
 use Rattle.sheet.specs.Laid.{rowOf}
-use Rattle.sheet.specs.Wrote.{Wrote}
-use Rattle.sheet.proofs.Wrote.{wrote-none-joined, wrote-joined, wrote-all-joined, room-for-next}
+use Rattle.sheet.proofs.Wrote.{Listing, listing-none, listing-more, listing-end, room-for-next}
 use Rattle.sheet.proofs.writing.put_rows.Statement.{statement}
 use Rattle.sheet.proofs.writing.put_rows.Tie as tie
 
 abbrev Inv-loop : tie.InvT-loop
-Inv-loop amounts bids stations out₀ at p₀ i₀ out p i =
-    (i ≤ length amounts) × Wrote out₀ at (joined i (rowOf amounts bids stations)) out p
+Inv-loop amounts bids stations out₀ at p₀ i₀ out p i = Listing (length amounts) (rowOf amounts bids stations) out₀ at i out p
 
 abbrev μ-loop : tie.MeasureT-loop
 μ-loop amounts bids stations out₀ at p₀ i₀ out p i = length amounts - i
 
 loop-holds : tie.Need-loop-holds Inv-loop μ-loop
-loop-holds c = (omega arith, wrote-none-joined _ _ _)
+loop-holds c = listing-none
 
 abbrev entry-before-loop : tie.At-loop Inv-loop μ-loop → tie.Start Inv-loop μ-loop
 entry-before-loop c = c .before .before .before .before
@@ -38,21 +35,22 @@ put-row-requires c κs =
     let entry = entry-before-loop at-loop in (
       entry .pre .0,
       omega (arith, entry .pre .1, mul-le-mul-right (entry .args .stations) (at-loop-test .loop-test .taken)),
-      room-for-next _ (at-loop .loop .inv .1) (at-loop-test .loop-test .taken) (entry .pre .2),
+      room-for-next _ (at-loop .loop .inv) (at-loop-test .loop-test .taken) (entry .pre .2),
     )
 
 loop-again : tie.Need-loop-again Inv-loop μ-loop
 unfolding rowOf
 loop-again c =
     let at-put-row = c .before .before in
-    let at-loop = at-put-row .before .before .before .before in
-    (omega arith, wrote-joined _ _ (at-loop .loop .inv .1) (at-put-row .put-row .ensures))
+    let at-loop-test = at-put-row .before .before .before in
+    let at-loop = at-loop-test .before in
+    listing-more (at-loop .loop .inv) (at-loop-test .loop-test .taken) (at-put-row .put-row .ensures)
 
 same-length : tie.Need-same-length Inv-loop μ-loop
-same-length c = c .before .loop .inv .1 .same
+same-length c = c .before .loop .inv .wrote .same
 
 returns : tie.Need-returns Inv-loop μ-loop
-returns c = wrote-all-joined _ (c .before .loop .inv .1) (c .before .loop .inv .0) (c .loop-test .left)
+returns c = listing-end (c .before .loop .inv) (c .loop-test .left)
 
 pub put-rows-spec : {M : Type 1} → statement M
 put-rows-spec =
