@@ -1,9 +1,11 @@
-// The clearing program: the clearing of the sheet on standard input, to standard output.
+// The clearing program: the clearing of the sheet on standard input, to standard output; with `--write` the shortest
+// sheet that states the same market.
 use libc::STDERR_FILENO;
 use libc::STDIN_FILENO;
 use libc::STDOUT_FILENO;
+use model::limits::MAX_PAGE;
 use model::limits::MAX_SHEET;
-use model::limits::MAX_TEXT;
+use model::page::Page;
 ghost use lib.ListN.{length};
 ghost use Rattle.clear.specs.Input.{Within};
 
@@ -32,22 +34,51 @@ fn read_input(buffer: &mut [u8]) -> Input
     Input::Bytes(n)
 }
 
-// Reads at most one byte more than the largest sheet has, so that every fault is seen. What the system reads and writes
-// no contract can say. Where standard error fails too, nobody is left to tell.
-fn main() {
+// The page that the arguments ask for, or none.
+enum Asked {
+    For(Page),
+    Unknown,
+}
+
+// The buffer is a byte longer than the one word there is, so that no longer one is taken for it.
+fn page_asked() -> Asked {
+    if os::arg_count() < 2 {
+        return Asked::For(Page::Clearing);
+    }
+    let mut word = [0u8; 8];
+    let n = os::arg(1, &mut word);
+    if check::same(&word[..n], b"--write") {
+        return Asked::For(Page::Sheet);
+    }
+    Asked::Unknown
+}
+
+// Reads at most one byte more than the largest sheet has, so that every fault is seen.
+fn print(asked: Page) {
     let mut sheet = [0u8; MAX_SHEET + 1];
-    let input = read_input(&mut sheet);
-    match input {
+    match read_input(&mut sheet) {
         Input::Failed => {
             io::write_all(STDERR_FILENO, b"clear: cannot read standard input\n");
         }
         Input::Bytes(n) => {
-            let mut out = [0u8; MAX_TEXT];
-            let k = report::print_clearing(&sheet[..n], &mut out);
+            let mut out = [0u8; MAX_PAGE];
+            let k = report::print_page(asked, &sheet[..n], &mut out);
             let is_written = io::write_all(STDOUT_FILENO, &out[..k]);
             if !is_written {
                 io::write_all(STDERR_FILENO, b"clear: cannot write standard output\n");
             }
+        }
+    }
+}
+
+// What the system reads and writes no contract can say. Where standard error fails too, nobody is left to tell.
+fn main() {
+    match page_asked() {
+        Asked::Unknown => {
+            io::write_all(STDERR_FILENO, b"clear: no such argument\n");
+        }
+        Asked::For(asked) => {
+            print(asked);
         }
     }
 }

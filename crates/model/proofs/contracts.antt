@@ -4,4 +4,4 @@ pub mod ClearsOut
 pub mod Reads
 pub mod ReadsOut
 pub mod Rows
-pub mod WritesOut
+pub mod Writes

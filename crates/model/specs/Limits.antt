@@ -37,10 +37,10 @@ maxBids = maxGuests * maxStations
 abbrev pub maxSheet : ℕ
 maxSheet = 33_644
 
--- a bound on the length of a printed text: the cut, 200 guests, 40 stations and the margin, each
--- number taken as 20 digits
-abbrev pub maxText : ℕ
-maxText = 20_093
+-- a bound on the length of a printed page: a sheet, or a text, which is shorter (the cut, 200 guests, 40 stations and
+-- the margin have 20,093 bytes where each number is taken as 20 digits)
+abbrev pub maxPage : ℕ
+maxPage = maxSheet
 
 abbrev pub limits : Limits
 limits = record {
@@ -53,5 +53,5 @@ limits = record {
   round = maxRound;
   bids = maxBids;
   sheet = maxSheet;
-  text = maxText;
+  page = maxPage;
 }

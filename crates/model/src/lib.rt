@@ -4,4 +4,5 @@ pub mod account;
 pub mod answers;
 pub mod limits;
 pub mod money;
+pub mod page;
 pub mod refusal;

@@ -19,10 +19,10 @@ pub const MAX_ROUND: u32 = 4_294_967_295;
 
 pub const MAX_BIDS: usize = MAX_GUESTS * MAX_STATIONS;
 
-// The bytes of the largest sheet, and a bound on those of a printed text.
+// The bytes of the largest sheet, and a bound on those of a printed page.
 pub const MAX_SHEET: usize = 33_644;
 
-pub const MAX_TEXT: usize = 20_093;
+pub const MAX_PAGE: usize = MAX_SHEET;
 
 pub struct Limits {
     pub guests: usize,
@@ -34,7 +34,7 @@ pub struct Limits {
     pub round: u32,
     pub bids: usize,
     pub sheet: usize,
-    pub text: usize,
+    pub page: usize,
 }
 
 // The constants, proved to be the limits that specs/ has.
@@ -51,7 +51,7 @@ pub fn stated_limits() -> Limits
         round: MAX_ROUND,
         bids: MAX_BIDS,
         sheet: MAX_SHEET,
-        text: MAX_TEXT,
+        page: MAX_PAGE,
     }
 }
 

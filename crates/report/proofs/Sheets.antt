@@ -1,4 +1,4 @@
--- A written text is what `print_clearing` promises of a sheet.
+-- A written text is what `print_page` promises of a sheet.
 use Prim.Native.Nat.{ℕ, _*_, _≤_}
 use mathlib.Core.List.{List}
 use mathlib.Core.Path.{_≡_, sym, ap, _∙_}
@@ -11,22 +11,23 @@ use Rattle.model.specs.text.Text.{refusalText}
 use Rattle.model.specs.sheet.Content.{readSheet, tablesOf}
 use Rattle.model.specs.contracts.Reads.{lentTables}
 use Rattle.model.proofs.contracts.Reads.{ReadTables}
-use Rattle.model.specs.text.MarketText.{marketTextOf}
+use Rattle.model.specs.text.MarketText.{pageOf}
 use Rattle.model.specs.contracts.Prints.{Prints}
 use Rattle.report.proofs.printing.Printing.{prints, length-refusal}
-use Rattle.model.specs.text.Printed.{sheetText, printed}
+use Rattle.model.specs.text.Printed.{readText, printed}
+use Rattle.model.specs.declared.page.Page.{Page}
 
 pub prints-fault :
-    {l l′ : List ℕ} {q : ℕ} (s : List ℕ) (x : ℕ) → readSheet s ≡ refused x → Wrote l 0 (refusalText x) l′ q
-    → Prints (printed s) l q l′
-unfolding printed sheetText
-prints-fault s x e w = rw e (prints w (length-refusal x))
+    {l l′ : List ℕ} {q : ℕ} (asked : Page) (s : List ℕ) (x : ℕ) → readSheet s ≡ refused x
+    → Wrote l 0 (refusalText x) l′ q → Prints (printed asked (length l) s) l q l′
+unfolding printed readText
+prints-fault asked s x e w = rw e (prints w (length-refusal x))
 
 pub prints-sheet :
-    {l l′ : List ℕ} {q : ℕ} (s : List ℕ) (t u : Tables) → readSheet s ≡ accepted u → t ≡ u
-    → Prints (marketTextOf t) l q l′ → Prints (printed s) l q l′
-unfolding printed sheetText
-prints-sheet s t u e f p = rw e (rw f at p)
+    {l l′ : List ℕ} {q : ℕ} (asked : Page) (s : List ℕ) (t u : Tables) → readSheet s ≡ accepted u → t ≡ u
+    → Prints (pageOf asked (length l) t) l q l′ → Prints (printed asked (length l) s) l q l′
+unfolding printed readText
+prints-sheet asked s t u e f p = rw e (rw f at p)
 
 -- ---- the tables that were read, as parts of the lent ones
 

@@ -8,12 +8,15 @@ use model::answers::Reading;
 use model::limits::MAX_BIDS;
 use model::limits::MAX_GUESTS;
 use model::limits::MAX_STATIONS;
+use model::page::Page;
+ghost use lib.ListN.{length};
 ghost use Rattle.model.specs.contracts.Prints.{Prints};
 ghost use Rattle.model.specs.text.Printed.{printed};
 
-// The text that the clearing program prints for a sheet, as far as the buffer reaches. Gives the text's length.
-pub fn print_clearing(sheet: &[u8], out: &mut [u8]) -> usize
-    ensures { λ r. ⌜ Prints (printed (now (sheet .entry))) (now (out .entry)) r (now (out .exit)) ⌝ }
+// The page that the clearing program prints of a sheet, as far as the buffer reaches. Gives the page's length.
+pub fn print_page(asked: Page, sheet: &[u8], out: &mut [u8]) -> usize
+    ensures { λ r. ⌜ Prints (printed asked (length (now (out .entry))) (now (sheet .entry)))
+        (now (out .entry)) r (now (out .exit)) ⌝ }
 {
     let mut amounts = [0u16; MAX_GUESTS];
     let mut asks = [0u32; MAX_STATIONS];
@@ -22,6 +25,7 @@ pub fn print_clearing(sheet: &[u8], out: &mut [u8]) -> usize
     match sheet::read(sheet, &mut amounts, &mut asks, &mut bays, &mut bids) {
         Reading::Refused(refusal) => page::refusal_text(refusal, out),
         Reading::Read { guests, stations } => printing::print_market(
+            asked,
             &asks[..stations],
             &bays[..stations],
             &amounts[..guests],

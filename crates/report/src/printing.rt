@@ -1,13 +1,15 @@
 // The text of a market's clearing or refusal, as bytes in a lent buffer.
 use crate::page;
 use model::answers::Clearing;
+use model::answers::Writing;
 use model::limits::MAX_GUESTS;
 use model::limits::MAX_STATIONS;
+use model::page::Page;
 ghost use Prim.Native.Nat.{_≤_};
 ghost use mathlib.Core.Path.{_≡_};
 ghost use lib.ListN.{length};
 ghost use Rattle.model.specs.Limits.{maxGuests, maxStations};
-ghost use Rattle.model.specs.text.MarketText.{marketTextOf};
+ghost use Rattle.model.specs.text.MarketText.{marketTextOf, sheetPageOf, pageOf};
 ghost use Rattle.model.specs.contracts.Prints.{Prints};
 ghost use Rattle.model.specs.contracts.Lent.{regularIn};
 
@@ -53,8 +55,7 @@ fn print_cleared(
     }
 }
 
-// The market was read from a sheet, so that its counts are within the limits.
-pub fn print_market(
+fn print_clearing(
     asks: &[u32],
     bays: &[u16],
     amounts: &[u16],
@@ -81,4 +82,33 @@ pub fn print_market(
         &mut paid[..m],
         out,
     )
+}
+
+fn print_sheet(asks: &[u32], bays: &[u16], amounts: &[u16], bids: &[u32], out: &mut [u8]) -> usize
+    ensures { λ r. ⌜ Prints (sheetPageOf (length (now (out .entry))) (regularIn asks bays amounts bids))
+        (now (out .entry)) r (now (out .exit)) ⌝ }
+{
+    match sheet::write(asks, bays, amounts, bids, asks.len(), out) {
+        Writing::Refused(refusal) => page::refusal_text(refusal, out),
+        Writing::Written { length } => length,
+    }
+}
+
+// The market was read from a sheet, so that its counts are within the limits.
+pub fn print_market(
+    asked: Page,
+    asks: &[u32],
+    bays: &[u16],
+    amounts: &[u16],
+    bids: &[u32],
+    out: &mut [u8],
+) -> usize
+    requires { ⌜ (length (now amounts) ≤ maxGuests) × (length (now asks) ≤ maxStations) ⌝ }
+    ensures { λ r. ⌜ Prints (pageOf asked (length (now (out .entry))) (regularIn asks bays amounts bids))
+        (now (out .entry)) r (now (out .exit)) ⌝ }
+{
+    match asked {
+        Page::Clearing => print_clearing(asks, bays, amounts, bids, out),
+        Page::Sheet => print_sheet(asks, bays, amounts, bids, out),
+    }
 }

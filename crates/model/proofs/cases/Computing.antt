@@ -18,11 +18,14 @@ use Rattle.model.specs.sheet.Fields.{littleEndian, mapWidth, hasBit}
 use Rattle.model.specs.sheet.Rows.{mapAt, bidsAt, nextAt, rowAt, askOf, baysOf, amountOf, bidBy, bidOf, rowFaults}
 use Rattle.model.specs.sheet.Rows.{rowsFaults}
 use Rattle.model.specs.sheet.Content.{guests, stations, tablesOf, sheetFaults, readSheet}
+use Rattle.model.specs.sheet.Layout.{bytesOf, pack, station, stated, row, layout}
+use Rattle.model.specs.sheet.Shortest.{bidden, shortest, writingFaults}
 use Rattle.model.specs.contracts.Reads.{tableLengths, readVerdict}
 use Rattle.model.specs.text.Decimal.{higher, digits, decimal, field}
 use Rattle.model.specs.text.Lines.{guestLine, stationLine, guestLines, stationLines}
 use Rattle.model.specs.text.Text.{text, refusalText}
-use Rattle.model.specs.text.MarketText.{marketText, marketTextOf}
+use Rattle.model.specs.text.MarketText.{marketText, marketTextOf, sheetPage, sheetPageOf, pageOf}
+use Rattle.model.specs.text.Printed.{readText, printed}
 
 unfoldable pub counting-computes : Unit {0}
 unfolding _<?_ _≤?_ _=?_ _and_ _or_ only sum greatest count some any list joined firstFault giving updated
@@ -45,7 +48,12 @@ unfolding counting-computes counts littleEndian mapWidth hasBit mapAt bidsAt nex
     bidOf rowFaults rowsFaults guests stations tablesOf sheetFaults readSheet tableLengths readVerdict
 reading-computes = tt
 
+unfoldable pub writing-computes : Unit {0}
+unfolding counting-computes outside counts lengths values marketFaults bidAt mapWidth bytesOf pack station stated row
+    layout bidden shortest writingFaults
+writing-computes = tt
+
 unfoldable pub printing-computes : Unit {0}
-unfolding clearing-computes higher digits decimal field guestLine stationLine guestLines stationLines text refusalText
-    marketText marketTextOf
+unfolding clearing-computes reading-computes writing-computes higher digits decimal field guestLine stationLine guestLines stationLines text refusalText
+    marketText marketTextOf sheetPage sheetPageOf pageOf readText printed
 printing-computes = tt

@@ -1,13 +1,15 @@
--- Sheets with what they come to, as one fact over each table. Document 01, cases A, E and I.
+-- Sheets with what they come to, and markets with their sheets, as one fact over each table. Document 01, cases A, E and
+-- I.
 use Prim.Native.Nat.{ℕ}
 use mathlib.Core.List.{List, [], _∷_, _++_, map}
 use mathlib.Core.Path.{_≡_}
 use lib.ListN.{length, take}
 use Rattle.model.specs.Counting.{joined}
 use Rattle.model.specs.market.Market.{Tables}
-use Rattle.model.specs.cases.Cases.{tableI, pair, caseE}
-use Rattle.model.specs.Verdicts.{accepted, refused}
+use Rattle.model.specs.cases.Cases.{tableI, pair, caseE, single}
+use Rattle.model.specs.Verdicts.{accepted, refused, firstFault}
 use Rattle.model.specs.sheet.Content.{readSheet}
+use Rattle.model.specs.sheet.Shortest.{shortest, writingFaults}
 use Rattle.model.specs.contracts.Reads.{lentTables, readVerdict}
 
 -- Table I
@@ -71,3 +73,16 @@ FaultsRefused = map readSheet (
 -- no lent table at all, and no sheet
 abbrev pub LengthsRefused : Type 0
 LengthsRefused = readVerdict (lentTables [] [] [] []) [] ≡ refused 10
+
+-- the shortest sheets of these markets, with no field for the bid of 0
+abbrev pub MarketsWritten : Type 0
+MarketsWritten =
+    map shortest (tableI ∷ caseE ∷ pair [] [] ∷ marketNine ∷ []) ≡ (sheetA ∷ sheetE ∷ sheetI ∷ sheetNine ∷ [])
+
+-- an output as long as the sheet, and one byte less; the market's own faults go first
+abbrev pub WritingsJudged : Type 0
+WritingsJudged =
+    map firstFault (
+    writingFaults caseE 30 ∷ writingFaults caseE 29 ∷ writingFaults (single 1 1 1 1_000_001) 0
+    ∷ writingFaults (record { asks = []; bays = []; amounts = []; bids = []; width = 0 }) 0 ∷ [])
+    ≡ (accepted tt ∷ refused 14 ∷ refused 9 ∷ refused 2 ∷ [])

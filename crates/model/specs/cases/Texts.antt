@@ -1,9 +1,12 @@
--- What is printed of case E and of a market that is refused, byte by byte.
+-- What is printed of case E, of its sheet with a bid of 0, and of a market that is refused, byte by byte.
 use Prim.Native.Nat.{ℕ}
 use mathlib.Core.List.{List, [], _∷_}
 use mathlib.Core.Path.{_≡_}
 use Rattle.model.specs.cases.Cases.{caseE, single}
+use Rattle.model.specs.cases.Sheets.{sheetE, sheetE0}
 use Rattle.model.specs.text.MarketText.{marketTextOf}
+use Rattle.model.specs.text.Printed.{printed}
+use Rattle.model.specs.declared.page.Page.the-variants.{Sheet}
 
 -- cut 6
 -- guest 1 station 1 charge 24
@@ -31,4 +34,5 @@ textNine = 114 ∷ 101 ∷ 102 ∷ 117 ∷ 115 ∷ 101 ∷ 100 ∷ 32 ∷ 57 ∷
 
 pub record TextsHold : Type 0 where
   pub case-e : marketTextOf caseE ≡ textE
+  pub sheet-e : printed Sheet 30 sheetE0 ≡ sheetE
   pub bid-too-high : marketTextOf (single 1 1 1 1_000_001) ≡ textNine

@@ -1,11 +1,14 @@
--- What is printed of a market: its clearing, or its refusal.
+-- What is printed of a market: its clearing, or its shortest sheet where the buffer has room for it; or its refusal.
 use Prim.Native.Nat.{ℕ}
 use mathlib.Core.List.{List}
-use Rattle.model.specs.Verdicts.{Verdict, accepted, refused}
+use Rattle.model.specs.Verdicts.{Verdict, accepted, refused, firstFault}
 use Rattle.model.specs.market.Market.{Tables}
 use Rattle.model.specs.market.Outcome.{outcome}
 use Rattle.model.specs.market.Faults.{verdict}
+use Rattle.model.specs.sheet.Shortest.{shortest, writingFaults}
 use Rattle.model.specs.text.Text.{text, refusalText}
+use Rattle.model.specs.declared.page.Page.{Page}
+use Rattle.model.specs.declared.page.Page.the-variants.{Clearing, Sheet}
 
 unfoldable pub marketText : Verdict → Tables → List ℕ
 marketText (accepted _) t = text (outcome t)
@@ -13,3 +16,14 @@ marketText (refused k) t = refusalText k
 
 unfoldable pub marketTextOf : Tables → List ℕ
 marketTextOf t = marketText (verdict t) t
+
+unfoldable pub sheetPage : Verdict → Tables → List ℕ
+sheetPage (accepted _) t = shortest t
+sheetPage (refused k) t = refusalText k
+
+unfoldable pub sheetPageOf : (room : ℕ) → Tables → List ℕ
+sheetPageOf room t = sheetPage (firstFault (writingFaults t room)) t
+
+unfoldable pub pageOf : Page → (room : ℕ) → Tables → List ℕ
+pageOf Clearing room t = marketTextOf t
+pageOf Sheet room t = sheetPageOf room t

@@ -1,11 +1,13 @@
--- A written text is what is promised: of a refusal, of a cleared market.
+-- A written page is what is promised: of a refusal, of a cleared market, of a written sheet.
 use Prim.Native.Nat.{ℕ, _≤_}
 use mathlib.Core.List.{List, _++_}
-use mathlib.Core.Path.{_≡_}
+use mathlib.Core.Path.{_≡_, sym, ap, _∙_}
+use native.Mathlib.Nat.{min-eq-left}
 use native.Mathlib.Omega.{arith}
 use lib.ListN.{length, length-append}
+use lib.Seq.{paste}
 use Rattle.model.specs.Limits.{maxGuests, maxStations}
-use Rattle.model.specs.Verdicts.{refused}
+use Rattle.model.specs.Verdicts.{refused, firstFault}
 use Rattle.model.specs.market.Market.{Tables, market, marketBy, screen}
 use Rattle.model.specs.market.Outcome.{Results, Outcome, outcomeBy, screened, outcome, outcomeOf}
 use Rattle.model.specs.market.Faults.{verdict}
@@ -18,21 +20,31 @@ use Rattle.model.specs.text.Lines.{lineEnd, guestLines, stationLines}
 use Rattle.report.proofs.lines.Lines.{length-guest-lines, length-station-lines}
 use Rattle.model.specs.text.Text.{cutWord, marginWord, refusedWord, text, refusalText}
 use Rattle.model.proofs.contracts.Clears.{ClearedAs}
-use Rattle.model.specs.text.MarketText.{marketText, marketTextOf}
+use Rattle.model.specs.text.MarketText.{marketText, marketTextOf, sheetPage, sheetPageOf}
 use Rattle.model.specs.contracts.Prints.{Prints}
-use Rattle.model.specs.Limits.{maxText}
+use Rattle.model.specs.Limits.{maxPage}
+use Rattle.model.specs.Numbers.{number}
+use Rattle.model.specs.declared.refusal.Refusal.{Refusal}
+use Rattle.model.specs.declared.answers.Writing.{Writing}
+use Rattle.model.specs.declared.answers.Writing.the-variants as writing
+use Rattle.model.specs.sheet.Shortest.{shortest, writingFaults}
+use Rattle.model.specs.contracts.Writes.{writeVerdict, written, Writes}
+use Rattle.model.proofs.Verdicts.{updated-accepted, updated-refused}
+use Rattle.model.proofs.claims.Writings.{writing-accepted-iff-within-limits}
+use Rattle.model.proofs.contracts.Writes.{told-refused, told-written}
+use Rattle.model.proofs.sheet.Shortest.{shortest-fits}
 
-pub prints : {t l l′ : List ℕ} {q : ℕ} → Wrote l 0 t l′ q → length t ≤ maxText → Prints t l q l′
+pub prints : {t l l′ : List ℕ} {q : ℕ} → Wrote l 0 t l′ q → length t ≤ maxPage → Prints t l q l′
 prints {t} {l} {l′} {q} w h =
     record { buffer-is = wrote-all l t l′ q w; length-is = omega (arith, w .next); fits = omega (arith, w .next) }
 
-pub length-refusal : (k : ℕ) → length (refusalText k) ≤ maxText
+pub length-refusal : (k : ℕ) → length (refusalText k) ≤ maxPage
 unfolding refusalText
 length-refusal k = omega (arith, length-append (field refusedWord k) lineEnd, length-field refusedWord k)
 
 length-text :
     (o : Outcome) → length (o .results .stations) ≤ maxGuests → length (o .results .sold) ≤ maxStations
-    → length (text o) ≤ maxText
+    → length (text o) ≤ maxPage
 unfolding text
 length-text o n m =
     let g = guestLines (o .results .stations) (o .results .charges) (length (o .results .stations)) in
@@ -74,3 +86,28 @@ prints-cleared t k m exit c n s w =
     record { cut = c .cut-is i; margin = c .margin-is i; results = c .results-are i } in
     let (a, b) = outcome-lengths t in
     rw (c .is-accepted) (prints (rw o at w) (length-text (outcome t) (omega arith) (omega arith)))
+
+-- ---- sheets
+
+module _ (t : Tables) (l l₁ : List ℕ) (answer : Writing) (c : Writes t l answer l₁) where
+  pub prints-unwritten :
+      {l′ : List ℕ} {q : ℕ} (x : Refusal) → answer ≡ writing.Refused x → Wrote l₁ 0 (refusalText (number x)) l′ q
+      → Prints (sheetPageOf (length l) t) l q l′
+  unfolding sheetPageOf sheetPage writeVerdict
+  prints-unwritten {l′} {q} x e w =
+      let v : firstFault (writingFaults t (length l)) ≡ refused (number x) = told-refused t l l₁ answer c x e in
+      let same : l₁ ≡ l = c .left ∙ updated-refused _ _ _ v in
+      rw v (prints (rw same at w) (length-refusal (number x)))
+
+  pub prints-written :
+      (n : ℕ) → answer ≡ writing.Written n → Prints (sheetPageOf (length l) t) l n l₁
+  unfolding sheetPageOf sheetPage writeVerdict written
+  prints-written n e =
+      let (v, long) = told-written t l l₁ answer c n e in
+      let (a, room) = writing-accepted-iff-within-limits t (length l) .0 v in
+      let is : l₁ ≡ written t l = c .left ∙ updated-accepted _ _ v in
+      rw v (record {
+        buffer-is = is ∙ ap (paste l 0 (shortest t)) (sym (min-eq-left room));
+        length-is = sym long;
+        fits = rw (← long) (shortest-fits t a);
+      })

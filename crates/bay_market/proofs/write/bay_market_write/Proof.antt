@@ -1,5 +1,5 @@
 use borrow.Author.Needs.{needs}
-use Rattle.model.proofs.contracts.WritesOut.{writes-refused, writes-sheet}
+use Rattle.model.proofs.contracts.Writes.{writes-refused, writes-sheet}
 use Rattle.bay_market.proofs.write.bay_market_write.Statement.{statement}
 use Rattle.bay_market.proofs.write.bay_market_write.Tie as tie
 

@@ -2,8 +2,8 @@ use mathlib.Core.Path.{sym}
 use borrow.Author.Needs.{needs}
 use Rattle.model.specs.Limits.{maxGuests, maxStations}
 use Rattle.model.proofs.Loops.{zeros-long}
-use Rattle.report.proofs.printing.print_market.Statement.{statement}
-use Rattle.report.proofs.printing.print_market.Tie as tie
+use Rattle.report.proofs.printing.print_clearing.Statement.{statement}
+use Rattle.report.proofs.printing.print_clearing.Tie as tie
 
 abbrev entry-before-stations : tie.After-stations → tie.Start
 entry-before-stations p = p .before .before .before .before .before .before
@@ -40,8 +40,8 @@ print-cleared-requires c κs =
       ),
     )
 
-pub print-market-spec : {M : Type 1} → statement M
-print-market-spec =
+pub print-clearing-spec : {M : Type 1} → statement M
+print-clearing-spec =
     tie.close
     (tie.spec
     (λ c. search needs)

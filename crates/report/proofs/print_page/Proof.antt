@@ -4,8 +4,8 @@ use borrow.Author.Needs.{needs}
 use Rattle.model.specs.contracts.Reads.{lentTables}
 use Rattle.model.proofs.contracts.Reads.{ReadTables, read-tables, read-fault, bays-long, bids-long, room}
 use Rattle.report.proofs.Sheets.{read-part-long, part-fits, same-tables, prints-fault, prints-sheet}
-use Rattle.report.proofs.print_clearing.Statement.{statement}
-use Rattle.report.proofs.print_clearing.Tie as tie
+use Rattle.report.proofs.print_page.Statement.{statement}
+use Rattle.report.proofs.print_page.Tie as tie
 
 abbrev entry-before-read : tie.After-read → tie.Start
 entry-before-read p = p .before .before .before .before .before .before .before
@@ -79,7 +79,7 @@ returns c =
     let at-refusal-text = c .before .before in
     let at-refusal = at-refusal-text .before .before .before in
     let at-read = read-before-match (at-refusal .before .before) in
-    prints-fault _ _
+    prints-fault _ _ _
     (read-fault _ _ _ _ (at-read .read .ensures) _ refl refl refl refl (at-refusal .refusal .given .1))
     (at-refusal-text .refusal-text .ensures)
 
@@ -87,10 +87,10 @@ returns-2 : tie.Need-returns-2
 returns-2 c =
     let at-print-market = c .before .before in
     let t = held (guests-before-bids (at-print-market .before .before)) in
-    prints-sheet _ _ _ (t .reads) (same-tables t) (at-print-market .print-market .ensures)
+    prints-sheet _ _ _ _ (t .reads) (same-tables t) (at-print-market .print-market .ensures)
 
-pub print-clearing-spec : {M : Type 1} → statement M
-print-clearing-spec =
+pub print-page-spec : {M : Type 1} → statement M
+print-page-spec =
     tie.close
     (tie.spec
     (λ c. search needs) (λ c. search needs) (λ c. search needs) (λ c. search needs) (λ c κs. search needs)

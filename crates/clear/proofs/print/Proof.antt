@@ -3,8 +3,8 @@ use native.Mathlib.Omega.{arith}
 use borrow.Author.Needs.{needs}
 use Rattle.model.specs.Limits.{maxSheet}
 use Rattle.clear.proofs.Parts.{bytes-within, part-long}
-use Rattle.clear.proofs.main.Statement.{statement}
-use Rattle.clear.proofs.main.Tie as tie
+use Rattle.clear.proofs.print.Statement.{statement}
+use Rattle.clear.proofs.print.Tie as tie
 
 array-share-prefix-sheet : tie.Need-array-share-prefix-sheet
 array-share-prefix-sheet c =
@@ -15,8 +15,8 @@ array-share-prefix-sheet c =
       at-read-input .read-input .kept .0,
     )
 
-slice-aggregate-print-clearing : tie.Need-slice-aggregate-print-clearing
-slice-aggregate-print-clearing c =
+slice-aggregate-print-page : tie.Need-slice-aggregate-print-page
+slice-aggregate-print-page c =
     let at-input = c .before .before in
     let at-read-input = at-input .before .before .before in
     part-long _ _ (omega (
@@ -28,16 +28,16 @@ slice-aggregate-print-clearing c =
 slice-aggregate-write-all-2 : tie.Need-slice-aggregate-write-all-2
 slice-aggregate-write-all-2 c =
     part-long _ _
-    (omega (arith, c .before .before .print-clearing .ensures .fits, c .before .before .print-clearing .kept .1 .0))
+    (omega (arith, c .before .before .print-page .ensures .fits, c .before .before .print-page .kept .1 .0))
 
-pub main-spec : {M : Type 1} → statement M
-main-spec =
+pub print-spec : {M : Type 1} → statement M
+print-spec =
     tie.close
     (tie.spec
     (λ c. search needs) (λ c κs. search needs) (λ c. search needs) (λ c. search needs) (λ c κs. search needs)
     (λ c. search needs)
     array-share-prefix-sheet
-    slice-aggregate-print-clearing
+    slice-aggregate-print-page
     (λ c. search needs) (λ c κs. search needs) (λ c. search needs)
     slice-aggregate-write-all-2
     (λ c κs. search needs) (λ c. search needs) (λ c κs. search needs) (λ c. search needs) (λ c. search needs)

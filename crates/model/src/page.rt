@@ -1,0 +1,7 @@
+// What the clearing program is asked to print of a sheet.
+pub enum Page {
+    // The clearing of its market.
+    Clearing,
+    // The shortest sheet that states its market.
+    Sheet,
+}
