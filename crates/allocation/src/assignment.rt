@@ -6,8 +6,7 @@ use model::money::UnitPrice;
 use pricing::charges;
 ghost use mathlib.Core.Path.{_≡_};
 ghost use lib.ListN.{length};
-ghost use Rattle.model.specs.market.Market.{regular};
-ghost use Rattle.model.specs.contracts.Lent.{regularIn};
+ghost use Rattle.model.specs.contracts.Lent.{regularOf, regularIn};
 ghost use Rattle.allocation.specs.Stages.{AtCut, AfterIn, Turned};
 ghost use Rattle.allocation.specs.Assignment.{Assigned};
 
@@ -24,10 +23,9 @@ fn all_stations(
     gains: &mut [u32],
     criticals: &mut [u32],
 )
-    requires { ⌜ AtCut (regular (now asks) (now bays) (now amounts) (now bids)) (cut .0) (now least) ⌝ }
+    requires { ⌜ AtCut (regularOf asks bays amounts bids) (cut .0) (now least) ⌝ }
     requires { ⌜ length (now totals) ≡ length (now amounts) ⌝ }
-    requires { ⌜ AfterIn (regular (now asks) (now bays) (now amounts) (now bids)) 0
-        (now chosen) (now gains) (now criticals) ⌝ }
+    requires { ⌜ AfterIn (regularOf asks bays amounts bids) 0 (now chosen) (now gains) (now criticals) ⌝ }
     ensures { λ _. ⌜ (let t = regularIn asks bays amounts bids in
         Turned t (cut .0) (length (t .asks)) (now (totals .entry))
         (now (totals .exit)) (now (chosen .exit)) (now (gains .exit)) (now (criticals .exit))) ⌝ }
@@ -66,10 +64,9 @@ fn assign(
     stations: &mut [u16],
     charges: &mut [u32],
 )
-    requires { ⌜ AtCut (regular (now asks) (now bays) (now amounts) (now bids)) (cut .0) (now least) ⌝ }
+    requires { ⌜ AtCut (regularOf asks bays amounts bids) (cut .0) (now least) ⌝ }
     requires { ⌜ length (now totals) ≡ length (now amounts) ⌝ }
-    requires { ⌜ AfterIn (regular (now asks) (now bays) (now amounts) (now bids)) 0
-        (now chosen) (now gains) (now criticals) ⌝ }
+    requires { ⌜ AfterIn (regularOf asks bays amounts bids) 0 (now chosen) (now gains) (now criticals) ⌝ }
     requires { ⌜ (length (now stations) ≡ length (now amounts)) × (length (now charges) ≡ length (now amounts)) ⌝ }
     ensures { λ _. ⌜ (let t = regularIn asks bays amounts bids in
         Turned t (cut .0) (length (t .asks)) (now (totals .entry))
@@ -103,7 +100,7 @@ pub fn assign_all(
     stations: &mut [u16],
     charges: &mut [u32],
 )
-    requires { ⌜ AtCut (regular (now asks) (now bays) (now amounts) (now bids)) (cut .0) (now least) ⌝ }
+    requires { ⌜ AtCut (regularOf asks bays amounts bids) (cut .0) (now least) ⌝ }
     requires { ⌜ (length (now stations) ≡ length (now amounts)) × (length (now charges) ≡ length (now amounts)) ⌝ }
     ensures { λ _. ⌜ Assigned (regularIn asks bays amounts bids)
         (now (stations .exit)) (now (charges .exit)) ⌝ }

@@ -7,8 +7,7 @@ use model::money::UnitPrice;
 ghost use Prim.Native.Nat.{_+_, _<_};
 ghost use mathlib.Core.Path.{_≡_};
 ghost use lib.ListN.{length};
-ghost use Rattle.model.specs.market.Market.{regular};
-ghost use Rattle.model.specs.contracts.Lent.{regularIn};
+ghost use Rattle.model.specs.contracts.Lent.{regularOf, regularIn};
 ghost use Rattle.allocation.specs.Stages.{AtCut, AfterIn, turnTotals};
 
 // Station j's turn, after the stations before it, in an accepted market at its cut.
@@ -25,10 +24,9 @@ pub fn station(
     gains: &mut [u32],
     criticals: &mut [u32],
 )
-    requires { ⌜ AtCut (regular (now asks) (now bays) (now amounts) (now bids)) (cut .0) (now least) ⌝ }
+    requires { ⌜ AtCut (regularOf asks bays amounts bids) (cut .0) (now least) ⌝ }
     requires { ⌜ (j < length (now asks)) × (length (now totals) ≡ length (now amounts)) ⌝ }
-    requires { ⌜ AfterIn (regular (now asks) (now bays) (now amounts) (now bids)) j
-        (now chosen) (now gains) (now criticals) ⌝ }
+    requires { ⌜ AfterIn (regularOf asks bays amounts bids) j (now chosen) (now gains) (now criticals) ⌝ }
     ensures { λ _. ⌜ (let t = regularIn asks bays amounts bids in
         AfterIn t (j + 1) (now (chosen .exit)) (now (gains .exit)) (now (criticals .exit))
         × (now (totals .exit) ≡ turnTotals t (cut .0) j (now (totals .entry)))) ⌝ }

@@ -15,10 +15,9 @@ ghost use mathlib.Core.Path.{_≡_};
 ghost use lib.ListN.{length};
 ghost use Rattle.model.specs.claims.Meaning.{WithinLimits, RightLengths};
 ghost use Rattle.model.specs.Counting.{list};
-ghost use Rattle.model.specs.market.Market.{market, cut, regular};
-ghost use Rattle.model.specs.market.Outcome.{results};
+ghost use Rattle.model.specs.market.Market.{market, cut};
 ghost use Rattle.model.specs.contracts.Clears.{Clears};
-ghost use Rattle.model.specs.contracts.Lent.{tablesIn, regularIn, resultsIn, resultsOut};
+ghost use Rattle.model.specs.contracts.Lent.{tablesIn, regularOf, regularIn, resultsOf, resultsIn, resultsOut};
 ghost use Rattle.pricing.specs.Charges.{leastAt};
 ghost use Rattle.clearing.specs.ClearsAccepted.{ClearsAccepted};
 
@@ -34,9 +33,8 @@ fn clear_with_room(
     sold: &mut [u32],
     paid: &mut [u64],
 ) -> Clearing
-    requires { ⌜ WithinLimits (regular (now asks) (now bays) (now amounts) (now bids)) ⌝ }
-    requires { ⌜ RightLengths (regular (now asks) (now bays) (now amounts) (now bids))
-        (results (now stations) (now charges) (now sold) (now paid)) ⌝ }
+    requires { ⌜ WithinLimits (regularOf asks bays amounts bids) ⌝ }
+    requires { ⌜ RightLengths (regularOf asks bays amounts bids) (resultsOf stations charges sold paid) ⌝ }
     requires { ⌜ length (now least) ≡ length (now amounts) ⌝ }
     ensures { λ r. ⌜ (let t = regularIn asks bays amounts bids in
         ClearsAccepted t r (resultsOut stations charges sold paid)
@@ -60,9 +58,8 @@ fn clear_accepted(
     sold: &mut [u32],
     paid: &mut [u64],
 ) -> Clearing
-    requires { ⌜ WithinLimits (regular (now asks) (now bays) (now amounts) (now bids)) ⌝ }
-    requires { ⌜ RightLengths (regular (now asks) (now bays) (now amounts) (now bids))
-        (results (now stations) (now charges) (now sold) (now paid)) ⌝ }
+    requires { ⌜ WithinLimits (regularOf asks bays amounts bids) ⌝ }
+    requires { ⌜ RightLengths (regularOf asks bays amounts bids) (resultsOf stations charges sold paid) ⌝ }
     ensures { λ r. ⌜ ClearsAccepted (regularIn asks bays amounts bids) r (resultsOut stations charges sold paid) ⌝ }
 {
     let mut least = [0u32; MAX_GUESTS];

@@ -1,4 +1,5 @@
--- What a contract's parameters lend, by their names: at entry (`..In`) and at exit (`..Out`).
+-- What a contract's parameters lend, by their names: as a `requires` has them (`..Of`), and as an `ensures` has them at
+-- entry (`..In`) and at exit (`..Out`).
 use Prim.Native.Nat.{ℕ}
 use mathlib.Core.List.{List}
 use denote.Ref.{RefT, now}
@@ -19,18 +20,21 @@ tablesIn asks bays amounts bids width =
     tables (now (asks .entry)) (now (bays .entry)) (now (amounts .entry)) (now (bids .entry)) width
 
 -- the same, with rows as wide as there are stations
+abbrev pub regularOf : (asks bays amounts bids : RefT (List ℕ)) → Tables
+regularOf asks bays amounts bids = regular (now asks) (now bays) (now amounts) (now bids)
+
 abbrev pub regularIn : (asks bays amounts bids : Lent (List ℕ)) → Tables
-regularIn asks bays amounts bids =
-    regular (now (asks .entry)) (now (bays .entry)) (now (amounts .entry)) (now (bids .entry))
+regularIn asks bays amounts bids = regularOf (asks .entry) (bays .entry) (amounts .entry) (bids .entry)
 
 -- the result lists of a clearing
+abbrev pub resultsOf : (stations charges sold paid : RefT (List ℕ)) → Results
+resultsOf stations charges sold paid = results (now stations) (now charges) (now sold) (now paid)
+
 abbrev pub resultsIn : (stations charges sold paid : Lent (List ℕ)) → Results
-resultsIn stations charges sold paid =
-    results (now (stations .entry)) (now (charges .entry)) (now (sold .entry)) (now (paid .entry))
+resultsIn stations charges sold paid = resultsOf (stations .entry) (charges .entry) (sold .entry) (paid .entry)
 
 abbrev pub resultsOut : (stations charges sold paid : Lent (List ℕ)) → Results
-resultsOut stations charges sold paid =
-    results (now (stations .exit)) (now (charges .exit)) (now (sold .exit)) (now (paid .exit))
+resultsOut stations charges sold paid = resultsOf (stations .exit) (charges .exit) (sold .exit) (paid .exit)
 
 -- a book
 abbrev pub bookIn : (guests : Lent (List ℕ)) (stations : Lent (List StationAccount)) (house last : Lent ℕ) → Book
