@@ -11,7 +11,7 @@ array-share-prefix-sheet c =
     let at-read-input = c .before .before .before .before in
     omega (
       arith,
-      bytes-within _ _ (maxSheet + 1) (at-read-input .read-input .ensures) (c .before .input .given .1),
+      bytes-within _ _ (maxSheet + 1) (at-read-input .read-input .ensures) (c .before .n .given .1),
       at-read-input .read-input .kept .0,
     )
 
@@ -21,14 +21,14 @@ slice-aggregate-print-page c =
     let at-read-input = at-input .before .before .before in
     part-long _ _ (omega (
       arith,
-      bytes-within _ _ (maxSheet + 1) (at-read-input .read-input .ensures) (at-input .input .given .1),
+      bytes-within _ _ (maxSheet + 1) (at-read-input .read-input .ensures) (at-input .n .given .1),
       at-read-input .read-input .kept .0,
     ))
 
 slice-aggregate-write-all-2 : tie.Need-slice-aggregate-write-all-2
 slice-aggregate-write-all-2 c =
     part-long _ _
-    (omega (arith, c .before .before .print-page .ensures .fits, c .before .before .print-page .kept .1 .0))
+    (omega (arith, c .before .before .print-page .ensures .fits, c .before .before .print-page .kept .1 .1 .0))
 
 pub print-spec : {M : Type 1} → statement M
 print-spec =
