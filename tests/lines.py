@@ -1,11 +1,11 @@
 #!/usr/bin/env python3
 """Looks at the text of the crates: no line over 120 columns in src/, specs/ and proofs/ but in a file that a generator
-made, and at most 100 must-fail edits. Prints what is believed, file by file, with its lines (comments and blanks
+made, and at most 107 must-fail edits. Prints what is believed, file by file, with its lines (comments and blanks
 aside)."""
 import glob
 import sys
 
-WIDTH, EDITS = 120, 100
+WIDTH, EDITS = 120, 107
 owed = []
 for path in sorted(glob.glob('crates/*/**/*', recursive=True)):
     if path.endswith(('.rt', '.antt')):

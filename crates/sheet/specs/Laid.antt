@@ -1,5 +1,5 @@
--- The parts of a shortest sheet, as the functions that write them see them. Nothing that `sheet::write` promises depends
--- on this file.
+-- The parts of a shortest sheet, as the functions that write them see them. Nothing that `sheet::write` promises
+-- depends on this file.
 use Prim.Native.Nat.{ℕ, _+_, _*_}
 use mathlib.Core.List.{List, _++_}
 use lib.ListN.{getD}

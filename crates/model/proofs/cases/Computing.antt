@@ -54,6 +54,6 @@ unfolding counting-computes outside counts lengths values marketFaults bidAt map
 writing-computes = tt
 
 unfoldable pub printing-computes : Unit {0}
-unfolding clearing-computes reading-computes writing-computes higher digits decimal field guestLine stationLine guestLines stationLines text refusalText
-    marketText marketTextOf sheetPage sheetPageOf pageOf readText printed
+unfolding clearing-computes reading-computes writing-computes higher digits decimal field guestLine stationLine
+    guestLines stationLines text refusalText marketText marketTextOf sheetPage sheetPageOf pageOf readText printed
 printing-computes = tt

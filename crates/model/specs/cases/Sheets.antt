@@ -1,5 +1,5 @@
--- Sheets with what they come to, and markets with their sheets, as one fact over each table. Document 01, cases A, E and
--- I.
+-- Sheets with what they come to, and markets with their sheets, as one fact over each table. Document 01, cases A, E
+-- and I.
 use Prim.Native.Nat.{ℕ}
 use mathlib.Core.List.{List, [], _∷_, _++_, map}
 use mathlib.Core.Path.{_≡_}

@@ -47,8 +47,9 @@ bytes-suc : (k x : ℕ) → bytesOf (suc k) x ≡ bytesOf k x ++ (x / 256 ^ k % 
 unfolding bytesOf
 bytes-suc zero x = let e : x / 256 ^ 0 ≡ x = omega arith in rw e refl
 bytes-suc (suc k) x =
-    ap (λ l. x % 256 ∷ l) (bytes-suc k (x / 256)
-    ∙ ap (λ y. bytesOf k (x / 256) ++ (y % 256 ∷ [])) (div-div-eq-div-mul x 256 (256 ^ k) ∙ ap (λ y. x / y) (omega arith)))
+    let q : x / 256 / 256 ^ k ≡ x / 256 ^ suc k =
+    div-div-eq-div-mul x 256 (256 ^ k) ∙ ap (λ y. x / y) (omega arith) in
+    ap (λ l. x % 256 ∷ l) (bytes-suc k (x / 256) ∙ ap (λ y. bytesOf k (x / 256) ++ (y % 256 ∷ [])) q)
 
 pub shifted : (x left i : ℕ) → left ≡ x / 256 ^ i → left / 256 ≡ x / 256 ^ (i + 1)
 shifted x left i e =

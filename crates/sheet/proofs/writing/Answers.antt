@@ -21,7 +21,9 @@ use Rattle.model.proofs.market.Acceptance.{accepted-iff-within-limits}
 use Rattle.sheet.specs.Wrote.{Wrote}
 use Rattle.sheet.proofs.Wrote.{wrote-whole}
 
-refuses : (t : Tables) (out : List ℕ) (x : Refusal) → writeVerdict t out ≡ refused (number x) → Writes t out (Refused x) out
+refuses :
+    (t : Tables) (out : List ℕ) (x : Refusal) → writeVerdict t out ≡ refused (number x)
+    → Writes t out (Refused x) out
 unfolding answerOfWriting
 refuses t out x e = record { answered = sym (giving-refused _ _ e); left = sym (updated-refused _ _ _ e) }
 

@@ -10,7 +10,8 @@ use Rattle.sheet.proofs.writing.put_rows.Statement.{statement}
 use Rattle.sheet.proofs.writing.put_rows.Tie as tie
 
 abbrev Inv-loop : tie.InvT-loop
-Inv-loop amounts bids stations out₀ at p₀ i₀ out p i = Listing (length amounts) (rowOf amounts bids stations) out₀ at i out p
+Inv-loop amounts bids stations out₀ at p₀ i₀ out p i =
+    Listing (length amounts) (rowOf amounts bids stations) out₀ at i out p
 
 abbrev μ-loop : tie.MeasureT-loop
 μ-loop amounts bids stations out₀ at p₀ i₀ out p i = length amounts - i

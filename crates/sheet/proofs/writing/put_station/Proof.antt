@@ -11,7 +11,11 @@ put-four-requires : tie.Need-put-four-requires
 unfolding stationBytes
 put-four-requires c κs =
     let entry = c .before .before in
-    omega (arith, room-for-first (bytesOf 4 (entry .args .ask)) _ (entry .args .at) (entry .pre), bytes-length 4 (entry .args .ask))
+    omega (
+      arith,
+      room-for-first (bytesOf 4 (entry .args .ask)) _ (entry .args .at) (entry .pre),
+      bytes-length 4 (entry .args .ask),
+    )
 
 put-two-requires : tie.Need-put-two-requires
 unfolding stationBytes

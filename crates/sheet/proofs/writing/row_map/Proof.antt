@@ -36,8 +36,8 @@ loop-again c =
     let at-loop = at-loop-test .before in
     let entry = at-loop .before .before in (
       omega arith,
-      map-turn _ (bidsFrom (entry .args .bids .now) (entry .args .base)) _ _ _ (at-loop-test .loop-test .taken) (at-loop .loop .inv .0) (at-loop .loop .inv .1)
-          (c .bit .ensures),
+      map-turn _ (bidsFrom (entry .args .bids .now) (entry .args .base)) _ _ _ (at-loop-test .loop-test .taken)
+          (at-loop .loop .inv .0) (at-loop .loop .inv .1) (c .bit .ensures),
     )
 
 returns : tie.Need-returns Inv-loop μ-loop
