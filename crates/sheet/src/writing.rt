@@ -5,7 +5,7 @@ use crate::putting;
 ghost use Prim.Native.Nat.{_+_, _*_, _≤_};
 ghost use mathlib.Core.Path.{_≡_};
 ghost use lib.ListN.{getD, length};
-ghost use Rattle.model.specs.Limits.{maxGuests, maxStations, maxBids};
+ghost use Rattle.model.specs.Limits.{maxStations, maxBids};
 ghost use Rattle.model.specs.Counting.{_<?_, only, count, joined};
 ghost use Rattle.model.specs.sheet.Shortest.{shortest};
 ghost use Rattle.model.specs.contracts.Lent.{regularOf, regularIn};

@@ -4,7 +4,6 @@ use mathlib.Core.List.{List, [], _∷_}
 use mathlib.Core.Path.{_≡_, refl, sym, ap, ap₂, _∙_}
 use native.Mathlib.Omega.{arith}
 use lib.ListN.{getD, length, replicate, length-replicate, getD-replicate}
-use Rattle.model.specs.Counting.{any}
 use Rattle.model.specs.market.Mechanism.{charged, paid}
 use Rattle.model.specs.market.Outcome.{screened, decision}
 use Rattle.model.specs.Verdicts.{Verdict, accepted, refused, updated}

@@ -1,5 +1,5 @@
 -- Nothing is written before the market is accepted and the sheet is known to fit.
-use mathlib.Core.Path.{_≡_, sym, _∙_}
+use mathlib.Core.Path.{_≡_, sym}
 use borrow.Author.Needs.{needs}
 use Rattle.model.specs.Numbers.{answerOfVerdict}
 use Rattle.model.specs.Verdicts.{accepted}

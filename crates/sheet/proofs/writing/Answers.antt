@@ -11,7 +11,6 @@ use Rattle.model.specs.Verdicts.{accepted, refused}
 use Rattle.model.specs.market.Market.{Tables, tables, regular}
 use Rattle.model.specs.market.Faults.{marketFaults, verdict}
 use Rattle.model.specs.market.Shape.{Shaped}
-use Rattle.model.specs.claims.Meaning.{WithinLimits}
 use Rattle.model.specs.sheet.Shortest.{shortest, writingFaults}
 use Rattle.model.specs.contracts.Writes.{writeVerdict, written, Writes}
 use Rattle.model.proofs.Tests.{is-lt, not-lt}

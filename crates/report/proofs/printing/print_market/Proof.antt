@@ -1,4 +1,3 @@
-use mathlib.Core.Path.{sym}
 use borrow.Author.Needs.{needs}
 use Rattle.model.specs.text.MarketText.{pageOf}
 use Rattle.report.proofs.printing.print_market.Statement.{statement}

@@ -1,5 +1,4 @@
 use mathlib.Core.Path.{sym}
-use borrow.Author.Needs.{needs}
 use Rattle.model.proofs.Tests.{only-yes, only-no, is-lt, not-lt}
 use Rattle.sheet.proofs.writing.bit.Statement.{statement}
 use Rattle.sheet.proofs.writing.bit.Tie as tie

@@ -1,6 +1,5 @@
 -- The loop: the bids of the first j stations are written.
 use Prim.Native.Nat.{_-_}
-use native.Mathlib.Omega.{arith}
 use borrow.Author.Needs.{needs}
 use Rattle.sheet.specs.Laid.{bidsFrom, bidField}
 use Rattle.sheet.proofs.Wrote.{Listing, listing-none, listing-more, listing-end, room-for-next}

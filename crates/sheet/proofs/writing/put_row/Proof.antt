@@ -1,7 +1,6 @@
 -- The amount, the map, then the bids, each after the other.
 use native.Mathlib.Omega.{arith}
 use lib.ListN.{length}
-use mathlib.Core.Path.{_≡_}
 use borrow.Author.Needs.{needs}
 use Rattle.model.specs.sheet.Fields.{mapWidth}
 use Rattle.model.specs.sheet.Layout.{bytesOf}

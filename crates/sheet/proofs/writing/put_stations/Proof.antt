@@ -1,6 +1,5 @@
 -- The loop: the first j stations are written.
 use Prim.Native.Nat.{_-_}
-use native.Mathlib.Omega.{arith}
 use lib.ListN.{length}
 use borrow.Author.Needs.{needs}
 use Rattle.sheet.specs.Laid.{stationOf}

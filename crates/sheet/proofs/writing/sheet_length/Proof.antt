@@ -5,7 +5,7 @@ use borrow.Author.Needs.{needs}
 use Rattle.model.specs.Limits.{maxBids}
 use Rattle.model.specs.Counting.{_<?_, count}
 use Rattle.model.proofs.Counting.{count-most}
-use Rattle.sheet.proofs.writing.Rooms.{Sizes, sizes, by-count}
+use Rattle.sheet.proofs.writing.Rooms.{sizes, by-count}
 use Rattle.sheet.proofs.writing.sheet_length.Statement.{statement}
 use Rattle.sheet.proofs.writing.sheet_length.Tie as tie
 
