@@ -1,4 +1,4 @@
-// The text of a market's clearing or refusal, as bytes in a lent buffer.
+// The page that is asked for of a market, as bytes in a lent buffer: its clearing, its sheet or its refusal.
 use crate::page;
 use model::answers::Clearing;
 use model::answers::Writing;

@@ -42,7 +42,7 @@ fn wide(x: u8) -> u64
     x as u64
 }
 
-// The littleEndian that the k bytes from at hold, lowest byte first.
+// The number that the k bytes from at hold, lowest byte first.
 fn number(s: &[u8], at: usize, k: usize) -> u64
     requires { ⌜ (k ≤ 5) × (at + k ≤ length (now s)) ⌝ }
     ensures { λ r. ⌜ r ≡ littleEndian (now (s .entry)) at k ⌝ }

@@ -1,6 +1,5 @@
--- 'Each well-formed sheet is read as exactly the market it states', over calls of `read`: from the
--- sheet, the answer and
--- the lent tables alone.
+-- 'Each well-formed sheet is read as exactly the market it states', over calls of `read`: from the sheet, the answer
+-- and the lent tables alone.
 use Prim.Native.Nat.{ℕ}
 use mathlib.Core.List.{List}
 use mathlib.Core.Path.{_≡_}

@@ -7,7 +7,7 @@ use mathlib.Core.List.{List}
 use lib.ListN.{getD}
 use Rattle.model.specs.Counting.{_=?_}
 
--- the littleEndian that k bytes from place p hold, lowest byte first
+-- the number that k bytes from place p hold, lowest byte first
 unfoldable pub littleEndian : List ℕ → (p k : ℕ) → ℕ
 littleEndian s p zero = 0
 littleEndian s p (suc k) = getD s p 0 + 256 * littleEndian s (p + 1) k

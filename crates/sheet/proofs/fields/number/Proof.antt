@@ -1,4 +1,4 @@
--- The loop goes down from the highest byte: x is the littleEndian that the bytes passed hold.
+-- The loop goes down from the highest byte: x is the number that the bytes passed hold.
 use Prim.Native.Nat.{_≤_, _<_, _-_, _+_}
 use mathlib.Core.Path.{_≡_}
 use native.Mathlib.Omega.{arith}

@@ -1,4 +1,4 @@
--- A map is the littleEndian that its bytes hold.
+-- A map is the number that its bytes hold.
 use mathlib.Core.Path.{_∙_, ap}
 use native.Mathlib.Omega.{arith}
 use borrow.Author.Needs.{needs}

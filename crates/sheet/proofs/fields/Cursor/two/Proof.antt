@@ -1,4 +1,4 @@
--- Two bytes make the littleEndian.
+-- Two bytes make the number.
 use borrow.Author.Needs.{needs}
 use Rattle.model.specs.sheet.Fields.{littleEndian}
 use Rattle.sheet.proofs.fields.Cursor.two.Statement.{statement}
