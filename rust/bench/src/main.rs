@@ -167,7 +167,7 @@ fn readings(random: &mut Random) {
         [("largest sheet, 33,644 bytes", 0), ("200 by 40, two bids in five", 60), ("200 by 40, one bid in ten", 90)]
     {
         let shape = Shape { bids: 1..=1_000_000, empty, ..Shape::full() };
-        let sheets: Vec<Vec<u8>> = (0..MARKETS).map(|_| sheet::write(&shape.market(random), |_, _| false)).collect();
+        let sheets: Vec<Vec<u8>> = (0..MARKETS).map(|_| sheet::shortest(&shape.market(random))).collect();
         let mut tables = [Read::new(), Read::new()];
         for sheet in &sheets {
             for (read, tables) in READINGS.iter().zip(&mut tables) {
