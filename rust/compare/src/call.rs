@@ -192,18 +192,24 @@ fn write_lent(
 /// engine is held to nothing but itself.
 pub fn round_trip(sheet: &[u8]) -> Result<(), String> {
     each_way(|way| {
-        let (market, first) = read_and_write(way, sheet)?;
-        require(first.len() <= sheet.len(), "what was written is longer than the sheet")?;
-        require(first.len() < sheet.len() || first == sheet, "what was written is as long as the sheet and differs")?;
-        let (again, second) = read_and_write(way, &first)?;
-        require(again == market, "the second reading differs")?;
-        require(second == first, "the second writing differs")
+        let first = read_and_write(way, sheet)?;
+        let second = read_and_write(way, &first.1)?;
+        require_trip(sheet, &first, &second)
     })
 }
 
-/// The market that the engine reads, and the sheet that it writes of it.
+/// A market that was read, and the sheet that was written of it.
+type Passed = (bay_market::Market, Vec<u8>);
+
+fn require_trip(sheet: &[u8], (market, first): &Passed, (again, second): &Passed) -> Result<(), String> {
+    require(first.len() <= sheet.len(), "what was written is longer than the sheet")?;
+    require(first.len() < sheet.len() || first == sheet, "what was written is as long as the sheet and differs")?;
+    require(again == market, "the second reading differs")?;
+    require(second == first, "the second writing differs")
+}
+
 #[rustfmt::skip] // pointer and length on one line
-fn read_and_write(way: Way, sheet: &[u8]) -> Result<(bay_market::Market, Vec<u8>), String> {
+fn read_and_write(way: Way, sheet: &[u8]) -> Result<Passed, String> {
     let accepted = |answer| require_answer::<()>(answer, &Ok(()));
     let mut read = bay_market::Market::default();
     let mut written = Vec::new();
@@ -420,4 +426,21 @@ fn own_ledger(ledger: &Ledger) -> bay_market::Ledger {
 /// A number of the reference at the engine's width.
 fn narrow<T: TryFrom<u128>>(number: u128) -> T {
     T::try_from(number).ok().expect("the reference is beyond the engine's width")
+}
+
+#[cfg(test)]
+mod tests {
+    use super::*;
+
+    #[test]
+    fn every_fault_of_a_trip_is_seen() {
+        let passed = |ask: u32, sheet: &[u8]| (bay_market::Market { asks: vec![ask], ..Default::default() }, sheet.to_vec());
+        let says = |sheet: &[u8], first: Passed, second: Passed| require_trip(sheet, &first, &second).unwrap_err();
+        assert_eq!(require_trip(&[1, 2], &passed(1, &[1, 2]), &passed(1, &[1, 2])), Ok(()));
+        assert_eq!(require_trip(&[1, 2], &passed(1, &[3]), &passed(1, &[3])), Ok(()));
+        assert!(says(&[1], passed(1, &[1, 2]), passed(1, &[1, 2])).contains("longer"));
+        assert!(says(&[1, 2], passed(1, &[1, 3]), passed(1, &[1, 3])).contains("as long"));
+        assert!(says(&[1, 2], passed(1, &[1]), passed(2, &[1])).contains("reading"));
+        assert!(says(&[1, 2], passed(1, &[1]), passed(1, &[2])).contains("writing"));
+    }
 }

@@ -89,7 +89,10 @@ pub fn run(random: &mut Random, tally: &mut Tally, cases: usize) -> Result<(), S
             let output = run_program(&program, arguments, &sheet, first)?;
             if output != expected {
                 let [output, expected] = [output, expected].map(|bytes| bytes.escape_ascii().to_string().replace("\\n", "\n"));
-                return Err(format!("the output differs {arguments:?}\nwritten\n{output}expected\n{expected}sheet {}", hex(&sheet)));
+                return Err(format!(
+                    "the output differs {arguments:?}\nwritten\n{output}expected\n{expected}sheet {}",
+                    hex(&sheet)
+                ));
             }
         }
     }
