@@ -90,7 +90,7 @@ pub fn run(random: &mut Random, tally: &mut Tally, cases: usize) -> Result<(), S
             if output != expected {
                 let [output, expected] = [output, expected].map(|bytes| bytes.escape_ascii().to_string().replace("\\n", "\n"));
                 return Err(format!(
-                    "the output differs {arguments:?}\nwritten\n{output}expected\n{expected}sheet {}",
+                    "the output differs {arguments:?}\nwritten\n{output}\nexpected\n{expected}\nsheet {}",
                     hex(&sheet)
                 ));
             }
