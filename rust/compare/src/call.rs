@@ -237,7 +237,7 @@ fn read_and_write(way: Way, sheet: &[u8]) -> Result<Passed, String> {
         _ => numbered(lent::read(sheet, &mut tables), |read| counts = read),
     })?;
     let market = tables.market(counts);
-    written.resize(MAX_SHEET, 0);
+    written.resize(MAX_SHEET, 0xFF);
     let mut length = 0;
     accepted(match way {
         // SAFETY: as above.
