@@ -122,7 +122,12 @@ expect_sheet examples/case_e.sheet './clear --write examples/case_e.sheet <&-'
 expect 0 "$(cat examples/case_e.txt)" '' './clear examples/case_e.sheet 2>&-'
 expect 2 '' '' './clear nofile 2>&-'
 expect 0 "$(cat examples/case_e.txt)" '' './clear examples/case_e.sheet <&-'
-expect 3 '' 'clear: cannot write standard output' "$(scripts/current)/clear <examples/case_e.sheet >/dev/full; exit 3"
+program=$(scripts/current)/clear
+expect 3 '' 'clear: cannot write standard output' "$program <examples/case_e.sheet >/dev/full; exit 3"
+expect 3 '' 'clear: cannot write standard output' "$program --write <examples/case_e.sheet >/dev/full; exit 3"
+for argument in -- --writ --write1 --writes.. '' -; do
+    expect 3 '' 'clear: no such argument' "$program '$argument' <examples/case_e.sheet; exit 3"
+done
 if [ "$(id -u)" != 0 ]; then
     : >"$work/secret"
     chmod 0 "$work/secret"
