@@ -1,5 +1,5 @@
 /*
- * The bay market: reading a market sheet, clearing a market, posting it to a ledger.
+ * The bay market: reading and writing market sheets, clearing a market, posting it to a ledger.
  *
  * For x86-64 Linux: link libbay_market.a, or libbay_market.so. Both need memcpy and memset of the C library and
  * nothing else. Nothing is allocated; a call takes at most BAY_MARKET_MAX_STACK bytes of stack.
@@ -13,8 +13,8 @@
  * Calls share no state, so threads may call at the same time on different memory.
  *
  * MIND THE ORDER OF ARGUMENTS. bay_market_read takes amounts, asks, bays, bids, as the sheet's reader fills them;
- * bay_market_clear and bay_market_post take asks, bays, amounts, bids. Amounts and bays have one type, asks and
- * bids another, so a compiler cannot see a swap.
+ * bay_market_write, bay_market_clear and bay_market_post take asks, bays, amounts, bids. Amounts and bays have one
+ * type, asks and bids another, so a compiler cannot see a swap.
  *
  * Prices are in mills (thousandths of the currency unit) per kWh, charges and payments in mills,
  * amounts in whole kWh. Guests and stations are numbered from 1; element 0 of a table is number 1.
@@ -58,7 +58,8 @@ enum bay_market_refusal {
     BAY_MARKET_LENT_LENGTHS = 10,       /* the reader's tables or a result list have another length */
     BAY_MARKET_ROUND_OUT_OF_TURN = 11,  /* the round is not the last one plus 1, or no round is left */
     BAY_MARKET_ACCOUNT_OVER_LIMIT = 12, /* an account is above 10^15, or would be */
-    BAY_MARKET_BOOK_SIZE = 13           /* the ledger has accounts beyond the limits, or fewer than the market needs */
+    BAY_MARKET_BOOK_SIZE = 13,          /* the ledger has accounts beyond the limits, or fewer than the market needs */
+    BAY_MARKET_OUTPUT_TOO_SHORT = 14    /* the output is shorter than the sheet */
 };
 
 /* What an answer says. */
@@ -79,6 +80,7 @@ static inline const char *bay_market_refusal_text(uint8_t answer)
     case BAY_MARKET_ROUND_OUT_OF_TURN: return "the round is not the last one plus 1, or no round is left";
     case BAY_MARKET_ACCOUNT_OVER_LIMIT: return "an account is above 10^15, or would be";
     case BAY_MARKET_BOOK_SIZE: return "the ledger has accounts beyond the limits, or fewer than the market needs";
+    case BAY_MARKET_OUTPUT_TOO_SHORT: return "the output is shorter than the sheet";
     default: return "not an answer of the engine";
     }
 }
@@ -105,6 +107,21 @@ uint8_t bay_market_read(const uint8_t *sheet, size_t sheet_len,
                         uint16_t *bays, size_t bays_len,
                         uint32_t *bids, size_t bids_len,
                         uint16_t *n, uint16_t *m);
+
+/*
+ * Writes a market's shortest sheet, in which a map has a bit exactly where a bid is not 0, over the first *length
+ * bytes of sheet, and leaves the rest. The market is lent as to bay_market_clear. BAY_MARKET_MAX_SHEET bytes are
+ * enough for every market.
+ *
+ * Refusals in this order: 2, 5 and 6 to 9 as in clearing; 14 where sheet_len is shorter than the sheet.
+ */
+uint8_t bay_market_write(const uint32_t *asks, size_t asks_len,
+                         const uint16_t *bays, size_t bays_len,
+                         const uint16_t *amounts, size_t amounts_len,
+                         const uint32_t *bids, size_t bids_len,
+                         size_t width,
+                         uint8_t *sheet, size_t sheet_len,
+                         size_t *length);
 
 /*
  * Clears a market. n is amounts_len and m is asks_len; guest i's bid at station j, both from 0, is

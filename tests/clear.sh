@@ -12,12 +12,21 @@ tests=0
 expect() {
     local status=0 out err
     timeout 20 bash -c "$4" >"$work/out" 2>"$work/err" </dev/null || status=$?
-    out=$(cat "$work/out") err=$(cat "$work/err")
+    out=$(tr -d '\0' <"$work/out") err=$(cat "$work/err")
     tests=$((tests + 1))
     # shellcheck disable=SC2053  # patterns
     if [ "$status" != "$1" ] || [[ $out != $2 ]] || [[ $err != $3 ]] || [ "$(wc -l <"$work/err")" -gt 1 ]; then
         printf 'failed: %s\n  status %s, expected %s\n  out %q\n  expected %q\n  err %q\n  expected %q\n' \
             "$4" "$status" "$1" "$out" "$2" "$err" "$3" >&2
+        exit 1
+    fi
+}
+
+# expect_sheet FILE COMMAND: the command, in bash, ends with 0 and writes the bytes of FILE
+expect_sheet() {
+    expect 0 '*' '' "$2"
+    if ! cmp "$work/out" "$1" >&2; then
+        printf 'failed: %s\n' "$2" >&2
         exit 1
     fi
 }
@@ -31,12 +40,33 @@ for sheet in examples/*.sheet; do
     expect $status "$text" '' "./clear <$sheet"
     expect $status "$text" '' "cat $sheet | ./clear -"
     expect $status "$text" '' "./clear - <$sheet"
+    if [ $status = 1 ]; then
+        expect 1 "$text" '' "./clear --write $sheet"
+    else
+        expect_sheet "$sheet" "./clear --write $sheet"
+        expect_sheet "$sheet" "./clear --write <$sheet"
+        expect_sheet "$sheet" "cat $sheet | ./clear --write -"
+        expect 0 "$text" '' "./clear --write -- $sheet | ./clear"
+    fi
 done
+
+# case E with a set bit for a bid of 0: the same clearing, and 4 bytes more than are written
+{
+    head -c 25 examples/case_e.sheet
+    printf '\3\10\0\0\0\0\0\0\0'
+} >"$work/empty"
+[ "$(wc -c <"$work/empty")" = 34 ]
+expect 0 "$(cat examples/case_e.txt)" '' "./clear $work/empty"
+expect_sheet examples/case_e.sheet "./clear --write $work/empty"
+expect_sheet examples/case_e.sheet "./clear --write $work/empty | ./clear --write"
 
 # the largest sheet, a byte more, and no byte
 {
     printf '\310\0\050\0'
     printf '\1\0\0\0\1\0%.0s' {1..40}
+} >"$work/stations"
+{
+    cat "$work/stations"
     for _ in {1..200}; do
         printf '\1\0\377\377\377\377\377'
         printf '\2\0\0\0%.0s' {1..40}
@@ -46,6 +76,15 @@ done
 expect 0 $'cut 1\n*' '' "./clear $work/largest"
 expect 1 'refused 4' '' "{ cat $work/largest; printf x; } | ./clear"
 expect 1 'refused 1' '' './clear </dev/null'
+expect_sheet "$work/largest" "./clear --write $work/largest"
+expect 1 'refused 4' '' "{ cat $work/largest; printf x; } | ./clear --write"
+expect 1 'refused 1' '' './clear --write </dev/null'
+# all its bids 0
+{
+    cat "$work/stations"
+    printf '\1\0\0\0\0\0\0%.0s' {1..200}
+} >"$work/no_bids"
+expect_sheet "$work/no_bids" "tr '\2' '\0' <$work/largest | ./clear --write"
 
 # help, wrong use, no such file
 expect 0 'usage: ./clear*' '' './clear --help'
@@ -56,6 +95,13 @@ expect 2 '' 'clear: no such file: nofile' './clear nofile'
 expect 2 '' 'clear: no such file: ' "./clear ''"
 expect 2 '' 'clear: no such file: -x' './clear -- -x'
 expect 2 '' 'clear: a folder, not a file: examples' './clear examples'
+expect 0 'usage: ./clear*' '' './clear --write --help'
+expect 2 '' 'clear: no such option: -x*' './clear --write -x'
+expect 2 '' 'clear: more than one FILE*' './clear --write a b'
+expect 2 '' 'clear: more than one FILE*' './clear examples/case_e.sheet --write'
+expect 2 '' 'clear: no such file: nofile' './clear --write nofile'
+expect 2 '' 'clear: no such file: --write' './clear -- --write'
+expect 2 '' 'clear: a folder, not a file: examples' './clear --write examples'
 
 # input and output that fail
 expect 3 '' 'clear: cannot read standard input' './clear </'
@@ -65,10 +111,23 @@ expect 3 '' 'clear: cannot write standard output' './clear examples/full.sheet >
 expect 3 '' 'clear: cannot write standard output' './clear examples/case_e.sheet >&-'
 expect 3 '' 'clear: cannot write standard output' './clear examples/refused.sheet >/dev/full'
 expect 3 '' 'clear: cannot write standard output' './clear --help >/dev/full'
+expect 3 '' 'clear: cannot read standard input' './clear --write </'
+expect 3 '' 'clear: cannot read standard input' './clear --write <&-'
+expect 3 '' 'clear: cannot read /proc/self/mem' './clear --write /proc/self/mem'
+expect 3 '' 'clear: cannot write standard output' './clear --write examples/full.sheet >/dev/full'
+expect 3 '' 'clear: cannot write standard output' './clear --write examples/case_e.sheet >&-'
+expect 3 '' 'clear: cannot write standard output' './clear --write examples/refused.sheet >/dev/full'
+expect_sheet examples/case_e.sheet './clear --write examples/case_e.sheet 2>&-'
+expect_sheet examples/case_e.sheet './clear --write examples/case_e.sheet <&-'
 expect 0 "$(cat examples/case_e.txt)" '' './clear examples/case_e.sheet 2>&-'
 expect 2 '' '' './clear nofile 2>&-'
 expect 0 "$(cat examples/case_e.txt)" '' './clear examples/case_e.sheet <&-'
-expect 3 '' 'clear: cannot write standard output' "$(scripts/current)/clear <examples/case_e.sheet >/dev/full; exit 3"
+program=$(scripts/current)/clear
+expect 3 '' 'clear: cannot write standard output' "$program <examples/case_e.sheet >/dev/full; exit 3"
+expect 3 '' 'clear: cannot write standard output' "$program --write <examples/case_e.sheet >/dev/full; exit 3"
+for argument in -- --writ --write1 --writes.. '' -; do
+    expect 3 '' 'clear: no such argument' "$program '$argument' <examples/case_e.sheet; exit 3"
+done
 if [ "$(id -u)" != 0 ]; then
     : >"$work/secret"
     chmod 0 "$work/secret"
@@ -83,9 +142,12 @@ expect 0 "$case_e" '' "cd / && $work/link $root/examples/case_e.sheet"
 expect 0 "$case_e" '' "cd $work && CDPATH=/:$root ./link 'a sheet'"
 expect 0 "$case_e" '' "cd .. && CDPATH=$root $(basename "$root")/clear $root/examples/case_e.sheet"
 
-# a terminal on standard input: the sample
+# a terminal on standard input: the sample; on standard output: no sheet
 if command -v script >/dev/null; then
     expect 0 "$(cat examples/table_i.txt)" '' "script -qec ./clear /dev/null </dev/null | tr -d '\r'"
+    expect_sheet examples/table_i.sheet "script -qec './clear --write >$work/sample' /dev/null </dev/null; cat $work/sample"
+    expect 2 'clear: a sheet is bytes and not for a terminal*' '' \
+        "script -qec './clear --write examples/case_e.sheet' /dev/null </dev/null"
 fi
 
 # copies with other sources: stale files are not run, and a build that cannot be is told in a line
@@ -102,6 +164,12 @@ chmod -R u+w "$copy"
 for program in 'kill -9 $$' 'exit 1' 'echo oops >&2'; do
     printf '#!/bin/sh\n%s\n' "$program" >"$copy/prebuilt/x86_64-linux/clear"
     expect 3 '' 'clear: the program failed: *' "$copy/clear $copy/examples/case_e.sheet"
+    expect 3 '' 'clear: the program failed: *' "$copy/clear --write $copy/examples/case_e.sheet"
+done
+# one that stops inside the sheet, and one that writes a text
+for program in "head -c 20 $root/examples/case_e.sheet; kill -9 \$\$" 'echo cut 6'; do
+    printf '#!/bin/sh\n%s\n' "$program" >"$copy/prebuilt/x86_64-linux/clear"
+    expect 3 '' 'clear: the program failed: *' "$copy/clear --write $copy/examples/case_e.sheet"
 done
 echo '// another text' >>"$copy/crates/clear/src/main.rt"
 no_kit='PATH=/usr/bin:/bin'

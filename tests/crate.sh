@@ -25,6 +25,7 @@ cat >"$work/far/away/user/src/main.rs" <<'END'
 fn main() -> Result<(), Box<dyn std::error::Error>> {
     let market = bay_market::Market::read(&std::fs::read(std::env::args().nth(1).ok_or("FILE")?)?)?;
     println!("cut {}", market.clear()?.cut);
+    println!("sheet of {} bytes", market.to_sheet()?.len());
     Ok(())
 }
 END
@@ -45,7 +46,7 @@ fi
 grep -q 'libbay_market.a is not there' "$work/err"
 
 export BAY_MARKET_LIB_DIR=$libraries
-[ "$(run case_e)" = 'cut 6' ]
+[ "$(run case_e)" = $'cut 6\nsheet of 30 bytes' ]
 if run refused >"$work/out" 2>"$work/err"; then
     echo 'cleared what is to be refused' >&2
     exit 1

@@ -10,7 +10,7 @@ seed=20261115
 rm -rf "$wrong"
 mkdir -p "$wrong"
 (cd "$wrong" && ar x "$real/libbay_market.a")
-for function in read clear post; do
+for function in read write clear post; do
     objcopy --redefine-sym "bay_market_$function=real_bay_market_$function" "$wrong/bay_market.o"
 done
 gcc -std=c11 -O1 -Wall -Wextra -Werror -fPIC -Iinclude -c tests/wrong_engine.c -o "$wrong/wrong_engine.o"
@@ -33,7 +33,7 @@ finds() {
     found=$((found + 1))
 }
 
-for part in read clear post truth; do
+for part in read write trip clear post truth; do
     BAY_MARKET_FAULT='' "$compare" $seed $part >/dev/null
 done
 
@@ -41,12 +41,13 @@ done
 lists() {
     case $1 in
     read) echo sheet ;;
-    clear | post) echo asks bays amounts bids ;;
+    write | clear | post) echo asks bays amounts bids ;;
     esac
 }
 filled() {
     case $1 in
     read) echo amounts asks bays bids ;;
+    write) echo sheet ;;
     clear) echo stations charges sold paid ;;
     post) echo guests stations ;;
     esac
@@ -54,11 +55,12 @@ filled() {
 numbers() {
     case $1 in
     read) echo n m ;;
+    write) echo length ;;
     clear) echo cut margin ;;
     post) echo house last ;;
     esac
 }
-for function in read clear post; do
+for function in read write clear post; do
     for way in c slices owned; do
         finds "$function answer" 'differs' $function $way
         finds "$function number" 'differs' $function $way
@@ -82,6 +84,20 @@ for function in read clear post; do
         finds "$function $part after accepted" 'differ' $function c
     done
 done
+# faults of a writer; what owns its output knows no other length than the largest sheet's
+for way in c slices; do
+    finds 'write past' 'follows it, differs' write $way
+    finds 'write early' 'answered 14, expected' write $way
+done
+for way in c slices owned; do
+    finds 'write fit' 'answered 14, expected 0|owned sheet differs' write $way
+    finds 'write empty' 'differs' write $way
+    finds 'write second' 'differs' write $way
+    finds 'write empty' 'what was written is (longer than|as long as) the sheet' trip $way
+    finds 'write second' 'the second writing differs' trip $way
+    finds 'write answer' 'answered 5, expected 0' trip $way
+    finds 'read amounts first accepted' 'the second reading differs' trip $way
+done
 finds 'clear bid' 'guest [0-9]+ gains by' truth
 finds 'clear ask' 'station [0-9]+ gains by' truth
 finds 'clear charges first accepted' 'charge' truth
@@ -89,7 +105,7 @@ finds 'clear sold first accepted' 'sold other kWh' truth
 
 export BAY_MARKET_PROGRAM=$PWD/tests/wrong_program BAY_MARKET_REAL=$real/clear
 BAY_MARKET_FAULT='' "$compare" $seed print >/dev/null
-for fault in text refusal stderr line status; do
+for fault in text refusal stderr line status sheet byte refused-sheet; do
     finds $fault 'differs' print
 done
 status=0

@@ -7,6 +7,11 @@
  *   FUNCTION number              a refused call answers another number
  *   clear bid                    guests are charged what they bid
  *   clear ask                    stations are paid what they ask
+ *   write past                   a byte past the sheet is turned over
+ *   write early                  14 for an output that no sheet fits into goes before the market's own faults
+ *   write fit                    14 where the output is as long as the sheet
+ *   write empty                  a set bit for the last guest's bid of 0 at the last station
+ *   write second                 every second sheet has another last byte
  */
 #include "bay_market.h"
 
@@ -18,6 +23,8 @@
 #define REAL(name) real_##name
 uint8_t REAL(bay_market_read)(const uint8_t *, size_t, uint16_t *, size_t, uint32_t *, size_t, uint16_t *, size_t,
                               uint32_t *, size_t, uint16_t *, uint16_t *);
+uint8_t REAL(bay_market_write)(const uint32_t *, size_t, const uint16_t *, size_t, const uint16_t *, size_t,
+                               const uint32_t *, size_t, size_t, uint8_t *, size_t, size_t *);
 uint8_t REAL(bay_market_clear)(const uint32_t *, size_t, const uint16_t *, size_t, const uint16_t *, size_t,
                                const uint32_t *, size_t, size_t, uint16_t *, size_t, uint32_t *, size_t, uint32_t *,
                                size_t, uint64_t *, size_t, uint32_t *, uint64_t *);
@@ -67,7 +74,7 @@ static uint8_t spoil(const char *function, uint8_t answer, const struct part *pa
         return answer == 0 ? 5 : 0;
     }
     if (strcmp(words[1], "number") == 0) {
-        return answer == 0 ? 0 : (uint8_t)(answer % 13 + 1);
+        return answer == 0 ? 0 : (uint8_t)(answer % BAY_MARKET_OUTPUT_TOO_SHORT + 1);
     }
     for (size_t i = 0; i < count; i++) {
         if (strcmp(words[1], parts[i].name) == 0 && strcmp(words[3], answer == 0 ? "accepted" : "refused") == 0) {
@@ -87,6 +94,61 @@ uint8_t bay_market_read(const uint8_t *sheet, size_t sheet_len, uint16_t *amount
 
     return SPOIL("read", REAL(bay_market_read)(sheet, sheet_len, amounts, amounts_len, asks, asks_len, bays, bays_len,
                                                bids, bids_len, n, m), parts);
+}
+
+/* Sets the bit of the last guest's bid of 0 at the last station, where there is one and the output has room for it. */
+static void set_empty(size_t m, size_t n, const uint32_t *bids, uint8_t *sheet, size_t sheet_len, size_t *length)
+{
+    size_t set = 0;
+
+    if (n == 0 || bids[n * m - 1] != 0 || sheet_len - *length < 4) {
+        return;
+    }
+    for (size_t j = 0; j < m; j++) {
+        set += bids[(n - 1) * m + j] != 0;
+    }
+    sheet[*length - 4 * set - 1] |= (uint8_t)(1 << (m - 1) % 8);
+    memset(sheet + *length, 0, 4);
+    *length += 4;
+}
+
+uint8_t bay_market_write(const uint32_t *asks, size_t asks_len, const uint16_t *bays, size_t bays_len,
+                         const uint16_t *amounts, size_t amounts_len, const uint32_t *bids, size_t bids_len,
+                         size_t width, uint8_t *sheet, size_t sheet_len, size_t *length)
+{
+    const struct part parts[] = {LIST(asks), LIST(bays), LIST(amounts), LIST(bids), LIST(sheet), NUMBER(length)};
+    static uint8_t apart[BAY_MARKET_MAX_SHEET];
+    static int written = 0;
+    char words[4][16];
+    uint8_t answer;
+
+    if (!fault("write", words)) {
+        words[1][0] = '\0';
+    }
+    if (strcmp(words[1], "early") == 0 && sheet_len < 4) {
+        return BAY_MARKET_OUTPUT_TOO_SHORT;
+    }
+    if (strcmp(words[1], "fit") == 0) {
+        size_t needed = 0;
+        answer = REAL(bay_market_write)(asks, asks_len, bays, bays_len, amounts, amounts_len, bids, bids_len, width, apart,
+                                        sizeof apart, &needed);
+        if (answer == 0 && needed == sheet_len) {
+            return BAY_MARKET_OUTPUT_TOO_SHORT;
+        }
+    }
+    answer = REAL(bay_market_write)(asks, asks_len, bays, bays_len, amounts, amounts_len, bids, bids_len, width, sheet,
+                                    sheet_len, length);
+    if (answer == 0) {
+        written++;
+        if (strcmp(words[1], "past") == 0 && *length < sheet_len) {
+            sheet[*length] ^= 1;
+        } else if (strcmp(words[1], "empty") == 0) {
+            set_empty(asks_len, amounts_len, bids, sheet, sheet_len, length);
+        } else if (strcmp(words[1], "second") == 0 && written % 2 == 0) {
+            sheet[*length - 1] ^= 1;
+        }
+    }
+    return SPOIL("write", answer, parts);
 }
 
 /* Lets each guest pay its own bid, or each station get its own ask; what it makes goes to the house. */

@@ -46,6 +46,31 @@ static void test_read(void)
     expect(bids[0] == 8 && bids[1] == 0 && bids[2] == 8 && bids[3] == 0, "bids");
 }
 
+/* Writes what was read, with one set bit more in the sheet than in what is written. */
+static void test_write(void)
+{
+    static const uint8_t empty[] = {
+        0x02, 0x00, 0x02, 0x00, 0x02, 0x00, 0x00, 0x00, 0x01, 0x00, 0x06, 0x00, 0x00, 0x00, 0x01, 0x00,
+        0x03, 0x00, 0x03, 0x08, 0x00, 0x00, 0x00, 0x00, 0x00, 0x00, 0x00, 0x03, 0x00, 0x01, 0x08, 0x00, 0x00, 0x00,
+    };
+    uint8_t output[sizeof sheet + 2];
+    size_t length = 77;
+
+    expect(bay_market_read(empty, sizeof empty, amounts, BAY_MARKET_MAX_GUESTS, asks, BAY_MARKET_MAX_STATIONS, bays,
+                           BAY_MARKET_MAX_STATIONS, bids, BAY_MARKET_MAX_BIDS, &n, &m) == BAY_MARKET_ACCEPTED,
+           "a set bit for a bid of 0 is read");
+    memset(output, 77, sizeof output);
+    expect(bay_market_write(asks, m, bays, m, amounts, n, bids, 4, 1, output, 0, &length) == BAY_MARKET_LENGTHS_DIFFER,
+           "the market is looked at before the output");
+    expect(bay_market_write(asks, m, bays, m, amounts, n, bids, 4, m, output, sizeof sheet - 1, &length)
+           == BAY_MARKET_OUTPUT_TOO_SHORT, "an output that is a byte too short is refused");
+    expect(length == 77 && output[0] == 77 && output[sizeof sheet - 2] == 77, "a refused writing writes nothing");
+    expect(bay_market_write(asks, m, bays, m, amounts, n, bids, 4, m, output, sizeof output, &length)
+           == BAY_MARKET_ACCEPTED, "case E is written");
+    expect(length == sizeof sheet && memcmp(output, sheet, sizeof sheet) == 0, "its shortest sheet");
+    expect(output[sizeof sheet] == 77 && output[sizeof sheet + 1] == 77, "what is beyond it stays");
+}
+
 static void test_clear(void)
 {
     uint16_t stations[2] = {77, 77};
@@ -132,7 +157,15 @@ static void test_null(void)
     uint32_t sold = 77, cut = 77, last = 0;
     uint64_t paid = 77, margin = 77, house = 3;
     struct bay_market_station_account station = {1, 2};
+    uint8_t output[10];
+    size_t length = 77;
 
+    expect(bay_market_write(&ask, 1, &bay, 1, NULL, 0, NULL, 0, 1, NULL, 0, &length) == BAY_MARKET_OUTPUT_TOO_SHORT,
+           "no output");
+    expect(bay_market_write(&ask, 1, &bay, 1, NULL, 0, NULL, 0, 1, output, sizeof output, &length)
+           == BAY_MARKET_ACCEPTED && length == sizeof output, "a market with no guests is written");
+    expect(bay_market_write(NULL, 0, NULL, 0, NULL, 0, NULL, 0, 0, NULL, 0, &length) == BAY_MARKET_COUNTS_OUT_OF_RANGE,
+           "no station to write");
     expect(bay_market_clear(&ask, 1, &bay, 1, NULL, 0, NULL, 0, 1, NULL, 0, NULL, 0, &sold, 1, &paid, 1, &cut, &margin)
            == BAY_MARKET_ACCEPTED, "a market with no guests is cleared");
     expect(sold == 0 && paid == 0 && cut == 5 && margin == 0, "nobody buys");
@@ -152,10 +185,12 @@ static void test_null(void)
 
 static void test_texts(void)
 {
+    const uint8_t beyond = BAY_MARKET_OUTPUT_TOO_SHORT + 1;
+
     expect(strcmp(bay_market_refusal_text(BAY_MARKET_ACCEPTED), "accepted") == 0, "the text of 0");
-    expect(strcmp(bay_market_refusal_text(14), bay_market_refusal_text(255)) == 0, "no answer of the engine");
-    for (uint8_t one = 0; one <= BAY_MARKET_BOOK_SIZE; one++) {
-        for (uint8_t two = (uint8_t)(one + 1); two <= BAY_MARKET_BOOK_SIZE + 1; two++) {
+    expect(strcmp(bay_market_refusal_text(beyond), bay_market_refusal_text(255)) == 0, "no answer of the engine");
+    for (uint8_t one = 0; one < beyond; one++) {
+        for (uint8_t two = (uint8_t)(one + 1); two <= beyond; two++) {
             expect(strcmp(bay_market_refusal_text(one), bay_market_refusal_text(two)) != 0, "each answer has its text");
         }
     }
@@ -164,6 +199,7 @@ static void test_texts(void)
 int main(void)
 {
     test_read();
+    test_write();
     test_clear();
     test_post();
     test_limits();

@@ -1,4 +1,4 @@
-// The header from C++: empty vectors, whose data() may be null, a table that is read and cleared, and texts.
+// The header from C++: empty vectors, whose data() may be null, a table that is cleared and written, and texts.
 #include "bay_market.h"
 
 #include <cstdio>
@@ -27,6 +27,15 @@ int main()
     stations.resize(2);
     charges.resize(2);
     good = good && clear() == BAY_MARKET_ACCEPTED && charges[0] == 24 && paid[0] == 18 && margin == 6;
+    std::vector<std::uint8_t> sheet;
+    std::size_t length = 77;
+    const auto write = [&] {
+        return bay_market_write(asks.data(), asks.size(), bays.data(), bays.size(), amounts.data(), amounts.size(),
+                                bids.data(), bids.size(), asks.size(), sheet.data(), sheet.size(), &length);
+    };
+    good = good && write() == BAY_MARKET_OUTPUT_TOO_SHORT && length == 77;
+    sheet.resize(BAY_MARKET_MAX_SHEET, 77);
+    good = good && write() == BAY_MARKET_ACCEPTED && length == 30 && sheet[0] == 2 && sheet[29] == 0 && sheet[30] == 77;
     good = good && std::string(bay_market_refusal_text(BAY_MARKET_BOOK_SIZE)).find("ledger") != std::string::npos;
     std::puts(good ? "C++ test: all as expected" : "C++ test failed");
     return good ? 0 : 1;

@@ -31,6 +31,11 @@ static void call_read(void)
                              bays, BAY_MARKET_MAX_STATIONS, bids, BAY_MARKET_MAX_BIDS, &n, &m);
 }
 
+static void call_write(void)
+{
+    answer = bay_market_write(asks, m, bays, m, amounts, n, bids, (size_t)n * m, m, sheet, sizeof sheet, &sheet_len);
+}
+
 static void call_clear(void)
 {
     answer = bay_market_clear(asks, m, bays, m, amounts, n, bids, (size_t)n * m, m, stations, n, charges, n, sold, m,
@@ -98,7 +103,7 @@ int main(void)
     static const struct {
         const char *name;
         void (*call)(void);
-    } calls[] = {{"read", call_read}, {"clear", call_clear}, {"post", call_post}};
+    } calls[] = {{"read", call_read}, {"write", call_write}, {"clear", call_clear}, {"post", call_post}};
     size_t most = 0, base = depth(none);
 
     for (uint32_t spread = 1; spread <= 900000; spread *= 30) {

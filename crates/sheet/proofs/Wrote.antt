@@ -59,6 +59,10 @@ pub room-for-second :
     → q + length u ≤ length l′
 room-for-second {t = t} u w h = omega (arith, w .same, w .next, length-append t u)
 
+pub wrote-none-joined : (f : ℕ → List ℕ) (l : List ℕ) (p : ℕ) → Wrote l p (joined 0 f) l p
+unfolding joined
+wrote-none-joined f l p = wrote-none l p
+
 -- the first k of n lists, written one after the other
 pub record Listing (n : ℕ) (f : ℕ → List ℕ) (l : List ℕ) (p k : ℕ) (l′ : List ℕ) (q : ℕ) : Type 0 where
   pub within : k ≤ n
@@ -66,8 +70,7 @@ pub record Listing (n : ℕ) (f : ℕ → List ℕ) (l : List ℕ) (p k : ℕ) (
 
 module _ {n : ℕ} {f : ℕ → List ℕ} {l : List ℕ} {p : ℕ} where
   pub listing-none : Listing n f l p 0 l p
-  unfolding joined
-  listing-none = record { within = omega arith; wrote = wrote-none l p }
+  listing-none = record { within = omega arith; wrote = wrote-none-joined f l p }
 
   pub listing-more :
       {l′ l″ : List ℕ} {q r k : ℕ} → Listing n f l p k l′ q → k < n → Wrote l′ q (f k) l″ r
@@ -79,7 +82,7 @@ module _ {n : ℕ} {f : ℕ → List ℕ} {l : List ℕ} {p : ℕ} where
   listing-end a h = rw (le-antisymm h (a .within)) (a .wrote)
 
 -- where all of them have room, the next one has
-joined-up : (f : ℕ → List ℕ) (n k : ℕ) → k ≤ n → length (joined k f) ≤ length (joined n f)
+pub joined-up : (f : ℕ → List ℕ) (n k : ℕ) → k ≤ n → length (joined k f) ≤ length (joined n f)
 unfolding joined
 joined-up f zero k h = let e : k ≡ 0 = omega arith in rw e (omega arith)
 joined-up f (suc n) k h = ⊎-elim

@@ -21,12 +21,15 @@ bidsFrom bids base j = getD bids (base + j) 0
 unfoldable pub bidField : ℕ → List ℕ
 bidField x = stated (0 <? x) x
 
+unfoldable pub bidFields : (m : ℕ) (bid : ℕ → ℕ) → List ℕ
+bidFields m bid = joined m (λ j. bidField (bid j))
+
 unfoldable pub rowMap : (m : ℕ) (bid : ℕ → ℕ) → ℕ
 rowMap m bid = pack m (λ j. 0 <? bid j)
 
 unfoldable pub rowBytes : (amount m : ℕ) (bid : ℕ → ℕ) → List ℕ
 rowBytes amount m bid =
-    bytesOf 2 amount ++ (bytesOf (mapWidth m) (rowMap m bid) ++ joined m (λ j. bidField (bid j)))
+    bytesOf 2 amount ++ (bytesOf (mapWidth m) (rowMap m bid) ++ bidFields m bid)
 
 unfoldable pub rowOf : (amounts bids : List ℕ) (m i : ℕ) → List ℕ
 rowOf amounts bids m i = rowBytes (getD amounts i 0) m (bidsFrom bids (i * m))

@@ -7,10 +7,11 @@ ghost use mathlib.Core.Path.{_≡_};
 ghost use lib.ListN.{getD, length};
 ghost use Rattle.model.specs.Limits.{maxStations, maxBids};
 ghost use Rattle.model.specs.Counting.{_<?_, only, count, joined};
+ghost use Rattle.model.specs.sheet.Layout.{bytesOf};
 ghost use Rattle.model.specs.sheet.Shortest.{shortest};
 ghost use Rattle.model.specs.contracts.Lent.{regularOf, regularIn};
 ghost use Rattle.model.specs.market.Shape.{Shaped};
-ghost use Rattle.sheet.specs.Laid.{stationBytes, stationOf, bidsFrom, bidField, rowMap, rowBytes, rowOf};
+ghost use Rattle.sheet.specs.Laid.{stationBytes, stationOf, bidsFrom, bidFields, rowMap, rowBytes, rowOf};
 ghost use Rattle.sheet.specs.Wrote.{Wrote};
 
 // How many bids are not 0.
@@ -83,29 +84,65 @@ fn row_map(bids: &[u32], base: usize, stations: usize) -> u64
     map
 }
 
-fn put_bid(bid: u32, out: &mut [u8], at: usize) -> usize
-    requires { ⌜ at + length (bidField bid) ≤ length (now out) ⌝ }
-    ensures { λ r. ⌜ Wrote (now (out .entry)) at (bidField bid) (now (out .exit)) r ⌝ }
-{
-    if 0 < bid {
-        return putting::put_four(out, at, bid);
-    }
-    at
-}
-
-fn put_bids(bids: &[u32], base: usize, stations: usize, out: &mut [u8], at: usize) -> usize
+// The bids of a row in which none is 0.
+fn put_all(bids: &[u32], base: usize, stations: usize, out: &mut [u8], at: usize) -> usize
     requires { ⌜ (base + stations ≤ length (now bids))
-        × (at + length (joined stations (λ j. bidField (bidsFrom (now bids) base j))) ≤ length (now out)) ⌝ }
+        × (at + length (joined stations (λ j. bytesOf 4 (bidsFrom (now bids) base j))) ≤ length (now out)) ⌝ }
     ensures { λ r. ⌜ Wrote (now (out .entry)) at
-        (joined stations (λ j. bidField (bidsFrom (now (bids .entry)) base j))) (now (out .exit)) r ⌝ }
+        (joined stations (λ j. bytesOf 4 (bidsFrom (now (bids .entry)) base j))) (now (out .exit)) r ⌝ }
 {
     let mut p = at;
     let mut j = 0;
     while j < stations {
-        p = put_bid(bids[base + j], out, p);
+        p = putting::put_four(out, p, bids[base + j]);
         j += 1;
     }
     p
+}
+
+// The bids of a row with this map: one for each set bit, the lowest first.
+fn put_some(
+    bids: &[u32],
+    base: usize,
+    map: u64,
+    stations: usize,
+    out: &mut [u8],
+    at: usize,
+) -> usize
+    requires { ⌜ (stations ≤ maxStations) × (base + stations ≤ length (now bids)) ⌝ }
+    requires { ⌜ (map ≡ rowMap stations (bidsFrom (now bids) base))
+        × (at + length (bidFields stations (bidsFrom (now bids) base)) ≤ length (now out)) ⌝ }
+    ensures { λ r. ⌜ Wrote (now (out .entry)) at (bidFields stations (bidsFrom (now (bids .entry)) base))
+        (now (out .exit)) r ⌝ }
+{
+    let mut p = at;
+    let mut left = map;
+    while 0 < left {
+        let j = u64::trailing_zeros(left) as usize;
+        p = putting::put_four(out, p, bids[base + j]);
+        left -= 1 << j;
+    }
+    p
+}
+
+fn put_bids(
+    bids: &[u32],
+    base: usize,
+    map: u64,
+    stations: usize,
+    out: &mut [u8],
+    at: usize,
+) -> usize
+    requires { ⌜ (stations ≤ maxStations) × (base + stations ≤ length (now bids)) ⌝ }
+    requires { ⌜ (map ≡ rowMap stations (bidsFrom (now bids) base))
+        × (at + length (bidFields stations (bidsFrom (now bids) base)) ≤ length (now out)) ⌝ }
+    ensures { λ r. ⌜ Wrote (now (out .entry)) at (bidFields stations (bidsFrom (now (bids .entry)) base))
+        (now (out .exit)) r ⌝ }
+{
+    if fields::count_bits(map) == stations {
+        return put_all(bids, base, stations, out, at);
+    }
+    put_some(bids, base, map, stations, out, at)
 }
 
 fn put_row(
@@ -121,14 +158,10 @@ fn put_row(
     ensures { λ r. ⌜ Wrote (now (out .entry)) at (rowBytes amount stations (bidsFrom (now (bids .entry)) base))
         (now (out .exit)) r ⌝ }
 {
+    let map = row_map(bids, base, stations);
     let p = putting::put_two(out, at, amount);
-    let q = putting::put_bytes(
-        out,
-        p,
-        fields::map_width(stations),
-        row_map(bids, base, stations),
-    );
-    put_bids(bids, base, stations, out, q)
+    let q = putting::put_bytes(out, p, fields::map_width(stations), map);
+    put_bids(bids, base, map, stations, out, q)
 }
 
 fn put_rows(amounts: &[u16], bids: &[u32], stations: usize, out: &mut [u8], at: usize) -> usize

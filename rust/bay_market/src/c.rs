@@ -17,6 +17,16 @@ unsafe extern "C" {
         n: *mut u16, m: *mut u16,
     ) -> u8;
 
+    pub fn bay_market_write(
+        asks: *const u32, asks_len: usize,
+        bays: *const u16, bays_len: usize,
+        amounts: *const u16, amounts_len: usize,
+        bids: *const u32, bids_len: usize,
+        width: usize,
+        sheet: *mut u8, sheet_len: usize,
+        length: *mut usize,
+    ) -> u8;
+
     pub fn bay_market_clear(
         asks: *const u32, asks_len: usize,
         bays: *const u16, bays_len: usize,

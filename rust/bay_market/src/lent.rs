@@ -98,11 +98,42 @@ pub fn read(sheet: &[u8], tables: &mut Tables) -> Result<Counts, Refusal> {
     Refusal::check(answer).map(|()| counts)
 }
 
+/// Writes the market's shortest sheet, with a set bit exactly where a bid is not 0, over the first bytes of `sheet`. Gives
+/// its length; the bytes beyond stay. [`MAX_SHEET`](crate::MAX_SHEET) bytes are enough for every market.
+///
+/// ```
+/// use bay_market::Refusal;
+/// use bay_market::lent::{Market, write};
+///
+/// let market = Market { asks: &[5], bays: &[2], amounts: &[3, 4], bids: &[0, 9], width: 1 };
+/// let mut sheet = [77; 22];
+/// assert_eq!(write(&market, &mut sheet), Ok(20));
+/// assert_eq!(sheet, [2, 0, 1, 0, 5, 0, 0, 0, 2, 0, 3, 0, 0, 4, 0, 1, 9, 0, 0, 0, 77, 77]);
+/// assert_eq!(write(&market, &mut sheet[..19]), Err(Refusal::OutputTooShort));
+/// ```
+#[rustfmt::skip] // pointer and length on one line
+pub fn write(market: &Market, sheet: &mut [u8]) -> Result<usize, Refusal> {
+    let mut length = 0;
+    // SAFETY: as in `read`. The order is asks, bays, amounts, bids.
+    let answer = unsafe {
+        c::bay_market_write(
+            market.asks.as_ptr(), market.asks.len(),
+            market.bays.as_ptr(), market.bays.len(),
+            market.amounts.as_ptr(), market.amounts.len(),
+            market.bids.as_ptr(), market.bids.len(),
+            market.width,
+            sheet.as_mut_ptr(), sheet.len(),
+            &mut length,
+        )
+    };
+    Refusal::check(answer).map(|()| length)
+}
+
 /// Clears a market.
 #[rustfmt::skip] // pointer and length on one line
 pub fn clear(market: &Market, results: &mut Results) -> Result<Cleared, Refusal> {
     let mut cleared = Cleared { cut: 0, margin: 0 };
-    // SAFETY: as in `read`. The order is asks, bays, amounts, bids.
+    // SAFETY: as in `write`.
     let answer = unsafe {
         c::bay_market_clear(
             market.asks.as_ptr(), market.asks.len(),
@@ -123,7 +154,7 @@ pub fn clear(market: &Market, results: &mut Results) -> Result<Cleared, Refusal>
 /// Clears a market and posts it to the ledger as a round.
 #[rustfmt::skip] // pointer and length on one line
 pub fn post(market: &Market, round: u32, ledger: &mut Ledger) -> Result<(), Refusal> {
-    // SAFETY: as in `clear`; StationAccount has the header's layout.
+    // SAFETY: as in `write`; StationAccount has the header's layout.
     Refusal::check(unsafe {
         c::bay_market_post(
             market.asks.as_ptr(), market.asks.len(),

@@ -9,6 +9,7 @@
 //! let market = Market { asks: vec![2, 6], bays: vec![1, 1], amounts: vec![3, 3], bids: vec![8, 0, 8, 0] };
 //! let clearing = market.clear()?;
 //! assert_eq!((clearing.cut, clearing.stations, clearing.charges), (6, vec![1, 0], vec![24, 0]));
+//! assert_eq!(Market::read(&market.to_sheet()?)?, market);
 //!
 //! let mut ledger = Ledger::new(2, 2);
 //! ledger.post(&market, 1)?;
@@ -93,7 +94,8 @@ mod tests {
             assert_eq!(Refusal::check(number), Err(refusal));
         }
         assert_eq!(Refusal::check(0), Ok(()));
-        assert_eq!((Refusal::from_number(0), Refusal::from_number(14)), (None, None));
+        let beyond = Refusal::ALL.len() as u8 + 1;
+        assert_eq!((Refusal::from_number(0), Refusal::from_number(beyond)), (None, None));
     }
 
     #[test]

@@ -1,6 +1,6 @@
 //! The engine over lists of its own.
 
-use crate::{MAX_BIDS, MAX_GUESTS, MAX_STATIONS, Refusal, StationAccount, lent};
+use crate::{MAX_BIDS, MAX_GUESTS, MAX_SHEET, MAX_STATIONS, Refusal, StationAccount, lent};
 
 /// A market: n amounts, m asks, m bays, and n times m bids, guest after guest (0: no bid).
 #[derive(Clone, Debug, Default, PartialEq, Eq)]
@@ -49,6 +49,26 @@ impl Market {
         let counts = lent::read(sheet, &mut tables)?;
         let read = tables.market(counts);
         Ok(Market { asks: read.asks.into(), bays: read.bays.into(), amounts: read.amounts.into(), bids: read.bids.into() })
+    }
+
+    /// The shortest sheet that states the market, with a set bit exactly where a bid is not 0. It is refused where its
+    /// clearing would be.
+    ///
+    /// ```
+    /// use bay_market::{Market, Refusal};
+    ///
+    /// // one guest, with a set bit and a bid of 0
+    /// let sheet = [1, 0, 1, 0, 5, 0, 0, 0, 2, 0, 3, 0, 1, 0, 0, 0, 0];
+    /// let market = Market::read(&sheet)?;
+    /// let shortest = market.to_sheet()?;
+    /// assert_eq!(shortest, [1, 0, 1, 0, 5, 0, 0, 0, 2, 0, 3, 0, 0]);
+    /// assert_eq!(Market::read(&shortest)?, market);
+    /// # Ok::<(), Refusal>(())
+    /// ```
+    pub fn to_sheet(&self) -> Result<Vec<u8>, Refusal> {
+        let mut sheet = [0; MAX_SHEET];
+        let length = lent::write(&self.lend(), &mut sheet)?;
+        Ok(sheet[..length].into())
     }
 
     pub fn clear(&self) -> Result<Clearing, Refusal> {
@@ -102,7 +122,25 @@ mod tests {
     }
 
     #[test]
+    fn writes_case_e() {
+        assert_eq!(case_e().to_sheet(), Ok(SHEET_E.into()));
+        assert_eq!(Market { asks: vec![2, 1_000_001], ..case_e() }.to_sheet(), Err(Refusal::AskOutOfRange));
+        let mut sheet = [77; 31];
+        assert_eq!(lent::write(&case_e().lend(), &mut sheet[..29]), Err(Refusal::OutputTooShort));
+        assert_eq!(sheet, [77; 31]);
+        assert_eq!(lent::write(&case_e().lend(), &mut sheet), Ok(30));
+        assert_eq!((&sheet[..30], sheet[30]), (&SHEET_E[..], 77));
+    }
+
+    #[test]
+    fn the_largest_sheet_fits() {
+        let largest = Market { asks: vec![1; 40], bays: vec![1; 40], amounts: vec![1; 200], bids: vec![1; 8_000] };
+        assert_eq!(largest.to_sheet().map(|sheet| sheet.len()), Ok(MAX_SHEET));
+    }
+
+    #[test]
     fn refuses_what_the_lists_cannot_be() {
+        assert_eq!(Market::default().to_sheet(), Err(Refusal::CountsOutOfRange));
         assert_eq!(Market::default().clear(), Err(Refusal::CountsOutOfRange));
         assert_eq!(Market { amounts: vec![1; 201], ..case_e() }.clear(), Err(Refusal::CountsOutOfRange));
         assert_eq!(Market { bays: vec![1], ..case_e() }.clear(), Err(Refusal::LengthsDiffer));

@@ -30,11 +30,13 @@ pub enum Refusal {
     AccountOverLimit = 12,
     /// the ledger has accounts beyond the limits, or fewer than the market needs
     BookSize = 13,
+    /// the output is shorter than the sheet
+    OutputTooShort = 14,
 }
 
 impl Refusal {
     /// All refusals, by rising number.
-    pub const ALL: [Refusal; 13] = [
+    pub const ALL: [Refusal; 14] = [
         Refusal::SheetEnds,
         Refusal::CountsOutOfRange,
         Refusal::StrayBit,
@@ -48,6 +50,7 @@ impl Refusal {
         Refusal::RoundOutOfTurn,
         Refusal::AccountOverLimit,
         Refusal::BookSize,
+        Refusal::OutputTooShort,
     ];
 
     /// What the refusal says.
@@ -66,6 +69,7 @@ impl Refusal {
             Refusal::RoundOutOfTurn => "the round is not the last one plus 1, or no round is left",
             Refusal::AccountOverLimit => "an account is above 10^15, or would be",
             Refusal::BookSize => "the ledger has accounts beyond the limits, or fewer than the market needs",
+            Refusal::OutputTooShort => "the output is shorter than the sheet",
         }
     }
 }

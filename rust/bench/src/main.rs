@@ -4,7 +4,7 @@ mod baseline;
 
 use baseline::Scratch;
 use bay_market::lent::{self, Cleared, Counts, Results, Tables};
-use bay_market::{Ledger, MAX_BIDS, MAX_GUESTS, MAX_STATIONS, StationAccount};
+use bay_market::{Ledger, MAX_BIDS, MAX_GUESTS, MAX_SHEET, MAX_STATIONS, StationAccount};
 use reference::market::Market;
 use reference::random::{Random, Shape};
 use reference::{clearing, ledger, sheet};
@@ -156,6 +156,10 @@ impl Read {
     }
 }
 
+/// Of a hundred bids of a sheet, how many are 0.
+const FILLINGS: [(&str, u64); 3] =
+    [("largest sheet, 33,644 bytes", 0), ("200 by 40, two bids in five", 60), ("200 by 40, one bid in ten", 90)];
+
 type ReadSheet = fn(&[u8], &mut Tables) -> Result<Counts, u8>;
 
 const READINGS: [ReadSheet; 2] = [|sheet, tables| lent::read(sheet, tables).map_err(|refusal| refusal.number()), baseline::read];
@@ -163,11 +167,9 @@ const READINGS: [ReadSheet; 2] = [|sheet, tables| lent::read(sheet, tables).map_
 fn readings(random: &mut Random) {
     println!("\n| reading | engine µs | two walks µs | engine / two walks |");
     println!("|---|---|---|---|");
-    for (name, empty) in
-        [("largest sheet, 33,644 bytes", 0), ("200 by 40, two bids in five", 60), ("200 by 40, one bid in ten", 90)]
-    {
+    for (name, empty) in FILLINGS {
         let shape = Shape { bids: 1..=1_000_000, empty, ..Shape::full() };
-        let sheets: Vec<Vec<u8>> = (0..MARKETS).map(|_| sheet::write(&shape.market(random), |_, _| false)).collect();
+        let sheets: Vec<Vec<u8>> = (0..MARKETS).map(|_| sheet::shortest(&shape.market(random))).collect();
         let mut tables = [Read::new(), Read::new()];
         for sheet in &sheets {
             for (read, tables) in READINGS.iter().zip(&mut tables) {
@@ -184,6 +186,41 @@ fn readings(random: &mut Random) {
         };
         let medians =
             medians(&sheets, &mut [&mut |sheet| run(READINGS[0], sheet, engine), &mut |sheet| run(READINGS[1], sheet, walks)]);
+        print_row(name, &medians);
+    }
+}
+
+type WriteSheet = fn(&lent::Market, &mut [u8]) -> Result<usize, u8>;
+
+const WRITINGS: [WriteSheet; 3] = [
+    |market, sheet| lent::write(market, sheet).map_err(|refusal| refusal.number()),
+    |market, sheet| baseline::write(market, sheet, baseline::by_map),
+    |market, sheet| baseline::write(market, sheet, baseline::by_bid),
+];
+
+fn writings(random: &mut Random) {
+    println!("\n| writing | engine µs | by map µs | engine / by map | by bid µs | engine / by bid |");
+    println!("|---|---|---|---|---|---|");
+    for (name, empty) in FILLINGS {
+        let shape = Shape { bids: 1..=1_000_000, empty, ..Shape::full() };
+        let markets: Vec<Market> = (0..MARKETS).map(|_| shape.market(random)).collect();
+        let mut outputs = WRITINGS.map(|_| vec![0; MAX_SHEET]);
+        for market in &markets {
+            for (write, output) in WRITINGS.iter().zip(&mut outputs) {
+                let length = write(&lend(market), output).expect("an accepted market");
+                assert!(output[..length] == sheet::shortest(market), "a contender differs from the reference");
+            }
+        }
+        let [engine, map, bid] = &mut outputs;
+        let run = |write: WriteSheet, market: &Market, output: &mut [u8]| {
+            black_box(write(&lend(market), output)).expect("an accepted market");
+        };
+        let medians = medians(
+            &markets,
+            &mut [&mut |market| run(WRITINGS[0], market, engine), &mut |market| run(WRITINGS[1], market, map), &mut |market| {
+                run(WRITINGS[2], market, bid)
+            }],
+        );
         print_row(name, &medians);
     }
 }
@@ -237,5 +274,6 @@ fn main() {
     let mut random = Random::new(8);
     clearings(&mut random);
     readings(&mut random);
+    writings(&mut random);
     postings(&mut random);
 }

@@ -2,10 +2,10 @@
 //! over slices, and through the types that own their lists.
 
 use crate::lent::Lent;
-use bay_market::c::{bay_market_clear, bay_market_post, bay_market_read};
-use bay_market::{Refusal, StationAccount, lent};
+use bay_market::c::{bay_market_clear, bay_market_post, bay_market_read, bay_market_write};
+use bay_market::{MAX_BIDS, MAX_GUESTS, MAX_SHEET, MAX_STATIONS, Refusal, StationAccount, lent};
 use reference::clearing::Outcome;
-use reference::faults::ListLengths;
+use reference::faults::{ListLengths, OUTPUT_TOO_SHORT};
 use reference::ledger::Ledger;
 use reference::market::Market;
 use reference::random::Random;
@@ -146,6 +146,120 @@ fn read_lent(
     require(asks.holds(market.asks.iter().copied()), "asks differ")?;
     require(bays.holds(market.bays.iter().copied()), "bays differ")?;
     require(bids.holds(market.bids.iter().copied()), "bids differ")
+}
+
+/// Writes a market's sheet into an output of so many bytes and holds answer and memory to what is expected.
+pub fn write(random: &mut Random, market: &Market, output: usize, expected: &Result<Vec<u8>, u8>) -> Result<(), String> {
+    each_way(|way| match way {
+        Way::C | Way::Slices => write_lent(way, random, market, output, expected),
+        Way::Owned if market.width != market.stations() || *expected == Err(OUTPUT_TOO_SHORT) => Ok(()),
+        Way::Owned => require(own(market).to_sheet().map_err(Refusal::number) == *expected, "the owned sheet differs"),
+    })
+}
+
+#[rustfmt::skip] // pointer and length on one line
+fn write_lent(
+    way: Way, random: &mut Random, market: &Market, output: usize, expected: &Result<Vec<u8>, u8>,
+) -> Result<(), String> {
+    let mut tables = Tables::of(random, market);
+    let mut sheet: Lent<u8> = Lent::noise(random, output);
+    let mut length: Lent<usize> = Lent::noise(random, 1);
+    let answer = match way {
+        // SAFETY: as in `read_lent`.
+        Way::C => unsafe {
+            bay_market_write(
+                tables.asks.pointer(), tables.asks.len(),
+                tables.bays.pointer(), tables.bays.len(),
+                tables.amounts.pointer(), tables.amounts.len(),
+                tables.bids.pointer(), tables.bids.len(),
+                market.width,
+                sheet.pointer(), sheet.len(),
+                length.pointer(),
+            )
+        },
+        _ => numbered(lent::write(&tables.lend(market.width), sheet.slice()), |written| *length.number() = written),
+    };
+    require_answer(answer, expected)?;
+    require(tables.untouched(), "the market was written")?;
+    let Ok(written) = expected else {
+        return require(sheet.untouched() && length.untouched(), "a refused call wrote");
+    };
+    require(length.holds([written.len()]), "the length differs")?;
+    require(sheet.holds(written.iter().copied()), "the sheet, or what follows it, differs")
+}
+
+/// Reads a sheet that states an accepted market and writes what was read, and does so again with what was written. The
+/// engine is held to nothing but itself.
+pub fn round_trip(sheet: &[u8]) -> Result<(), String> {
+    each_way(|way| {
+        let first = read_and_write(way, sheet)?;
+        let second = read_and_write(way, &first.1)?;
+        require_trip(sheet, &first, &second)
+    })
+}
+
+/// A market that was read, and the sheet that was written of it.
+type Passed = (bay_market::Market, Vec<u8>);
+
+fn require_trip(sheet: &[u8], (market, first): &Passed, (again, second): &Passed) -> Result<(), String> {
+    require(first.len() <= sheet.len(), "what was written is longer than the sheet")?;
+    require(first.len() < sheet.len() || first == sheet, "what was written is as long as the sheet and differs")?;
+    require(again == market, "the second reading differs")?;
+    require(second == first, "the second writing differs")
+}
+
+#[rustfmt::skip] // pointer and length on one line
+fn read_and_write(way: Way, sheet: &[u8]) -> Result<Passed, String> {
+    let accepted = |answer| require_answer::<()>(answer, &Ok(()));
+    let mut read = bay_market::Market::default();
+    let mut written = Vec::new();
+    if way == Way::Owned {
+        accepted(numbered(bay_market::Market::read(sheet), |market| read = market))?;
+        accepted(numbered(read.to_sheet(), |sheet| written = sheet))?;
+        return Ok((read, written));
+    }
+    let (mut amounts, mut asks, mut bays) = ([0; MAX_GUESTS], [0; MAX_STATIONS], [0; MAX_STATIONS]);
+    let mut bids = [0; MAX_BIDS];
+    let mut tables = lent::Tables { amounts: &mut amounts, asks: &mut asks, bays: &mut bays, bids: &mut bids };
+    let mut counts = lent::Counts { guests: 0, stations: 0 };
+    accepted(match way {
+        // SAFETY: each pointer and length is that of an array.
+        Way::C => unsafe {
+            bay_market_read(
+                sheet.as_ptr(), sheet.len(),
+                tables.amounts.as_mut_ptr(), tables.amounts.len(),
+                tables.asks.as_mut_ptr(), tables.asks.len(),
+                tables.bays.as_mut_ptr(), tables.bays.len(),
+                tables.bids.as_mut_ptr(), tables.bids.len(),
+                &mut counts.guests, &mut counts.stations,
+            )
+        },
+        _ => numbered(lent::read(sheet, &mut tables), |read| counts = read),
+    })?;
+    let market = tables.market(counts);
+    written.resize(MAX_SHEET, 0xFF);
+    let mut length = 0;
+    accepted(match way {
+        // SAFETY: as above.
+        Way::C => unsafe {
+            bay_market_write(
+                market.asks.as_ptr(), market.asks.len(),
+                market.bays.as_ptr(), market.bays.len(),
+                market.amounts.as_ptr(), market.amounts.len(),
+                market.bids.as_ptr(), market.bids.len(),
+                market.width,
+                written.as_mut_ptr(), written.len(),
+                &mut length,
+            )
+        },
+        _ => numbered(lent::write(&market, &mut written), |count| length = count),
+    })?;
+    require(length <= MAX_SHEET, "the length is beyond the output")?;
+    written.truncate(length);
+    let own = |market: lent::Market| bay_market::Market {
+        asks: market.asks.to_vec(), bays: market.bays.to_vec(), amounts: market.amounts.to_vec(), bids: market.bids.to_vec(),
+    };
+    Ok((own(market), written))
 }
 
 /// Clears a market and holds answer and memory to what is expected.
@@ -312,4 +426,21 @@ fn own_ledger(ledger: &Ledger) -> bay_market::Ledger {
 /// A number of the reference at the engine's width.
 fn narrow<T: TryFrom<u128>>(number: u128) -> T {
     T::try_from(number).ok().expect("the reference is beyond the engine's width")
+}
+
+#[cfg(test)]
+mod tests {
+    use super::*;
+
+    #[test]
+    fn every_fault_of_a_trip_is_seen() {
+        let passed = |ask: u32, sheet: &[u8]| (bay_market::Market { asks: vec![ask], ..Default::default() }, sheet.to_vec());
+        let says = |sheet: &[u8], first: Passed, second: Passed| require_trip(sheet, &first, &second).unwrap_err();
+        assert_eq!(require_trip(&[1, 2], &passed(1, &[1, 2]), &passed(1, &[1, 2])), Ok(()));
+        assert_eq!(require_trip(&[1, 2], &passed(1, &[3]), &passed(1, &[3])), Ok(()));
+        assert!(says(&[1], passed(1, &[1, 2]), passed(1, &[1, 2])).contains("longer"));
+        assert!(says(&[1, 2], passed(1, &[1, 3]), passed(1, &[1, 3])).contains("as long"));
+        assert!(says(&[1, 2], passed(1, &[1]), passed(2, &[1])).contains("reading"));
+        assert!(says(&[1, 2], passed(1, &[1]), passed(1, &[2])).contains("writing"));
+    }
 }

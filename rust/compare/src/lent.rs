@@ -33,6 +33,12 @@ impl Noise for u64 {
     }
 }
 
+impl Noise for usize {
+    fn noise(random: &mut Random) -> usize {
+        random.bits() as usize
+    }
+}
+
 impl Noise for StationAccount {
     fn noise(random: &mut Random) -> StationAccount {
         StationAccount { sold: random.bits(), paid: random.bits() }

@@ -1,6 +1,7 @@
 //! Runs the static library and the clearing program against the reference on seeded random cases:
-//! `compare [SEED [PART [WAY]]]`, where a part is read, clear, post, truth or print, and the first three are called by
-//! all ways or by one: c, slices or owned. A failing case prints itself and ends the run with 1; wrong use ends it with 2.
+//! `compare [SEED [PART [WAY]]]`, where a part is read, write, trip (sheets read, written, read and written again), clear,
+//! post, truth or print, and the first five are called by all ways or by one: c, slices or owned. A failing case prints
+//! itself and ends the run with 1; wrong use ends it with 2.
 
 mod call;
 mod clearing;
@@ -10,6 +11,7 @@ mod posting;
 mod printing;
 mod reading;
 mod truth;
+mod writing;
 
 use call::{WAYS, Way};
 use reference::random::Random;
@@ -44,8 +46,10 @@ struct Part {
     cases: usize,
 }
 
-const PARTS: [Part; 5] = [
+const PARTS: [Part; 7] = [
     Part { name: "read", run: reading::run, cases: 6_000 },
+    Part { name: "write", run: writing::run, cases: 12_000 },
+    Part { name: "trip", run: reading::run_trips, cases: 6_000 },
     Part { name: "clear", run: clearing::run, cases: 20_000 },
     Part { name: "post", run: posting::run, cases: 4_000 },
     Part { name: "truth", run: truth::run, cases: 3_000 },
@@ -109,7 +113,7 @@ mod tests {
             let choice = choice(args.iter().map(|arg| arg.to_string()));
             choice.map(|Choice { seed, parts, way }| (seed, parts.iter().map(|part| part.name).collect::<Vec<_>>(), way))
         };
-        assert_eq!(chosen(&[]), Ok((SEED, vec!["read", "clear", "post", "truth", "print"], None)));
+        assert_eq!(chosen(&[]), Ok((SEED, PARTS.map(|part| part.name).to_vec(), None)));
         assert_eq!(chosen(&["7", "post"]), Ok((7, vec!["post"], None)));
         assert_eq!(chosen(&["7", "post", "slices"]), Ok((7, vec!["post"], Some(Way::Slices))));
         for wrong in [&["x"][..], &["7", "posts"], &["7", "post", "read"], &["7", "post", "c", "c"]] {

@@ -3,6 +3,7 @@
 use reference::faults::{ListLengths, MAX_AMOUNT, MAX_BAYS, MAX_GUESTS, MAX_PRICE, MAX_STATIONS};
 use reference::market::Market;
 use reference::random::{Random, Shape};
+use reference::sheet::shortest;
 
 /// A handful of guests and stations, and small numbers.
 pub fn small() -> Shape {
@@ -207,14 +208,15 @@ fn fit(market: &mut Market, lists: &mut ListLengths) {
     *lists = ListLengths::of(market);
 }
 
+/// The shortest sheet that states a market, whose values may be out of range, where its lengths fit.
+pub fn sheet(market: &Market) -> Option<Vec<u8>> {
+    let (n, m) = (market.guests(), market.stations());
+    (market.bays.len() == m && market.bids.len() == n * m).then(|| shortest(market))
+}
+
 /// A market for a failing case's message: as numbers, and as a sheet where one states it.
 pub fn show(market: &Market) -> String {
-    let (n, m) = (market.guests(), market.stations());
-    let sheet = if market.bays.len() == m && market.bids.len() == n * m {
-        hex(&reference::sheet::write(market, |_, _| false))
-    } else {
-        "none: the lengths do not fit".to_string()
-    };
+    let sheet = sheet(market).map_or("none: the lengths do not fit".to_string(), |sheet| hex(&sheet));
     format!(
         "asks {:?}\nbays {:?}\namounts {:?}\nbids {:?}\nwidth {}\nsheet {sheet}",
         market.asks, market.bays, market.amounts, market.bids, market.width

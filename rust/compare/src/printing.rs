@@ -1,13 +1,13 @@
-//! The clearing program, target/dist/clear or the one that BAY_MARKET_PROGRAM names, against the reference's text. It
-//! ends with 0 and writes nothing to standard error, whatever the sheet.
+//! The clearing program, target/dist/clear or the one that BAY_MARKET_PROGRAM names, against the reference's text, and
+//! with --write against the reference's sheet. It ends with 0 and writes nothing to standard error, whatever the sheet.
 
 use crate::Tally;
 use crate::markets::{accepted, hex, shapes, small};
 use crate::reading::{any_sheet, damaged};
 use reference::faults::{MAX_AMOUNT, MAX_BAYS, MAX_PRICE};
 use reference::random::{Random, Shape};
-use reference::report::printed;
-use reference::sheet::write;
+use reference::report::{printed, written};
+use reference::sheet::{shortest, stating};
 use std::io::Write;
 use std::path::{Path, PathBuf};
 use std::process::{Command, Stdio};
@@ -17,8 +17,9 @@ use std::{env, thread};
 const PAUSE: Duration = Duration::from_millis(3);
 
 /// Runs the program on an input that comes through a pipe in two pieces, the second after the first was likely read.
-fn run_program(program: &Path, input: &[u8], first: usize) -> Result<String, String> {
+fn run_program(program: &Path, arguments: &[&str], input: &[u8], first: usize) -> Result<Vec<u8>, String> {
     let mut child = Command::new(program)
+        .args(arguments)
         .stdin(Stdio::piped())
         .stdout(Stdio::piped())
         .stderr(Stdio::piped())
@@ -39,7 +40,7 @@ fn run_program(program: &Path, input: &[u8], first: usize) -> Result<String, Str
         let said = String::from_utf8_lossy(&output.stderr);
         return Err(format!("the program ended with {} and said {said:?}", output.status));
     }
-    String::from_utf8(output.stdout).map_err(|error| error.to_string())
+    Ok(output.stdout)
 }
 
 /// A market with one value out of range.
@@ -55,7 +56,7 @@ fn out_of_range(random: &mut Random, which: usize) -> Vec<u8> {
             market.bids[bid] = MAX_PRICE + 1;
         }
     }
-    write(&market, |_, _| false)
+    shortest(&market)
 }
 
 pub fn run(random: &mut Random, tally: &mut Tally, cases: usize) -> Result<(), String> {
@@ -65,15 +66,15 @@ pub fn run(random: &mut Random, tally: &mut Tally, cases: usize) -> Result<(), S
     for case in 0..cases {
         let mut sheet = match case % 4 {
             0 => any_sheet(random, &shapes[case / 4 % shapes.len()]),
-            _ => write(&accepted(random, &shapes), |_, _| false),
+            _ => shortest(&accepted(random, &shapes)),
         };
         if case % 4 == 3 {
             sheet = damaged(random, &sheet);
         }
         match case % 40 {
             // the largest sheet, and one byte more
-            1 => sheet = write(&Shape::full().market(random), |_, _| true),
-            5 => sheet = [write(&Shape::full().market(random), |_, _| true), vec![0]].concat(),
+            1 => sheet = stating(&Shape::full().market(random), |_, _| true),
+            5 => sheet = [stating(&Shape::full().market(random), |_, _| true), vec![0]].concat(),
             // more than a pipe holds
             9 => sheet.resize(200_000, 0),
             // an ask, bays, an amount or a bid out of range
@@ -82,11 +83,17 @@ pub fn run(random: &mut Random, tally: &mut Tally, cases: usize) -> Result<(), S
         }
         let text = printed(&sheet);
         let number = text.strip_prefix("refused ").map(|number| number.trim_end().parse().expect("a number"));
-        tally.count(&number.map_or(Ok(()), Err));
-        let first = random.below(sheet.len() + 1);
-        let output = run_program(&program, &sheet, first)?;
-        if output != text {
-            return Err(format!("the text differs\nprinted\n{output}expected\n{text}sheet {}", hex(&sheet)));
+        for (arguments, expected) in [(&[][..], text.into_bytes()), (&["--write"], written(&sheet))] {
+            tally.count(&number.map_or(Ok(()), Err));
+            let first = random.below(sheet.len() + 1);
+            let output = run_program(&program, arguments, &sheet, first)?;
+            if output != expected {
+                let [output, expected] = [output, expected].map(|bytes| bytes.escape_ascii().to_string().replace("\\n", "\n"));
+                return Err(format!(
+                    "the output differs {arguments:?}\nwritten\n{output}\nexpected\n{expected}\nsheet {}",
+                    hex(&sheet)
+                ));
+            }
         }
     }
     tally.require(&[0, 1, 2, 3, 4, 6, 7, 8, 9])

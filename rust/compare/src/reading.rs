@@ -1,10 +1,11 @@
-//! Reading against the reference: sheets as they should be and damaged ones.
+//! Reading against the reference: sheets as they should be and damaged ones; and the round trip of each.
 
 use crate::Tally;
 use crate::call;
 use crate::markets::{hex, middling, shapes};
+use reference::faults::market_fault;
 use reference::random::{Random, Shape};
-use reference::sheet::{GREATEST, TableLengths, read, write};
+use reference::sheet::{GREATEST, TableLengths, read, stating};
 
 fn check(random: &mut Random, tally: &mut Tally, sheet: &[u8], lengths: TableLengths) -> Result<(), String> {
     let expected = read(sheet, lengths);
@@ -13,6 +14,16 @@ fn check(random: &mut Random, tally: &mut Tally, sheet: &[u8], lengths: TableLen
         let stated = expected.map_or_else(|number| format!("refused {number}"), |market| format!("{market:?}"));
         format!("{what}\n{lengths:?}\nexpected {stated}\nsheet {}", hex(sheet))
     })
+}
+
+/// Reads the sheet, writes what was read, and both again, where the sheet states an accepted market.
+fn check_trip(tally: &mut Tally, sheet: &[u8]) -> Result<(), String> {
+    if read(sheet, GREATEST).and_then(|market| market_fault(&market)).is_err() {
+        return Ok(());
+    }
+    let writings = 2;
+    (0..writings).for_each(|_| tally.count::<()>(&Ok(())));
+    call::round_trip(sheet).map_err(|what| format!("{what}\nsheet {}", hex(sheet)))
 }
 
 /// A sheet of random values, in range or not, with some set bits for bids of 0.
@@ -27,23 +38,26 @@ pub fn any_sheet(random: &mut Random, shape: &Shape) -> Vec<u8> {
         }
     }
     let percent = *random.pick(&[0, 10, 100]);
-    write(&market, |_, _| random.chance(percent))
+    stating(&market, |_, _| random.chance(percent))
 }
 
+/// What is done with a sheet and the lengths of the tables that it is to be read into.
+type Visit<'a> = dyn FnMut(&mut Random, &[u8], TableLengths) -> Result<(), String> + 'a;
+
 /// Every truncation, every flipped bit and some trailing bytes.
-fn every_damage(random: &mut Random, tally: &mut Tally, sheet: &[u8]) -> Result<(), String> {
+fn every_damage(random: &mut Random, visit: &mut Visit, sheet: &[u8]) -> Result<(), String> {
     for length in 0..sheet.len() {
-        check(random, tally, &sheet[..length], GREATEST)?;
+        visit(random, &sheet[..length], GREATEST)?;
     }
     for place in 0..8 * sheet.len() {
         let mut flipped = sheet.to_vec();
         flipped[place / 8] ^= 1 << (place % 8);
-        check(random, tally, &flipped, GREATEST)?;
+        visit(random, &flipped, GREATEST)?;
     }
     for _ in 0..4 {
         let mut longer = sheet.to_vec();
         longer.extend((0..random.within(1..=40)).map(|_| random.bits() as u8));
-        check(random, tally, &longer, GREATEST)?;
+        visit(random, &longer, GREATEST)?;
     }
     Ok(())
 }
@@ -79,7 +93,8 @@ fn other_lengths(random: &mut Random) -> TableLengths {
     lengths
 }
 
-pub fn run(random: &mut Random, tally: &mut Tally, cases: usize) -> Result<(), String> {
+/// Sheets of all kinds.
+fn sheets(random: &mut Random, cases: usize, visit: &mut Visit) -> Result<(), String> {
     let shapes = shapes();
     for _ in 0..cases {
         let shape = random.pick(&shapes);
@@ -88,38 +103,49 @@ pub fn run(random: &mut Random, tally: &mut Tally, cases: usize) -> Result<(), S
             sheet = damaged(random, &sheet);
         }
         let lengths = if random.chance(10) { other_lengths(random) } else { GREATEST };
-        check(random, tally, &sheet, lengths)?;
+        visit(random, &sheet, lengths)?;
     }
     // all damage to small sheets, with maps of 1, 2 and 5 bytes, full and not
     for stations in [1, 2, 7, 8, 9, 16, 17, 39, 40] {
         for guests in 0..=2 {
             let shape = Shape { guests: guests..=guests, stations: stations..=stations, empty: 60, ..middling() };
             let sheet = any_sheet(random, &shape);
-            every_damage(random, tally, &sheet)?;
+            every_damage(random, visit, &sheet)?;
         }
     }
     // every header up to a little past the limits, alone and with zeros for what follows
     for n in (0..=3).chain(198..=203).chain([255, 256, 257, 65_535]) {
         for m in (0..=42).chain([255, 256, 257, 296, 65_535]) {
             let header = [u16::to_le_bytes(n), u16::to_le_bytes(m)].concat();
-            check(random, tally, &header, GREATEST)?;
+            visit(random, &header, GREATEST)?;
             let length = 6 * usize::from(m) + usize::from(n) * (2 + usize::from(m).div_ceil(8));
             if length <= 40_000 {
-                check(random, tally, &[header, vec![0; length]].concat(), GREATEST)?;
+                visit(random, &[header, vec![0; length]].concat(), GREATEST)?;
             }
         }
     }
     // the largest sheet, cut at random places
-    let largest = write(&Shape { bids: 1..=9, empty: 0, ..Shape::full() }.market(random), |_, _| true);
+    let largest = stating(&Shape { bids: 1..=9, empty: 0, ..Shape::full() }.market(random), |_, _| true);
     for _ in 0..300 {
         let length = random.below(largest.len() + 1);
-        check(random, tally, &largest[..length], GREATEST)?;
+        visit(random, &largest[..length], GREATEST)?;
     }
-    check(random, tally, &largest, GREATEST)?;
+    visit(random, &largest, GREATEST)?;
     // bytes of no meaning
     for _ in 0..2_000 {
         let noise: Vec<u8> = (0..random.within(0..=60)).map(|_| random.bits() as u8 & 0x13).collect();
-        check(random, tally, &noise, GREATEST)?;
+        visit(random, &noise, GREATEST)?;
     }
+    Ok(())
+}
+
+pub fn run(random: &mut Random, tally: &mut Tally, cases: usize) -> Result<(), String> {
+    sheets(random, cases, &mut |random, sheet, lengths| check(random, tally, sheet, lengths))?;
     tally.require(&[0, 1, 2, 3, 4, 10])
+}
+
+/// The round trip of each sheet.
+pub fn run_trips(random: &mut Random, tally: &mut Tally, cases: usize) -> Result<(), String> {
+    sheets(random, cases, &mut |_, sheet, _| check_trip(tally, sheet))?;
+    tally.require(&[0])
 }

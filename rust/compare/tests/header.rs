@@ -61,7 +61,8 @@ fn the_functions_agree() {
     let in_header = functions(&header[header.find("struct bay_market").unwrap()..], "\nuint8_t ", ");", in_rust);
     let declared =
         functions(&bare(DECLARATIONS), "pub fn ", ") -> u8;", |text| text.split_whitespace().collect::<Vec<_>>().join(" "));
-    assert_eq!(in_header.keys().collect::<Vec<_>>(), ["bay_market_clear", "bay_market_post", "bay_market_read"]);
+    let names = ["bay_market_clear", "bay_market_post", "bay_market_read", "bay_market_write"];
+    assert_eq!(in_header.keys().collect::<Vec<_>>(), names);
     assert_eq!(in_header, declared);
 }
 

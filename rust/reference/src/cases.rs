@@ -4,7 +4,7 @@ use crate::clearing::clear;
 use crate::faults::{ListLengths, clearing_fault, market_fault};
 use crate::ledger::{Ledger, MAX_ACCOUNT, StationAccount};
 use crate::market::Market;
-use crate::sheet::{GREATEST, TableLengths, read, write};
+use crate::sheet::{GREATEST, TableLengths, read, shortest, stating, write};
 use crate::{report, samples};
 
 /// A market with one bay at each station.
@@ -14,8 +14,8 @@ fn one_bay(asks: &[u32], amounts: &[u16], bids: &[u32]) -> Market {
 
 /// A market is accepted, is what its sheet states, and clears to the given cut, stations, charges, (sold, paid), margin.
 fn clears(market: &Market, cut: u128, stations: &[usize], charges: &[u128], sales: &[(u128, u128)], margin: u128) {
-    assert_eq!(read(&write(market, |_, _| false), GREATEST).as_ref(), Ok(market));
-    assert_eq!(read(&write(market, |_, _| true), GREATEST).as_ref(), Ok(market));
+    assert_eq!(read(&shortest(market), GREATEST).as_ref(), Ok(market));
+    assert_eq!(read(&stating(market, |_, _| true), GREATEST).as_ref(), Ok(market));
     assert_eq!(market_fault(market), Ok(()));
     let outcome = clear(market);
     assert_eq!(outcome.cut, cut);
@@ -95,11 +95,37 @@ const SHEET_E: [u8; 30] = [
 
 #[test]
 fn sheet_e_and_its_text() {
-    assert_eq!(write(&samples::case_e(), |_, _| false), SHEET_E);
+    assert_eq!(shortest(&samples::case_e()), SHEET_E);
     let text = "cut 6\nguest 1 station 1 charge 24\nguest 2 station 0 charge 0\n\
         station 1 sold 3 paid 18\nstation 2 sold 0 paid 0\nmargin 6\n";
     assert_eq!(report::printed(&SHEET_E), text);
     assert_eq!(report::printed(&SHEET_E[..3]), "refused 1\n");
+    assert_eq!(report::written(&stating(&samples::case_e(), |_, _| true)), SHEET_E);
+    assert_eq!(report::written(&SHEET_E[..3]), b"refused 1\n");
+}
+
+#[test]
+fn every_other_sheet_that_states_a_market_is_longer() {
+    let market = one_bay(&[2, 6, 1], &[3, 4, 5], &[0, 7, 0, 0, 0, 0, 8, 9, 1]);
+    let empty = [(1, 1), (1, 3), (2, 1), (2, 2), (2, 3)];
+    for choice in 0u32..1 << empty.len() {
+        let bit = |place: usize| choice >> place & 1 == 1;
+        let sheet = stating(&market, |guest, station| empty.iter().position(|&at| at == (guest, station)).is_some_and(bit));
+        assert_eq!(sheet.len(), shortest(&market).len() + 4 * choice.count_ones() as usize);
+        assert_eq!(sheet == shortest(&market), choice == 0);
+        assert_eq!(read(&sheet, GREATEST).as_ref(), Ok(&market));
+    }
+}
+
+#[test]
+fn writing_refuses_in_the_tables_order() {
+    let case_e = samples::case_e();
+    assert_eq!(write(&samples::refused(), 0), Err(6));
+    assert_eq!(write(&Market { width: 1, ..case_e.clone() }, 0), Err(5));
+    assert_eq!(write(&Market::new(&[], &[], &[], &[]), 0), Err(2));
+    assert_eq!(write(&case_e, 29), Err(14));
+    assert_eq!(write(&case_e, 30), Ok(SHEET_E.to_vec()));
+    assert_eq!(write(&case_e, 31), Ok(SHEET_E.to_vec()));
 }
 
 #[test]
@@ -125,7 +151,7 @@ fn reading_refuses_in_the_tables_order() {
 #[test]
 fn the_largest_sheet_has_33_644_bytes() {
     let market = Market::new(&[1; 40], &[1; 40], &[1; 200], &[1; 8_000]);
-    assert_eq!(write(&market, |_, _| false).len(), 33_644);
+    assert_eq!(shortest(&market).len(), 33_644);
 }
 
 #[test]

@@ -1,4 +1,4 @@
-//! Document 01, 'Refusals by place': the clearing's rows. The reader's and the posting's stand with those.
+//! Document 01, 'Refusals by place': the clearing's rows. The reader's, the writer's and the posting's stand with those.
 
 use crate::market::Market;
 
@@ -15,6 +15,7 @@ pub const LENT_LENGTHS: u8 = 10;
 pub const ROUND_OUT_OF_TURN: u8 = 11;
 pub const ACCOUNT_OVER_LIMIT: u8 = 12;
 pub const BOOK_SIZE: u8 = 13;
+pub const OUTPUT_TOO_SHORT: u8 = 14;
 
 pub const MAX_GUESTS: usize = 200;
 pub const MAX_STATIONS: usize = 40;

@@ -1,4 +1,4 @@
-//! The bay market in plain Rust, written from document 01 alone: candidates and asks are sorted, numbers are 128 bits
+//! The bay market in plain Rust, written from documents 01 and 02 alone: candidates and asks are sorted, numbers are 128 bits
 //! wide, and every rule stands where the page has it. The engine is compared with this.
 
 pub mod clearing;

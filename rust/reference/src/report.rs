@@ -1,8 +1,8 @@
-//! What the clearing program prints.
+//! What the clearing program prints, and what it writes.
 
 use crate::clearing::{Outcome, clear};
 use crate::faults::market_fault;
-use crate::sheet::{GREATEST, read};
+use crate::sheet::{GREATEST, read, write};
 use std::fmt::Write;
 
 pub fn outcome(outcome: &Outcome) -> String {
@@ -22,6 +22,16 @@ pub fn printed(sheet: &[u8]) -> String {
     let cleared = read(sheet, GREATEST).and_then(|market| market_fault(&market).map(|()| clear(&market)));
     match cleared {
         Ok(cleared) => outcome(&cleared),
-        Err(number) => format!("refused {number}\n"),
+        Err(number) => refused(number),
     }
+}
+
+/// What the program writes for a sheet where its shortest form is asked for: that, or the text of a refusal.
+pub fn written(sheet: &[u8]) -> Vec<u8> {
+    let written = read(sheet, GREATEST).and_then(|market| write(&market, usize::MAX));
+    written.unwrap_or_else(|number| refused(number).into())
+}
+
+fn refused(number: u8) -> String {
+    format!("refused {number}\n")
 }

@@ -2,7 +2,7 @@
 
 use crate::market::Market;
 use crate::random::{Random, Shape};
-use crate::sheet::write;
+use crate::sheet::shortest;
 
 /// Table I of document 000.
 pub fn table_i() -> Market {
@@ -43,6 +43,6 @@ pub fn refused() -> Market {
 pub fn sheets() -> Vec<(&'static str, Vec<u8>)> {
     [("table_i", table_i()), ("case_e", case_e()), ("full", full()), ("refused", refused())]
         .into_iter()
-        .map(|(name, market)| (name, write(&market, |_, _| false)))
+        .map(|(name, market)| (name, shortest(&market)))
         .collect()
 }

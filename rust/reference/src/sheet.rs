@@ -1,4 +1,4 @@
-//! Document 01, 'The sheet'.
+//! Document 01, 'The sheet', and document 02, 'Sheets we can send out'.
 
 use crate::faults::{self, MAX_GUESTS, MAX_STATIONS};
 use crate::market::Market;
@@ -89,7 +89,7 @@ pub fn read(sheet: &[u8], tables: TableLengths) -> Result<Market, u8> {
 
 /// A sheet that states the market, whose tables fit its counts. `empty` says for each guest and station, from 1,
 /// whether a bid of 0 gets a set bit.
-pub fn write(market: &Market, mut empty: impl FnMut(usize, usize) -> bool) -> Vec<u8> {
+pub fn stating(market: &Market, mut empty: impl FnMut(usize, usize) -> bool) -> Vec<u8> {
     let (n, m) = (market.guests(), market.stations());
     let mut sheet = Vec::new();
     sheet.extend((n as u16).to_le_bytes());
@@ -113,4 +113,19 @@ pub fn write(market: &Market, mut empty: impl FnMut(usize, usize) -> bool) -> Ve
         sheet.extend(bids);
     }
     sheet
+}
+
+/// The shortest sheet that states the market, whose tables fit its counts: no bid of 0 gets a set bit.
+pub fn shortest(market: &Market) -> Vec<u8> {
+    stating(market, |_guest, _station| false)
+}
+
+/// The sheet that is written of a market into an output of so many bytes, or the number of the first fault.
+pub fn write(market: &Market, output: usize) -> Result<Vec<u8>, u8> {
+    faults::market_fault(market)?;
+    let sheet = shortest(market);
+    if output < sheet.len() {
+        return Err(faults::OUTPUT_TOO_SHORT);
+    }
+    Ok(sheet)
 }

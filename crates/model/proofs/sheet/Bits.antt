@@ -1,5 +1,5 @@
 -- Laws of the set bits of a word, taken one after the other from the lowest on.
-use Prim.Native.Nat.{ℕ, zero, suc, _+_, _-_, _/_, _%_, _^_, _≤_, _<_}
+use Prim.Native.Nat.{ℕ, zero, suc, _+_, _*_, _-_, _/_, _%_, _^_, _≤_, _<_}
 use mathlib.Core.Bool.{Bool, true, false}
 use mathlib.Core.Logic.{⊎-elim}
 use mathlib.Core.Path.{_≡_, refl, sym, ap, _∙_}
@@ -7,6 +7,7 @@ use native.Mathlib.Nat.{eq-or-lt-of-le, le-of-suc-le-suc, not-suc-le-zero}
 use native.Mathlib.Numerals.{add-one}
 use native.Mathlib.Omega.{arith}
 use lib.Count.{trailingZeros, under}
+use lib.Pow.{pow-mono, shl-exact}
 use Rattle.model.specs.Counting.{only, count}
 use Rattle.model.proofs.Counting.{count-not}
 use Rattle.model.proofs.Tests.{decide, clash, only-yes, only-no, lt-or-le, is-eq, not-eq}
@@ -167,3 +168,41 @@ next-of k x y p t h w = record {
 -- nothing is left
 pub none-left : (x p : ℕ) → Left x 0 p → (i : ℕ) → p ≤ i → hasBit x i ≡ false
 none-left x p t i l = sym (t .ahead i l) ∙ clear-zero i
+
+-- the walk has taken the set bits below p of a map of m bits, and `left` has the others
+pub record Walk (map m left : ℕ) : Type 0 where
+  pub p : ℕ
+  pub low : p ≤ m
+  pub bits : Left map left p
+  pub fewer : left ≤ map
+
+abbrev pub walk-all : (map m : ℕ) → Walk map m map
+walk-all map m = record { p = 0; low = omega arith; bits = left-all map; fewer = omega arith }
+
+module _ {map m left : ℕ} (t : Walk map m left) where
+  module _ (few : m ≤ 64) (narrow : map < 2 ^ m) (h : 0 < left) where
+    pub walk-next : Next map left (t .p) (trailingZeros 64 left)
+    walk-next = next-of 64 map left (t .p) (t .bits) h (omega (arith, t .fewer, pow-mono {i = m} {j = 64} few))
+
+    -- the next bit is below m
+    pub walk-bit : trailingZeros 64 left < m
+    walk-bit = set-within map m _ narrow (walk-next .set)
+
+    -- its power, as code makes it
+    pub walk-power : 1 * 2 ^ trailingZeros 64 left % 2 ^ 64 ≡ 2 ^ trailingZeros 64 left
+    walk-power = shl-exact 1 (trailingZeros 64 left) 64 (omega arith) (omega (arith, walk-bit)) ∙ omega arith
+
+    pub walk-less : 2 ^ trailingZeros 64 left ≤ left
+    walk-less = walk-next .there
+
+    abbrev pub walk-on : (left′ : ℕ) → left′ ≡ left - 2 ^ trailingZeros 64 left → Walk map m left′
+    walk-on left′ e = record {
+      p = trailingZeros 64 left + 1;
+      low = omega (arith, walk-bit);
+      bits = rw e (walk-next .rest);
+      fewer = omega (arith, t .fewer);
+    }
+
+  -- no bit is left
+  pub walk-done : left ≤ 0 → (k : ℕ) → t .p ≤ k → hasBit map k ≡ false
+  walk-done h = none-left map (t .p) (let e : left ≡ 0 = omega arith in rw e at (t .bits))

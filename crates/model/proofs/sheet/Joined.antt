@@ -1,12 +1,31 @@
--- The length of a table of rows.
-use Prim.Native.Nat.{ℕ, zero, suc, _*_}
-use mathlib.Core.Path.{_≡_}
+-- Laws of lists that stand one after the other.
+use Prim.Native.Nat.{ℕ, zero, suc, _*_, _≤_, _<_}
+use mathlib.Core.List.{List, [], _++_, append-nil}
+use mathlib.Core.Logic.{⊎-elim}
+use mathlib.Core.Path.{_≡_, refl, ap₂, _∙_}
+use native.Mathlib.Nat.{eq-or-lt-of-le, le-of-suc-le-suc}
 use native.Mathlib.Omega.{arith}
 use lib.ListN.{length, length-append}
 use Rattle.model.specs.Counting.{list, joined}
-use Rattle.model.proofs.Counting.{length-list}
+use Rattle.model.proofs.Counting.{up, here, length-list}
 
 pub joined-length : (n m : ℕ) (f : ℕ → ℕ → ℕ) → length (joined n (λ i. list m (f i))) ≡ n * m
 unfolding joined
 joined-length zero m f = omega arith
 joined-length (suc n) m f = simp (length-append, length-list) (omega (arith, joined-length n m f))
+
+pub joined-cong : (n : ℕ) (f g : ℕ → List ℕ) → ((i : ℕ) → i < n → f i ≡ g i) → joined n f ≡ joined n g
+unfolding joined
+joined-cong zero f g h = refl
+joined-cong (suc n) f g h = ap₂ _++_ (joined-cong n f g (λ i l. h i (up l))) (h n here)
+
+-- where the lists from p to q are empty
+pub joined-gap :
+    (f : ℕ → List ℕ) (p q : ℕ) → p ≤ q → ((i : ℕ) → p ≤ i → i < q → f i ≡ []) → joined q f ≡ joined p f
+unfolding joined
+joined-gap f p zero l h = let e : p ≡ 0 = omega arith in rw e refl
+joined-gap f p (suc q) l h = ⊎-elim
+    (λ (e : p ≡ suc q). rw e refl)
+    (λ (g : p < suc q). rw (h q (le-of-suc-le-suc g) here)
+    (append-nil (joined q f) ∙ joined-gap f p q (le-of-suc-le-suc g) (λ i a b. h i a (up b))))
+    (eq-or-lt-of-le l)

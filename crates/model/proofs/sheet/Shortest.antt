@@ -1,25 +1,28 @@
 -- The shortest sheet of an accepted market states it, and no other that does is as short.
-use Prim.Native.Nat.{ℕ, zero, suc, _+_, _*_, _≤_, _<_}
+use Prim.Native.Nat.{ℕ, _+_, _*_, _^_, _≤_, _<_}
 use mathlib.Core.Bool.{Bool, true, false}
 use mathlib.Core.List.{List, _++_}
 use mathlib.Core.Logic.{⊎-elim}
 use mathlib.Core.Path.{_≡_, refl, sym, ap, ap₂, _∙_}
 use native.Mathlib.Omega.{arith}
 use lib.ListN.{length, getD}
-use Rattle.model.specs.Counting.{sum, count, joined}
+use Rattle.model.specs.Limits.{maxPrice}
+use Rattle.model.specs.Counting.{_<?_, sum, count, joined}
 use Rattle.model.specs.market.Market.{Tables, bidAt}
 use Rattle.model.specs.market.Faults.{Accepted}
 use Rattle.model.specs.Verdicts.{accepted}
 use Rattle.model.specs.claims.Meaning.{WithinLimits}
 use Rattle.model.specs.sheet.Fields.{mapWidth}
+use Rattle.model.specs.sheet.Content.{readSheet}
 use Rattle.model.specs.sheet.Layout.{bytesOf, pack, stated, row, station, layout, Fitting, States}
 use Rattle.model.specs.sheet.Shortest.{bidden, shortest, ShortestIsRead, ShortestIsLeast, SecondChangesNothing}
 use Rattle.model.specs.sheet.Shortest.{ShortestFits}
 use Rattle.model.proofs.Tests.{decide, clash, same-test, lt-no, not-lt}
-use Rattle.model.proofs.Counting.{up, here, sum-mono, sum-strict, count-mono, count-strict}
+use Rattle.model.proofs.Counting.{sum-mono, sum-strict, count-mono, count-strict}
 use Rattle.model.proofs.Loops.{in-table}
 use Rattle.model.proofs.market.Acceptance.{accepted-iff-within-limits}
 use Rattle.model.proofs.sheet.Holds.{pack-cong}
+use Rattle.model.proofs.sheet.Joined.{joined-cong}
 use Rattle.model.proofs.sheet.Lengths.{layout-length}
 use Rattle.model.proofs.sheet.Longest.{sheets-are-short}
 use Rattle.model.proofs.sheet.Truth.{states-read}
@@ -68,11 +71,6 @@ second-changes-nothing s t u e a f =
     let h : u ≡ t = cc in (h, ap shortest h)
 
 -- ---- sheets with the same bits are one
-
-joined-cong : (n : ℕ) (f g : ℕ → List ℕ) → ((i : ℕ) → i < n → f i ≡ g i) → joined n f ≡ joined n g
-unfolding joined
-joined-cong zero f g h = refl
-joined-cong (suc n) f g h = ap₂ _++_ (joined-cong n f g (λ i l. h i (up l))) (h n here)
 
 module _ (t : Tables) (a b : ℕ → ℕ → Bool)
     (same : (i j : ℕ) → i < length (t .amounts) → j < length (t .asks) → a i j ≡ b i j) where

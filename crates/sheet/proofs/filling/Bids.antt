@@ -7,13 +7,12 @@ use mathlib.Core.Path.{_≡_, sym, ap, _∙_}
 use native.Mathlib.Omega.{arith}
 use lib.Count.{trailingZeros}
 use lib.ListN.{length, set}
-use lib.Pow.{pow-mono, shl-exact}
 use Rattle.model.specs.Counting.{_<?_, only, count}
 use Rattle.model.proofs.Counting.{count-all, count-start, count-yes, count-up}
 use Rattle.model.proofs.Tests.{only-yes, only-no, is-lt, not-lt, lt-or-le}
 use Rattle.model.specs.sheet.Fields.{littleEndian, hasBit}
 use Rattle.model.specs.sheet.Rows.{bidBy}
-use Rattle.model.proofs.sheet.Bits.{Left, left-all, Next, next-of, none-left, set-within, count-still}
+use Rattle.model.proofs.sheet.Bits.{Next, count-still, Walk, walk-all, walk-next, walk-bit, walk-on, walk-done}
 use Rattle.sheet.specs.Filling.{placed}
 use Rattle.sheet.proofs.filling.Filled.{placed-cong, placed-set, placed-again}
 
@@ -41,24 +40,18 @@ beyond : (p k : ℕ) (f : ℕ → ℕ) → p ≤ k → upTo p f k ≡ 0
 unfolding upTo
 beyond p k f h = only-no _ _ (not-lt k p h)
 
--- The walk over the set bits of a row's map: those below p are taken, and l₀ has become l and the cursor stands at d.
+-- The walk over the set bits of a row's map: l₀ has become l by those that are taken, and the cursor stands at d.
 pub record Walked (s : List ℕ) (map m base q : ℕ) (l₀ l : List ℕ) (d left : ℕ) : Type 0 where
-  pub p : ℕ
-  pub low : p ≤ m
-  pub bits : Left map left p
-  pub fewer : left ≤ map
-  pub place : d ≡ q + 4 * count p (hasBit map)
-  pub is : l ≡ placed base m (upTo p (bidBy s map q)) l₀
+  pub walk : Walk map m left
+  pub place : d ≡ q + 4 * count (walk .p) (hasBit map)
+  pub is : l ≡ placed base m (upTo (walk .p) (bidBy s map q)) l₀
 
 module _ (s : List ℕ) (map m base q : ℕ) (l₀ : List ℕ) where
   -- the row holds 0
   pub walk-start :
       (l : List ℕ) → base ≤ length l₀ → l ≡ placed base m (λ _. 0) l₀ → Walked s map m base q l l q map
   walk-start l b e = record {
-    p = 0;
-    low = omega arith;
-    bits = left-all map;
-    fewer = omega arith;
+    walk = walk-all map m;
     place = omega (arith, count-start (hasBit map));
     is = e ∙ sym (placed-again base m (λ _. 0) (λ _. 0) l₀ b) ∙ ap (placed base m (λ _. 0)) (sym e)
         ∙ placed-cong base m _ _ l (λ j _. sym (beyond 0 j (bidBy s map q) (omega arith)));
@@ -66,14 +59,6 @@ module _ (s : List ℕ) (map m base q : ℕ) (l₀ : List ℕ) where
 
   module _ {l : List ℕ} {d left : ℕ} (t : Walked s map m base q l₀ l d left) where
     module _ (few : m ≤ 64) (narrow : map < 2 ^ m) (h : 0 < left) where
-      next : Next map left (t .p) (trailingZeros 64 left)
-      next =
-          next-of 64 map left (t .p) (t .bits) h (omega (arith, t .fewer, pow-mono {i = m} {j = 64} few))
-
-      -- the next bit is a station's
-      pub walk-bit : trailingZeros 64 left < m
-      walk-bit = set-within map m _ narrow (next .set)
-
       -- its field is within the row
       pub walk-field : d + 4 ≤ q + 4 * count m (hasBit map)
       walk-field =
@@ -81,17 +66,10 @@ module _ (s : List ℕ) (map m base q : ℕ) (l₀ : List ℕ) where
           omega (
             arith,
             t .place,
-            next .number,
-            count-yes j (hasBit map) (next .set),
-            count-up (j + 1) m (hasBit map) (omega (arith, walk-bit)),
+            walk-next (t .walk) few narrow h .number,
+            count-yes j (hasBit map) (walk-next (t .walk) few narrow h .set),
+            count-up (j + 1) m (hasBit map) (omega (arith, walk-bit (t .walk) few narrow h)),
           )
-
-      -- its power, as the code makes it
-      pub walk-power : 1 * 2 ^ trailingZeros 64 left % 2 ^ 64 ≡ 2 ^ trailingZeros 64 left
-      walk-power = shl-exact 1 (trailingZeros 64 left) 64 (omega arith) (omega (arith, walk-bit)) ∙ omega arith
-
-      pub walk-less : 2 ^ trailingZeros 64 left ≤ left
-      walk-less = next .there
 
       pub walk-turn :
           (v d′ left′ : ℕ) → base ≤ length l₀ → v ≡ littleEndian s d 4 → d′ ≡ d + 4
@@ -99,20 +77,17 @@ module _ (s : List ℕ) (map m base q : ℕ) (l₀ : List ℕ) where
           → Walked s map m base q l₀ (set l (base + trailingZeros 64 left) v) d′ left′
       unfolding bidBy
       walk-turn v d′ left′ b e f g = record {
-        p = j + 1;
-        low = omega (arith, walk-bit);
-        bits = rw g (n .rest);
-        fewer = omega (arith, t .fewer);
+        walk = walk-on (t .walk) few narrow h left′ g;
         place = omega (arith, t .place, n .number, count-yes j (hasBit map) (n .set));
         is = ap (λ y. set y (base + j) v) (t .is)
-            ∙ placed-set base m j v _ _ l₀ b walk-bit (value ∙ sym (below (j + 1) j _ (omega arith))) others;
+            ∙ placed-set base m j v _ _ l₀ b (walk-bit (t .walk) few narrow h) (value ∙ sym (below (j + 1) j _ (omega arith))) others;
       }
         where
           j : ℕ
           j = trailingZeros 64 left
 
-          n : Next map left (t .p) j
-          n = next
+          n : Next map left (t .walk .p) j
+          n = walk-next (t .walk) few narrow h
 
           value : v ≡ bidBy s map q j
           value =
@@ -120,25 +95,25 @@ module _ (s : List ℕ) (map m base q : ℕ) (l₀ : List ℕ) where
               e ∙ ap (λ x. littleEndian s x 4) at ∙ sym (only-yes _ _ (n .set))
 
           others :
-              (k : ℕ) → k < m → (k ≡ j → ⊥) → upTo (t .p) (bidBy s map q) k ≡ upTo (j + 1) (bidBy s map q) k
+              (k : ℕ) → k < m → (k ≡ j → ⊥) → upTo (t .walk .p) (bidBy s map q) k ≡ upTo (j + 1) (bidBy s map q) k
           others k _ o = ⊎-elim
-              (λ (a : k < t .p). below (t .p) k _ a ∙ sym (below (j + 1) k _ (omega (arith, n .onward))))
-              (λ (a : t .p ≤ k). beyond (t .p) k _ a ∙ ⊎-elim
+              (λ (a : k < t .walk .p). below (t .walk .p) k _ a ∙ sym (below (j + 1) k _ (omega (arith, n .onward))))
+              (λ (a : t .walk .p ≤ k). beyond (t .walk .p) k _ a ∙ ⊎-elim
               (λ (c : k < j + 1). sym (below (j + 1) k _ c ∙ bid-none s map q k (n .gap k a (omega arith))))
               (λ (c : j + 1 ≤ k). sym (beyond (j + 1) k _ c))
               (lt-or-le k (j + 1)))
-              (lt-or-le k (t .p))
+              (lt-or-le k (t .walk .p))
 
     -- no bit is left
     module _ (h : left ≤ 0) where
-      clear : (k : ℕ) → t .p ≤ k → hasBit map k ≡ false
-      clear = none-left map (t .p) (let e : left ≡ 0 = omega arith in rw e at (t .bits))
+      clear : (k : ℕ) → t .walk .p ≤ k → hasBit map k ≡ false
+      clear = walk-done (t .walk) h
 
       pub walk-place : d ≡ q + 4 * count m (hasBit map)
-      walk-place = omega (arith, t .place, count-still (hasBit map) (t .p) m (t .low) (λ k a _. clear k a))
+      walk-place = omega (arith, t .place, count-still (hasBit map) (t .walk .p) m (t .walk .low) (λ k a _. clear k a))
 
       pub walk-end : l ≡ placed base m (bidBy s map q) l₀
       walk-end = t .is ∙ placed-cong base m _ _ l₀ (λ k _. ⊎-elim
-          (λ (a : k < t .p). below (t .p) k _ a)
-          (λ (a : t .p ≤ k). beyond (t .p) k _ a ∙ sym (bid-none s map q k (clear k a)))
-          (lt-or-le k (t .p)))
+          (λ (a : k < t .walk .p). below (t .walk .p) k _ a)
+          (λ (a : t .walk .p ≤ k). beyond (t .walk .p) k _ a ∙ sym (bid-none s map q k (clear k a)))
+          (lt-or-le k (t .walk .p)))

@@ -16,19 +16,8 @@ use Rattle.model.proofs.market.Acceptance.{product-fits}
 use Rattle.model.proofs.sheet.Lengths.{rowHead, shortest-length}
 use Rattle.model.proofs.Tests.{is-lt, not-lt}
 use Rattle.model.proofs.sheet.Holds.{bytes-length}
-use Rattle.sheet.specs.Laid.{stationBytes, stationOf, bidsFrom, bidField, rowMap, rowBytes, rowOf}
-
--- the field of a bid, which a bid of 0 has not
-pub field-of-bid : (x : ℕ) → 0 < x → bidField x ≡ bytesOf 4 x
-unfolding bidField stated
-field-of-bid x h = ap (λ b. stated b x) (is-lt 0 x h)
-
-pub no-field : (x : ℕ) → x ≤ 0 → bidField x ≡ []
-unfolding bidField stated
-no-field x h = ap (λ b. stated b x) (not-lt 0 x h)
-
-pub field-size : (x : ℕ) → 0 < x → length (bidField x) ≡ 4
-field-size x h = ap length (field-of-bid x h) ∙ bytes-length 4 x
+use Rattle.sheet.specs.Laid.{stationBytes, stationOf, bidsFrom, bidField, bidFields, rowMap}
+use Rattle.sheet.specs.Laid.{rowBytes, rowOf}
 
 -- the parts in their order
 abbrev pub stationsPart : (asks bays : List ℕ) → List ℕ
@@ -43,7 +32,8 @@ sheetParts asks bays amounts bids =
 
 pub sheet-parts :
     (asks bays amounts bids : List ℕ) → shortest (regular asks bays amounts bids) ≡ sheetParts asks bays amounts bids
-unfolding shortest layout station row bidden bidAt stationOf stationBytes rowOf rowBytes rowMap bidsFrom bidField
+unfolding shortest layout station row bidden bidAt stationOf stationBytes rowOf rowBytes rowMap bidsFrom bidFields
+    bidField
 sheet-parts asks bays amounts bids = refl
 
 pub room-for-parts :

@@ -7,8 +7,8 @@ use lib.ListN.{length, length-set}
 use borrow.Author.Needs.{needs}
 use Rattle.model.proofs.sheet.Fields.{pow-pos}
 use Rattle.sheet.specs.Filling.{placed}
-use Rattle.sheet.proofs.filling.Bids.{Walked, walk-start, walk-bit, walk-field, walk-power, walk-less, walk-turn}
-use Rattle.sheet.proofs.filling.Bids.{walk-place, walk-end}
+use Rattle.model.proofs.sheet.Bits.{Walk, walk-bit, walk-power, walk-less}
+use Rattle.sheet.proofs.filling.Bids.{Walked, walk-start, walk-field, walk-turn, walk-place, walk-end}
 use Rattle.sheet.proofs.filling.Filled.{placed-again}
 use Rattle.sheet.proofs.filling.fill_some.Statement.{statement}
 use Rattle.sheet.proofs.filling.fill_some.Tie as tie
@@ -26,15 +26,15 @@ entry p = p .before .before .before .before .before .before .before
 -- the next set bit is a station's
 station : (c : tie.In-loop Inv-loop μ-loop) →
     trailingZeros 64 (c .before .loop .left) < entry (c .before) .args .stations
-station c = walk-bit _ _ _ _ _ _ (c .before .loop .inv .1) (omega arith) (entry (c .before) .pre .1) (omega arith)
+station c = walk-bit (c .before .loop .inv .1 .walk) (omega arith) (entry (c .before) .pre .1) (omega arith)
 
 -- its power, which is taken away
 power : (c : tie.In-loop Inv-loop μ-loop) →
     let left = c .before .loop .left in
     (1 * 2 ^ trailingZeros 64 left % 2 ^ 64 ≡ 2 ^ trailingZeros 64 left) × (2 ^ trailingZeros 64 left ≤ left)
 power c = (
-  walk-power _ _ _ _ _ _ (c .before .loop .inv .1) (omega arith) (entry (c .before) .pre .1) (omega arith),
-  walk-less _ _ _ _ _ _ (c .before .loop .inv .1) (omega arith) (entry (c .before) .pre .1) (omega arith),
+  walk-power (c .before .loop .inv .1 .walk) (omega arith) (entry (c .before) .pre .1) (omega arith),
+  walk-less (c .before .loop .inv .1 .walk) (omega arith) (entry (c .before) .pre .1) (omega arith),
 )
 
 loop-holds : tie.Need-loop-holds Inv-loop μ-loop

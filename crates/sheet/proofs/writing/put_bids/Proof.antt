@@ -1,44 +1,40 @@
--- The loop: the bids of the first j stations are written.
-use Prim.Native.Nat.{_-_}
+use mathlib.Core.Path.{_≡_, sym, _∙_}
+use native.Mathlib.Omega.{arith}
 use borrow.Author.Needs.{needs}
-use Rattle.sheet.specs.Laid.{bidsFrom, bidField}
-use Rattle.sheet.proofs.Wrote.{Listing, listing-none, listing-more, listing-end, room-for-next}
+use Rattle.sheet.specs.Laid.{bidsFrom, bidFields}
+use Rattle.model.specs.Counting.{joined}
+use Rattle.model.specs.sheet.Layout.{bytesOf}
+use Rattle.sheet.proofs.writing.Bids.{all-fields}
 use Rattle.sheet.proofs.writing.put_bids.Statement.{statement}
 use Rattle.sheet.proofs.writing.put_bids.Tie as tie
 
-abbrev Inv-loop : tie.InvT-loop
-Inv-loop bids base stations out₀ at p₀ j₀ out p j =
-    Listing stations (λ j. bidField (bidsFrom bids base j)) out₀ at j out p
+abbrev entry-before-count : tie.After-count-bits → tie.Start
+entry-before-count p = p .before .before .before
 
-abbrev μ-loop : tie.MeasureT-loop
-μ-loop bids base stations out₀ at p₀ j₀ out p j = stations - j
+-- all bits are set
+full : (c : tie.Then1) →
+    let entry = entry-before-count (c .before) in
+    let bid = bidsFrom (entry .args .bids .now) (entry .args .base) in
+    bidFields (entry .args .stations) bid ≡ joined (entry .args .stations) (λ j. bytesOf 4 (bid j))
+full c =
+    let entry = entry-before-count (c .before) in
+    all-fields _ _ (entry .pre .1 .0) (omega (arith, entry .pre .0 .0))
+    (sym (c .before .count-bits .ensures) ∙ c .if1 .taken)
 
-loop-holds : tie.Need-loop-holds Inv-loop μ-loop
-loop-holds c = listing-none
+put-all-requires : tie.Need-put-all-requires
+put-all-requires c κs =
+    let entry = entry-before-count (c .before .before) in
+    (entry .pre .0 .1, rw (full (c .before)) at (entry .pre .1 .1))
 
-put-bid-requires : tie.Need-put-bid-requires Inv-loop μ-loop
-unfolding bidsFrom
-put-bid-requires c κs =
-    let at-loop-test = c .before .before in
-    let at-loop = at-loop-test .before in
-    let entry = at-loop .before .before .before in
-    room-for-next _ (at-loop .loop .inv) (at-loop-test .loop-test .taken) (entry .pre .1)
+returns : tie.Need-returns
+returns c =
+    let at-put-all = c .before .before in
+    rw (full (at-put-all .before .before)) (at-put-all .put-all .ensures)
 
-loop-again : tie.Need-loop-again Inv-loop μ-loop
-unfolding bidsFrom
-loop-again c =
-    let at-put-bid = c .before .before in
-    let at-loop-test = at-put-bid .before .before .before in
-    let at-loop = at-loop-test .before in
-    listing-more (at-loop .loop .inv) (at-loop-test .loop-test .taken) (at-put-bid .put-bid .ensures)
-
-same-length : tie.Need-same-length Inv-loop μ-loop
-same-length c = c .before .loop .inv .wrote .same
-
-returns : tie.Need-returns Inv-loop μ-loop
-returns c = listing-end (c .before .loop .inv) (c .loop-test .left)
+put-some-requires : tie.Need-put-some-requires
+put-some-requires c κs = entry-before-count (c .before .before) .pre
 
 pub put-bids-spec : {M : Type 1} → statement M
 put-bids-spec =
-    tie.close (tie.spec Inv-loop μ-loop loop-holds (λ c. search needs) (λ c. search needs) (λ c. search needs)
-    put-bid-requires (λ c. search needs) (λ c. search needs) loop-again same-length returns)
+    tie.close (tie.spec (λ c κs. search needs) put-all-requires (λ c. search needs) returns put-some-requires
+    (λ c. search needs) (λ c. search needs))
