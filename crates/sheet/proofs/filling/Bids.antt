@@ -1,5 +1,5 @@
 -- Bids by the map of their row.
-use Prim.Native.Nat.{ℕ, _+_, _*_, _-_, _%_, _^_, _≤_, _<_}
+use Prim.Native.Nat.{ℕ, _+_, _*_, _-_, _^_, _≤_, _<_}
 use mathlib.Core.Bool.{false}
 use mathlib.Core.List.{List}
 use mathlib.Core.Logic.{⊎-elim}
@@ -80,7 +80,8 @@ module _ (s : List ℕ) (map m base q : ℕ) (l₀ : List ℕ) where
         walk = walk-on (t .walk) few narrow h left′ g;
         place = omega (arith, t .place, n .number, count-yes j (hasBit map) (n .set));
         is = ap (λ y. set y (base + j) v) (t .is)
-            ∙ placed-set base m j v _ _ l₀ b (walk-bit (t .walk) few narrow h) (value ∙ sym (below (j + 1) j _ (omega arith))) others;
+            ∙ placed-set base m j v _ _ l₀ b (walk-bit (t .walk) few narrow h)
+            (value ∙ sym (below (j + 1) j _ (omega arith))) others;
       }
         where
           j : ℕ

@@ -1,7 +1,7 @@
 -- The parts of a shortest sheet, and how long they are.
 use Prim.Native.Nat.{ℕ, _+_, _*_, _<_, _≤_}
-use mathlib.Core.List.{List, [], _++_}
-use mathlib.Core.Path.{_≡_, refl, sym, ap, _∙_}
+use mathlib.Core.List.{List, _++_}
+use mathlib.Core.Path.{_≡_, refl, sym, ap}
 use native.Mathlib.Nat.{mul-le-mul-right}
 use native.Mathlib.Omega.{arith}
 use lib.ListN.{length, getD}
@@ -10,12 +10,10 @@ use Rattle.model.specs.Counting.{_<?_, count, joined}
 use Rattle.model.specs.market.Market.{Tables, regular, bidAt}
 use Rattle.model.specs.market.Shape.{Shaped}
 use Rattle.model.specs.sheet.Fields.{mapWidth}
-use Rattle.model.specs.sheet.Layout.{bytesOf, stated, station, row, layout}
+use Rattle.model.specs.sheet.Layout.{bytesOf, station, row, layout}
 use Rattle.model.specs.sheet.Shortest.{bidden, shortest}
 use Rattle.model.proofs.market.Acceptance.{product-fits}
 use Rattle.model.proofs.sheet.Lengths.{rowHead, shortest-length}
-use Rattle.model.proofs.Tests.{is-lt, not-lt}
-use Rattle.model.proofs.sheet.Holds.{bytes-length}
 use Rattle.sheet.specs.Laid.{stationBytes, stationOf, bidsFrom, bidField, bidFields, rowMap}
 use Rattle.sheet.specs.Laid.{rowBytes, rowOf}
 

@@ -10,7 +10,8 @@ use Rattle.sheet.proofs.writing.put_all.Statement.{statement}
 use Rattle.sheet.proofs.writing.put_all.Tie as tie
 
 abbrev Inv-loop : tie.InvT-loop
-Inv-loop bids base stations out₀ at p₀ j₀ out p j = Listing stations (λ j. bytesOf 4 (bidsFrom bids base j)) out₀ at j out p
+Inv-loop bids base stations out₀ at p₀ j₀ out p j =
+    Listing stations (λ j. bytesOf 4 (bidsFrom bids base j)) out₀ at j out p
 
 abbrev μ-loop : tie.MeasureT-loop
 μ-loop bids base stations out₀ at p₀ j₀ out p j = stations - j
