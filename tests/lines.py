@@ -1,18 +1,34 @@
 #!/usr/bin/env python3
 """Looks at the text of the crates: no line over 120 columns in src/, specs/ and proofs/ but in a file that a generator
-made, and at most 107 must-fail edits. Prints what is believed, file by file, with its lines (comments and blanks
-aside)."""
+made, no chain of more than four `.before` there but in a function that only names the way back, and at most 107
+must-fail edits. Prints what is believed, file by file, with its lines (comments and blanks aside)."""
 import glob
+import re
 import sys
 
-WIDTH, EDITS = 120, 107
+WIDTH, CHAIN, EDITS = 120, 4, 107
 owed = []
+
+
+def chains(text):
+    """The declarations with a longer chain that are more than that chain."""
+    starts = [m.start() for m in re.finditer(r'^(?=\S)', text, re.M)] + [len(text)]
+    for declaration in (text[a:b] for a, b in zip(starts, starts[1:])):
+        longest = max((m.group().count('.before') for m in re.finditer(r'\.before(\s+\.before)*', declaration)), default=0)
+        way_back = re.fullmatch(r'(\S+)\s+(\S+)\s*=\s*\2(\s+\.before)+\s*', declaration)
+        if longest > CHAIN and not way_back:
+            yield declaration.split()[0]
+
+
 for path in sorted(glob.glob('crates/*/**/*', recursive=True)):
     if path.endswith(('.rt', '.antt')):
         text = open(path, encoding='utf8').read()
         wide = [n for n, line in enumerate(text.split('\n'), 1) if len(line) > WIDTH]
-        if wide and 'generated' not in text[:400]:
+        if 'generated' in text[:400]:
+            continue
+        if wide:
             owed.append(f'{path}: over {WIDTH} columns in lines {wide}')
+        owed += [f'{path}: more than {CHAIN} steps back in one go in {name}' for name in chains(text)]
 edits = glob.glob('crates/*/must-fail/*.edit')
 if len(edits) > EDITS:
     owed.append(f'{len(edits)} must-fail edits, at most {EDITS} are wanted')
