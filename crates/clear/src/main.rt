@@ -40,14 +40,15 @@ enum Asked {
     Unknown,
 }
 
-// The buffer is a byte longer than the one word there is, so that no longer one is taken for it.
+// A word that does not fit the buffer is given as none.
 fn page_asked() -> Asked {
-    if os::arg_count() < 2 {
+    let count = os::arg_count();
+    if count < 2 {
         return Asked::For(Page::Clearing);
     }
-    let mut word = [0u8; 8];
+    let mut word = [0u8; 7];
     let n = os::arg(1, &mut word);
-    if check::same(&word[..n], b"--write") {
+    if (count == 2) & check::same(&word[..n], b"--write") {
         return Asked::For(Page::Sheet);
     }
     Asked::Unknown

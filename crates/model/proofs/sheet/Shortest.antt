@@ -14,7 +14,7 @@ use Rattle.model.specs.claims.Meaning.{WithinLimits}
 use Rattle.model.specs.sheet.Fields.{mapWidth}
 use Rattle.model.specs.sheet.Layout.{bytesOf, pack, stated, row, station, layout, Fitting, States}
 use Rattle.model.specs.sheet.Shortest.{bidden, shortest, ShortestIsRead, ShortestIsLeast, SecondChangesNothing}
-use Rattle.model.specs.sheet.Shortest.{ShortestFits}
+use Rattle.model.specs.sheet.Shortest.{ShortestStates, ShortestFits}
 use Rattle.model.proofs.Tests.{decide, clash, same-test, lt-no, not-lt}
 use Rattle.model.proofs.Counting.{sum-mono, sum-strict, count-mono, count-strict}
 use Rattle.model.proofs.Loops.{in-table}
@@ -48,7 +48,7 @@ not-bidden : (t : Tables) (i j : ℕ) → bidAt t i j ≡ 0 → bidden t i j ≡
 unfolding bidden
 not-bidden t i j e = not-lt 0 (bidAt t i j) (omega arith)
 
-pub shortest-states : (t : Tables) → Accepted t → States (shortest t) t
+pub shortest-states : ShortestStates
 unfolding shortest
 shortest-states t a = record {
   fitting = fitting t (accepted-iff-within-limits t .0 a);

@@ -25,6 +25,10 @@ writingFaults t room = marketFaults t ++ ((room <? length (shortest t) gives 14)
 
 -- ---- what is proved
 
+-- 'a writer from an accepted market to the shortest sheet that states it'
+abbrev pub ShortestStates : Type 0
+ShortestStates = (t : Tables) → Accepted t → States (shortest t) t
+
 -- 'Reading its output returns the same market'
 abbrev pub ShortestIsRead : Type 0
 ShortestIsRead = (t : Tables) → Accepted t → readSheet (shortest t) ≡ accepted t
