@@ -33,9 +33,9 @@ maxRound = 4_294_967_295
 abbrev pub maxBids : ℕ
 maxBids = maxGuests * maxStations
 
--- no sheet is longer: 4 bytes, 40 stations of 6, and 200 rows of 2 + 5 + 40 * 4 (`SheetsAreShort`)
+-- no sheet is longer: 4 bytes, 40 stations of 6, and 200 rows of 2 + 4 + 5 + 40 * 4 (`SheetsAreShort`)
 abbrev pub maxSheet : ℕ
-maxSheet = 33_644
+maxSheet = 34_444
 
 -- a bound on the length of a printed page: a sheet, or a text, which is shorter (the cut, 200 guests, 40 stations and
 -- the margin have 20,093 bytes where each number is taken as 20 digits)

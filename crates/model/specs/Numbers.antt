@@ -14,7 +14,7 @@ use Rattle.model.specs.declared.refusal.Refusal.the-variants.{SheetEnds,
 use Rattle.model.specs.declared.refusal.Refusal.the-variants.{TrailingBytes, LengthsDiffer, AskOutOfRange}
 use Rattle.model.specs.declared.refusal.Refusal.the-variants.{BaysOutOfRange, AmountOutOfRange, BidOutOfRange}
 use Rattle.model.specs.declared.refusal.Refusal.the-variants.{LentLengths, RoundOutOfTurn, AccountOverLimit}
-use Rattle.model.specs.declared.refusal.Refusal.the-variants.{BookSize, OutputTooShort}
+use Rattle.model.specs.declared.refusal.Refusal.the-variants.{BookSize, OutputTooShort, TicketsRepeat}
 
 abbrev pub number : Refusal → ℕ
 number SheetEnds = 1
@@ -31,6 +31,7 @@ number RoundOutOfTurn = 11
 number AccountOverLimit = 12
 number BookSize = 13
 number OutputTooShort = 14
+number TicketsRepeat = 15
 
 -- of the reader: n and m
 unfoldable pub answerOfReading : Reading → Answer (ℕ × ℕ)

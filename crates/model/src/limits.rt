@@ -20,7 +20,7 @@ pub const MAX_ROUND: u32 = 4_294_967_295;
 pub const MAX_BIDS: usize = MAX_GUESTS * MAX_STATIONS;
 
 // The bytes of the largest sheet, and a bound on those of a printed page.
-pub const MAX_SHEET: usize = 33_644;
+pub const MAX_SHEET: usize = 34_444;
 
 pub const MAX_PAGE: usize = MAX_SHEET;
 

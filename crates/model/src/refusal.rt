@@ -18,6 +18,7 @@ pub enum Refusal {
     AccountOverLimit,
     BookSize,
     OutputTooShort,
+    TicketsRepeat,
 }
 
 impl Refusal {
@@ -40,6 +41,7 @@ impl Refusal {
             Refusal::AccountOverLimit => 12,
             Refusal::BookSize => 13,
             Refusal::OutputTooShort => 14,
+            Refusal::TicketsRepeat => 15,
         }
     }
 }

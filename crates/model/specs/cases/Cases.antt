@@ -1,9 +1,10 @@
 -- Document 01's cases A to J and limits, calls and postings: one table, and one fact over it, `CasesHold`, which is
 -- proved by computation.
-use Prim.Native.Nat.{ℕ}
+use Prim.Native.Nat.{ℕ, suc}
 use mathlib.Core.List.{List, [], _∷_, map}
 use mathlib.Core.Path.{_≡_}
-use lib.ListN.{replicate}
+use lib.ListN.{length, replicate}
+use Rattle.model.specs.Counting.{list}
 use Rattle.model.specs.Verdicts.{Answer, Verdict, accepted, refused, firstFault, giving}
 use Rattle.model.specs.market.Market.{Tables, tables, regular}
 use Rattle.model.specs.market.Mechanism.{charge}
@@ -11,9 +12,13 @@ use Rattle.model.specs.market.Outcome.{results, Outcome, outcomeOf, scre
 use Rattle.model.specs.market.Faults.{verdict, clearingFaults}
 use Rattle.model.specs.book.PlainBook.{postingFaults}
 
+-- with tickets 1, 2, 3 .. in guest order, as document 01's cases have them
+unfoldable pub numbered : (asks bays amounts bids : List ℕ) → Tables
+numbered asks bays amounts bids = regular asks bays amounts (list (length amounts) suc) bids
+
 -- Table I of document 000
 unfoldable pub tableI : Tables
-tableI = regular (4 ∷ 1 ∷ 3 ∷ 2 ∷ 5 ∷ []) (1 ∷ 2 ∷ 4 ∷ 2 ∷ 3 ∷ []) (5 ∷ 2 ∷ 6 ∷ 4 ∷ 3 ∷ [])
+tableI = numbered (4 ∷ 1 ∷ 3 ∷ 2 ∷ 5 ∷ []) (1 ∷ 2 ∷ 4 ∷ 2 ∷ 3 ∷ []) (5 ∷ 2 ∷ 6 ∷ 4 ∷ 3 ∷ [])
     (0 ∷ 4 ∷ 0 ∷ 5 ∷ 2
     ∷ 2 ∷ 0 ∷ 5 ∷ 1 ∷ 0
     ∷ 7 ∷ 5 ∷ 0 ∷ 4 ∷ 0
@@ -22,17 +27,25 @@ tableI = regular (4 ∷ 1 ∷ 3 ∷ 2 ∷ 5 ∷ []) (1 ∷ 2 ∷ 4 ∷ 2 ∷ 3 �
 
 -- asks 2 and 6, one bay each, bids at station 1 only
 unfoldable pub pair : (amounts bids : List ℕ) → Tables
-pair amounts bids = regular (2 ∷ 6 ∷ []) (1 ∷ 1 ∷ []) amounts bids
+pair amounts bids = numbered (2 ∷ 6 ∷ []) (1 ∷ 1 ∷ []) amounts bids
 
 unfoldable pub caseE : Tables
 caseE = pair (3 ∷ 3 ∷ []) (8 ∷ 0 ∷ 8 ∷ 0 ∷ [])
+
+-- E with tickets 9 and 4
+unfoldable pub caseETickets : Tables
+caseETickets = regular (2 ∷ 6 ∷ []) (1 ∷ 1 ∷ []) (3 ∷ 3 ∷ []) (9 ∷ 4 ∷ []) (8 ∷ 0 ∷ 8 ∷ 0 ∷ [])
+
+-- four guests of one total for two bays, with these tickets
+unfoldable pub tied : (tickets : List ℕ) → Tables
+tied tickets = regular (2 ∷ 6 ∷ []) (2 ∷ 1 ∷ []) (3 ∷ 3 ∷ 3 ∷ 3 ∷ []) tickets (8 ∷ 0 ∷ 8 ∷ 0 ∷ 8 ∷ 0 ∷ 8 ∷ 0 ∷ [])
 
 unfoldable pub caseG : Tables
 caseG = pair (3 ∷ 2 ∷ []) (9 ∷ 0 ∷ 10 ∷ 0 ∷ [])
 
 -- one station, one guest: ask, bays, amount, bid
 unfoldable pub single : (ask bays amount bid : ℕ) → Tables
-single ask bays amount bid = regular (ask ∷ []) (bays ∷ []) (amount ∷ []) (bid ∷ [])
+single ask bays amount bid = numbered (ask ∷ []) (bays ∷ []) (amount ∷ []) (bid ∷ [])
 
 -- one guest, two stations
 unfoldable pub lone : Tables
@@ -74,37 +87,45 @@ expected (t is v) = verdicts v
 expected (called t stations charges sold paid v) = verdicts v
 expected (posts t round guests sold paid house last v) = verdicts v
 
--- A to J, and in A guest 1's other place; the limits, and the order of two faults; each result list too short and too
+-- A to J, and in A guest 1's other place; E with other tickets, and ties split by tickets that fall, rise and do neither,
+-- 0 and the greatest among them; the limits, and the order of two faults; tickets that repeat, or are too few or many; each result list too short and too
 -- long, with the lengths of the market before and its values after; the postings of document 01's example, then the
 -- book's size, the round after the last, and the limit of each kind of account
 unfoldable pub cases : List Case
 cases =
     clears tableI (outcomeOf 3 0 (4 ∷ 0 ∷ 2 ∷ 0 ∷ 0 ∷ []) (15 ∷ 0 ∷ 18 ∷ 0 ∷ 0 ∷ []) (0 ∷ 6 ∷ 0 ∷ 5 ∷ 0 ∷ [])
     (0 ∷ 18 ∷ 0 ∷ 15 ∷ 0 ∷ []))
-    ∷ clears (regular (5 ∷ []) (1 ∷ []) (1 ∷ []) (9 ∷ [])) (outcomeOf 5 0 (0 ∷ []) (0 ∷ []) (0 ∷ []) (0 ∷ []))
+    ∷ clears (numbered (5 ∷ []) (1 ∷ []) (1 ∷ []) (9 ∷ [])) (outcomeOf 5 0 (0 ∷ []) (0 ∷ []) (0 ∷ []) (0 ∷ []))
     ∷ clears (pair (1 ∷ []) (6 ∷ 0 ∷ [])) (outcomeOf 6 0 (1 ∷ []) (6 ∷ []) (1 ∷ 0 ∷ []) (6 ∷ 0 ∷ []))
     ∷ clears (pair (1 ∷ []) (5 ∷ 0 ∷ [])) (outcomeOf 6 0 (0 ∷ []) (0 ∷ []) (0 ∷ 0 ∷ []) (0 ∷ 0 ∷ []))
     ∷ clears caseE (outcomeOf 6 6 (1 ∷ 0 ∷ []) (24 ∷ 0 ∷ []) (3 ∷ 0 ∷ []) (18 ∷ 0 ∷ []))
     ∷ clears (pair (10 ∷ 2 ∷ []) (7 ∷ 0 ∷ 20 ∷ 0 ∷ []))
     (outcomeOf 6 0 (1 ∷ 0 ∷ []) (60 ∷ 0 ∷ []) (10 ∷ 0 ∷ []) (60 ∷ 0 ∷ []))
     ∷ clears caseG (outcomeOf 6 2 (1 ∷ 0 ∷ []) (20 ∷ 0 ∷ []) (3 ∷ 0 ∷ []) (18 ∷ 0 ∷ []))
-    ∷ clears (regular (4 ∷ 4 ∷ []) (1 ∷ 1 ∷ []) (1 ∷ []) (9 ∷ 9 ∷ []))
+    ∷ clears (numbered (4 ∷ 4 ∷ []) (1 ∷ 1 ∷ []) (1 ∷ []) (9 ∷ 9 ∷ []))
     (outcomeOf 4 0 (0 ∷ []) (0 ∷ []) (0 ∷ 0 ∷ []) (0 ∷ 0 ∷ []))
     ∷ clears (pair [] []) (outcomeOf 6 0 [] [] (0 ∷ 0 ∷ []) (0 ∷ 0 ∷ []))
-    ∷ clears (regular (1 ∷ 1 ∷ 6 ∷ 6 ∷ []) (1 ∷ 1 ∷ 1 ∷ 1 ∷ []) (1 ∷ []) (8 ∷ 8 ∷ 0 ∷ 0 ∷ []))
+    ∷ clears (numbered (1 ∷ 1 ∷ 6 ∷ 6 ∷ []) (1 ∷ 1 ∷ 1 ∷ 1 ∷ []) (1 ∷ []) (8 ∷ 8 ∷ 0 ∷ 0 ∷ []))
     (outcomeOf 6 0 (1 ∷ []) (6 ∷ []) (1 ∷ 0 ∷ 0 ∷ 0 ∷ []) (6 ∷ 0 ∷ 0 ∷ 0 ∷ []))
     ∷ costs tableI 0 1 16
+    ∷ clears caseETickets (outcomeOf 6 6 (0 ∷ 1 ∷ []) (0 ∷ 24 ∷ []) (3 ∷ 0 ∷ []) (18 ∷ 0 ∷ []))
+    ∷ clears (tied (9 ∷ 7 ∷ 5 ∷ 3 ∷ []))
+    (outcomeOf 6 12 (0 ∷ 0 ∷ 1 ∷ 1 ∷ []) (0 ∷ 0 ∷ 24 ∷ 24 ∷ []) (6 ∷ 0 ∷ []) (36 ∷ 0 ∷ []))
+    ∷ clears (tied (3 ∷ 5 ∷ 7 ∷ 9 ∷ []))
+    (outcomeOf 6 12 (1 ∷ 1 ∷ 0 ∷ 0 ∷ []) (24 ∷ 24 ∷ 0 ∷ 0 ∷ []) (6 ∷ 0 ∷ []) (36 ∷ 0 ∷ []))
+    ∷ clears (tied (5 ∷ 9 ∷ 0 ∷ 4_294_967_295 ∷ []))
+    (outcomeOf 6 12 (1 ∷ 0 ∷ 1 ∷ 0 ∷ []) (24 ∷ 0 ∷ 24 ∷ 0 ∷ []) (6 ∷ 0 ∷ []) (36 ∷ 0 ∷ []))
     ∷ (single 1_000_000 200 1_000 1_000_000 is accepted tt)
     ∷ (single 0 1 1 0 is accepted tt)
-    ∷ (regular (1 ∷ []) (1 ∷ []) (replicate 200 1) (replicate 200 1) is accepted tt)
-    ∷ (regular (1 ∷ []) (1 ∷ []) (replicate 201 1) (replicate 201 1) is refused 2)
-    ∷ (regular [] [] [] [] is refused 2)
-    ∷ (regular (replicate 41 1) (replicate 41 1) [] [] is refused 2)
+    ∷ (numbered (1 ∷ []) (1 ∷ []) (replicate 200 1) (replicate 200 1) is accepted tt)
+    ∷ (numbered (1 ∷ []) (1 ∷ []) (replicate 201 1) (replicate 201 1) is refused 2)
+    ∷ (numbered [] [] [] [] is refused 2)
+    ∷ (numbered (replicate 41 1) (replicate 41 1) [] [] is refused 2)
     ∷ (pair (1 ∷ []) (8 ∷ []) is refused 5)
-    ∷ (regular (1 ∷ []) [] [] [] is refused 5)
-    ∷ (tables (1 ∷ []) (1 ∷ []) [] [] 2 is refused 5)
-    ∷ (regular [] (1 ∷ []) [] [] is refused 2)
-    ∷ (regular (1_000_001 ∷ []) [] [] [] is refused 5)
+    ∷ (numbered (1 ∷ []) [] [] [] is refused 5)
+    ∷ (tables (1 ∷ []) (1 ∷ []) [] [] [] 2 is refused 5)
+    ∷ (numbered [] (1 ∷ []) [] [] is refused 2)
+    ∷ (numbered (1_000_001 ∷ []) [] [] [] is refused 5)
     ∷ (single 1_000_001 1 1 1 is refused 6)
     ∷ (single 1_000_001 0 1 1 is refused 6)
     ∷ (single 1_000_001 1 0 1 is refused 6)
@@ -115,6 +136,11 @@ cases =
     ∷ (single 1 1 0 1_000_001 is refused 8)
     ∷ (single 1 1 1_001 1 is refused 8)
     ∷ (single 1 1 1 1_000_001 is refused 9)
+    ∷ (tied (9 ∷ 7 ∷ 5 ∷ 9 ∷ []) is refused 15)
+    ∷ (tied (9 ∷ 7 ∷ 7 ∷ 3 ∷ []) is refused 15)
+    ∷ (tied (9 ∷ 7 ∷ 5 ∷ []) is refused 5)
+    ∷ (tied (9 ∷ 7 ∷ 5 ∷ 3 ∷ 1 ∷ []) is refused 5)
+    ∷ (regular (1 ∷ []) (1 ∷ []) (1 ∷ 1 ∷ []) (7 ∷ 7 ∷ []) (1 ∷ 1_000_001 ∷ []) is refused 9)
     ∷ called lone 1 1 2 2 (accepted tt)
     ∷ called lone 0 1 2 2 (refused 10)
     ∷ called lone 2 1 2 2 (refused 10)
@@ -124,9 +150,10 @@ cases =
     ∷ called lone 1 1 3 2 (refused 10)
     ∷ called lone 1 1 2 1 (refused 10)
     ∷ called lone 1 1 2 3 (refused 10)
-    ∷ called (regular [] (1 ∷ []) [] []) 1 1 1 1 (refused 2)
+    ∷ called (numbered [] (1 ∷ []) [] []) 1 1 1 1 (refused 2)
     ∷ called (pair (1 ∷ []) (8 ∷ [])) 0 0 0 0 (refused 5)
     ∷ called (single 1_000_001 1 1 1) 0 0 0 0 (refused 10)
+    ∷ called (tied (9 ∷ 7 ∷ 5 ∷ 9 ∷ [])) 0 0 0 0 (refused 10)
     ∷ posts caseE 1 (0 ∷ 0 ∷ []) (0 ∷ 0 ∷ []) (0 ∷ 0 ∷ []) 0 0 (accepted tt)
     ∷ posts caseE 1 (24 ∷ 0 ∷ []) (3 ∷ 0 ∷ []) (18 ∷ 0 ∷ []) 6 1 (refused 11)
     ∷ posts caseE 7 (0 ∷ []) (0 ∷ 0 ∷ []) (0 ∷ 0 ∷ []) 0 0 (refused 13)
@@ -136,6 +163,7 @@ cases =
     ∷ posts lone 1 (replicate 200 0) (replicate 40 0) (replicate 40 0) 0 0 (accepted tt)
     ∷ posts lone 1 (0 ∷ []) (replicate 41 0) (replicate 41 0) 0 0 (refused 13)
     ∷ posts (single 1 1 1 1_000_001) 7 [] [] [] 0 0 (refused 9)
+    ∷ posts (tied (9 ∷ 7 ∷ 5 ∷ 9 ∷ [])) 7 [] [] [] 0 0 (refused 15)
     ∷ posts caseE 7 (1_000_000_000_000_001 ∷ 0 ∷ []) (0 ∷ 0 ∷ []) (0 ∷ 0 ∷ []) 0 0 (refused 11)
     ∷ posts caseE 4_294_967_296 (0 ∷ 0 ∷ []) (0 ∷ 0 ∷ []) (0 ∷ 0 ∷ []) 0 4_294_967_295 (refused 11)
     ∷ posts caseE 1 (999_999_999_999_976 ∷ 0 ∷ []) (999_999_999_999_997 ∷ 0 ∷ []) (999_999_999_999_982 ∷ 0 ∷ [])

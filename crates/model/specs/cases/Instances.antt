@@ -4,13 +4,13 @@ use mathlib.Core.Path.{_≡_}
 use lib.IntN.{pos, negsuc}
 use lib.Signed.{_≤ℤ_}
 use Rattle.model.specs.Counting.{sum}
-use Rattle.model.specs.market.Market.{Tables, regular, bidAt}
+use Rattle.model.specs.market.Market.{Tables, bidAt}
 use Rattle.model.specs.market.Mechanism.{charged, paid, margin}
 use Rattle.model.specs.market.Outcome.{screened, decision}
 use Rattle.model.specs.market.Faults.{Accepted}
 use Rattle.model.specs.market.Gains.{guestGain, stationGain}
 use Rattle.model.specs.claims.Truth.{AlikeButForGuest, AlikeButForStation, Menu, MenuOf, ClearsWithin}
-use Rattle.model.specs.cases.Cases.{pair, caseE, caseG}
+use Rattle.model.specs.cases.Cases.{numbered, pair, caseE, caseG}
 
 -- case G, where guest 2 is worth 10 per kWh and bids 14: it takes the bay for 27, and is worth 20
 unfoldable pub overbid : Tables
@@ -28,10 +28,10 @@ pub record GuestInstance : Type 0 where
 
 -- station 1 costs 5 and stays closed; asking 1 it opens, and sells at the cut, 3
 unfoldable pub costly : Tables
-costly = regular (5 ∷ 3 ∷ []) (1 ∷ 1 ∷ []) (1 ∷ []) (4 ∷ 0 ∷ [])
+costly = numbered (5 ∷ 3 ∷ []) (1 ∷ 1 ∷ []) (1 ∷ []) (4 ∷ 0 ∷ [])
 
 unfoldable pub underasked : Tables
-underasked = regular (1 ∷ 3 ∷ []) (1 ∷ 1 ∷ []) (1 ∷ []) (4 ∷ 0 ∷ [])
+underasked = numbered (1 ∷ 3 ∷ []) (1 ∷ 1 ∷ []) (1 ∷ []) (4 ∷ 0 ∷ [])
 
 pub record StationInstance : Type 0 where
   pub accepted : Accepted costly

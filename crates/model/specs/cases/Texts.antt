@@ -34,5 +34,5 @@ textNine = 114 ∷ 101 ∷ 102 ∷ 117 ∷ 115 ∷ 101 ∷ 100 ∷ 32 ∷ 57 ∷
 
 pub record TextsHold : Type 0 where
   pub case-e : marketTextOf caseE ≡ textE
-  pub sheet-e : printed Sheet 30 sheetE0 ≡ sheetE
+  pub sheet-e : printed Sheet 38 sheetE0 ≡ sheetE
   pub bid-too-high : marketTextOf (single 1 1 1 1_000_001) ≡ textNine

@@ -7,9 +7,9 @@ use mathlib.Core.Path.{_≡_}
 use lib.IntN.{pos}
 use lib.ListN.{getD, length}
 use Rattle.model.specs.Limits.{maxGuests, maxStations, maxPrice, maxAmount, maxBays, maxAccount, maxRound}
-use Rattle.model.specs.Counting.{_=?_, count}
+use Rattle.model.specs.Counting.{_<?_, _=?_, count}
 use Rattle.model.specs.market.Market.{Tables, bidAt, marketBy, median, cut, Screened, Queue, queue, before, rank}
-use Rattle.model.specs.market.Market.{provisional, critical}
+use Rattle.model.specs.market.Market.{provisional, firstOut, critical}
 use Rattle.model.specs.market.Mechanism.{Decision, charge, sold, surplus}
 use Rattle.model.specs.market.Outcome.{Results, screened, decision}
 use Rattle.model.specs.market.Shape.{Shaped}
@@ -26,6 +26,7 @@ pub record WithinLimits (t : Tables) : Type 0 where
   pub bays-most : (j : ℕ) → j < length (t .asks) → getD (t .bays) j 0 ≤ maxBays
   pub amount-least : (i : ℕ) → i < length (t .amounts) → 1 ≤ getD (t .amounts) i 0
   pub amount-most : (i : ℕ) → i < length (t .amounts) → getD (t .amounts) i 0 ≤ maxAmount
+  pub tickets-differ : (i k : ℕ) → i < k → k < length (t .tickets) → getD (t .tickets) i 0 ≡ getD (t .tickets) k 0 → ⊥
   pub bid-most : (q : ℕ) → q < length (t .bids) → getD (t .bids) q 0 ≤ maxPrice
 
 -- a market is accepted exactly within these limits
@@ -85,9 +86,9 @@ abbrev pub RisingOrderExists : Type 0
 RisingOrderExists = (l : List ℕ) → (s : List ℕ) × Rising s × Rearranged s l
 
 abbrev pub CutIsAskAtPosition : Type 0
-CutIsAskAtPosition = (rule key : ℕ → ℕ) (t : Tables) (s : List ℕ) → Rising s → Rearranged s (t .asks)
+CutIsAskAtPosition = (rule : ℕ → ℕ) (t : Tables) (s : List ℕ) → Rising s → Rearranged s (t .asks)
     → 1 ≤ rule (length (t .asks)) → rule (length (t .asks)) ≤ length (t .asks)
-    → cut (marketBy rule key t) ≡ getD s (rule (length (t .asks)) - 1) 0
+    → cut (marketBy rule t) ≡ getD s (rule (length (t .asks)) - 1) 0
 
 -- document 01's position is the least p with 2 p at least m + 1, and lies from 1 to m
 pub record Median (m : ℕ) : Type 0 where
@@ -115,17 +116,30 @@ pub record RanksInOrder (Q : Queue) : Type 0 where
       → (k : ℕ) × (k < Q .guestCount) × (Q .candidate k ≡ true) × (rank Q k ≡ r)
 
 abbrev pub RanksCountUp : Type 0
-RanksCountUp = (t : Tables) (j : ℕ) → RanksInOrder (queue (screened t) j)
+RanksCountUp = (t : Tables) → Accepted t → (j : ℕ) → RanksInOrder (queue (screened t) j)
 
--- 5. the critical total is that of the candidate whose rank is the number of bays, and 0 exactly where no
--- such candidate stands
+-- 4. of equal totals the lower ticket stands first (document 02, request 2)
+abbrev pub EqualTotalsGoByTicket : Type 0
+EqualTotalsGoByTicket =
+    (t : Tables) (j k i : ℕ) → (screened t) .total k j ≡ (screened t) .total i j
+    → before (queue (screened t) j) k i ≡ (getD (t .tickets) k 0 <? getD (t .tickets) i 0)
+
+-- 5. the critical total is that of the first candidate without a place, and 0 exactly where there is none
 pub record CriticalIsFirstOut (Q : Queue) : Type 0 where
-  pub first-out : (k : ℕ) → k < Q .guestCount → Q .candidate k ≡ true → rank Q k ≡ Q .bays → critical Q ≡ Q .total k
+  pub first-out : (k : ℕ) → k < Q .guestCount → firstOut Q k ≡ true → critical Q ≡ Q .total k
   pub zero-if-none : count (Q .guestCount) (Q .candidate) ≤ Q .bays → critical Q ≡ 0
   pub none-if-zero : critical Q ≡ 0 → count (Q .guestCount) (Q .candidate) ≤ Q .bays
 
 abbrev pub CriticalIsTotalOfFirstOut : Type 0
 CriticalIsTotalOfFirstOut = (t : Tables) → Accepted t → (j : ℕ) → CriticalIsFirstOut (queue (screened t) j)
+
+-- 4, 5. its ticket bounds the ties: of the candidates at the critical total those with a lower one hold a place
+abbrev pub TicketOfFirstOutBoundsTies : Type 0
+TicketOfFirstOutBoundsTies =
+    (t : Tables) → Accepted t → (j k i : ℕ) → k < length (t .amounts) → i < length (t .amounts)
+    → let Q = queue (screened t) j in
+    firstOut Q k ≡ true → Q .candidate i ≡ true → Q .total i ≡ critical Q
+    → provisional Q i ≡ (getD (t .tickets) i 0 <? getD (t .tickets) k 0)
 
 -- 7. guest i is assigned exactly where it holds a place, at the lowest-numbered station of greatest surplus
 pub record AssignedToBest (S : Screened) (D : Decision) (i : ℕ) : Type 0 where
@@ -143,7 +157,7 @@ AssignedAtBestPlace = (t : Tables) (i : ℕ) → AssignedToBest (screened t) (de
 -- 7. less than no gain cannot occur: where a place is held the charge is at most the total, so that the
 -- surplus is their difference
 abbrev pub NoLoss : Type 0
-NoLoss = (t : Tables) (i j : ℕ) → i < length (t .amounts) → provisional (queue (screened t) j) i ≡ true
+NoLoss = (t : Tables) → Accepted t → (i j : ℕ) → i < length (t .amounts) → provisional (queue (screened t) j) i ≡ true
     → surplus (screened t) i j + charge (screened t) (decision t) i j ≡ (screened t) .total i j
 
 -- 'Gain': 0 for whoever isn't assigned or sells nothing

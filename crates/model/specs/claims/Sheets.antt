@@ -15,6 +15,7 @@ use Rattle.model.specs.declared.answers.Reading.{Reading}
 -- the sizes that document 01 names
 pub record RightSizes (l : LentTables) : Type 0 where
   pub amounts-long : length (l .amounts) ≡ maxGuests
+  pub tickets-long : length (l .tickets) ≡ maxGuests
   pub asks-long : length (l .asks) ≡ maxStations
   pub bays-long : length (l .bays) ≡ maxStations
   pub bids-long : length (l .bids) ≡ maxBids

@@ -7,7 +7,7 @@ use lib.IntN.{subℕ}
 use lib.ListN.{getD, length}
 use lib.Signed.{_≤ℤ_}
 use Rattle.model.specs.Counting.{_≤?_, _=?_, _and_, only, sum}
-use Rattle.model.specs.market.Market.{Tables, bidAt, marketBy, byNumber, market, opens, Screened, screen}
+use Rattle.model.specs.market.Market.{Tables, bidAt, marketBy, market, opens, Screened, screen}
 use Rattle.model.specs.market.Mechanism.{at, charged, served, sold, paid, margin, best, truthful}
 use Rattle.model.specs.market.Outcome.{screened, decision}
 use Rattle.model.specs.market.Faults.{Accepted}
@@ -18,6 +18,7 @@ pub record AlikeButForGuest (t t′ : Tables) (i : ℕ) : Type 0 where
   pub same-asks : t′ .asks ≡ t .asks
   pub same-bays : t′ .bays ≡ t .bays
   pub same-amounts : t′ .amounts ≡ t .amounts
+  pub same-tickets : t′ .tickets ≡ t .tickets
   pub same-bids : (k j : ℕ) → k < length (t .amounts) → j < length (t .asks) → (k ≡ i → ⊥) → bidAt t′ k j ≡ bidAt t k j
 
 -- t and t′ are alike but for station j's ask
@@ -26,11 +27,12 @@ pub record AlikeButForStation (t t′ : Tables) (j : ℕ) : Type 0 where
   pub same-asks : (k : ℕ) → k < length (t .asks) → (k ≡ j → ⊥) → getD (t′ .asks) k 0 ≡ getD (t .asks) k 0
   pub same-bays : t′ .bays ≡ t .bays
   pub same-amounts : t′ .amounts ≡ t .amounts
+  pub same-tickets : t′ .tickets ≡ t .tickets
   pub same-bids : t′ .bids ≡ t .bids
 
 -- what the mechanism sees under another rule for the position of the cut
 abbrev pub screenedBy : (rule : ℕ → ℕ) → Tables → Screened
-screenedBy rule t = screen (marketBy rule byNumber t)
+screenedBy rule t = screen (marketBy rule t)
 
 -- where t carries guest i's worths, i gains no more in t′
 abbrev pub GuestTruthfulBy : (rule : ℕ → ℕ) → Type 0

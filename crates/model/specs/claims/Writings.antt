@@ -8,7 +8,7 @@ use Rattle.model.specs.Numbers.{answerOfReading, answerOfWriting}
 use Rattle.model.specs.Verdicts.{accepted, firstFault}
 use Rattle.model.specs.market.Market.{Tables, tables}
 use Rattle.model.specs.market.Faults.{Accepted}
-use Rattle.model.specs.sheet.Layout.{Bytes}
+use Rattle.model.specs.sheet.Layout.{Bytes, Words}
 use Rattle.model.specs.sheet.Shortest.{shortest, writingFaults}
 use Rattle.model.specs.contracts.Reads.{LentTables, Reads}
 use Rattle.model.specs.contracts.Writes.{Writes}
@@ -22,8 +22,9 @@ WritingAcceptedIffWithinLimits =
     (t : Tables) (room : ℕ)
     → (firstFault (writingFaults t room) ≡ accepted tt) ↔ (Accepted t × (length (shortest t) ≤ room))
 
--- a call of `write` that gave sheet s
+-- a call of `write` that gave sheet s. Its tickets have 32 bits, as those of every `&[u32]`
 pub record Gave (t : Tables) (s : List ℕ) : Type 0 where
+  pub tickets-are : Words (t .tickets)
   pub entry : List ℕ
   pub exit : List ℕ
   pub answer : Writing
@@ -33,7 +34,8 @@ pub record Gave (t : Tables) (s : List ℕ) : Type 0 where
 
 -- the market in the first places of the reader's tables
 abbrev pub marketIn : LentTables → (n m : ℕ) → Tables
-marketIn l n m = tables (take m (l .asks)) (take m (l .bays)) (take n (l .amounts)) (take (n * m) (l .bids)) m
+marketIn l n m =
+    tables (take m (l .asks)) (take m (l .bays)) (take n (l .amounts)) (take n (l .tickets)) (take (n * m) (l .bids)) m
 
 -- a call of `read` that took t from sheet s
 pub record Took (s : List ℕ) (t : Tables) : Type 0 where

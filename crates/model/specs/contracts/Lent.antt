@@ -14,17 +14,19 @@ use Rattle.model.specs.declared.account.StationAccount.{StationAccount}
 abbrev pub Lent : Type 0 → Type 0
 Lent X = Both (RefT X) (RefT X)
 
--- a market in four lists, with the row width of its bids
-abbrev pub tablesIn : (asks bays amounts bids : Lent (List ℕ)) (width : ℕ) → Tables
-tablesIn asks bays amounts bids width =
-    tables (now (asks .entry)) (now (bays .entry)) (now (amounts .entry)) (now (bids .entry)) width
+-- a market in five lists, with the row width of its bids
+abbrev pub tablesIn : (asks bays amounts tickets bids : Lent (List ℕ)) (width : ℕ) → Tables
+tablesIn asks bays amounts tickets bids width =
+    tables (now (asks .entry)) (now (bays .entry)) (now (amounts .entry)) (now (tickets .entry)) (now (bids .entry))
+    width
 
 -- the same, with rows as wide as there are stations
-abbrev pub regularOf : (asks bays amounts bids : RefT (List ℕ)) → Tables
-regularOf asks bays amounts bids = regular (now asks) (now bays) (now amounts) (now bids)
+abbrev pub regularOf : (asks bays amounts tickets bids : RefT (List ℕ)) → Tables
+regularOf asks bays amounts tickets bids = regular (now asks) (now bays) (now amounts) (now tickets) (now bids)
 
-abbrev pub regularIn : (asks bays amounts bids : Lent (List ℕ)) → Tables
-regularIn asks bays amounts bids = regularOf (asks .entry) (bays .entry) (amounts .entry) (bids .entry)
+abbrev pub regularIn : (asks bays amounts tickets bids : Lent (List ℕ)) → Tables
+regularIn asks bays amounts tickets bids =
+    regularOf (asks .entry) (bays .entry) (amounts .entry) (tickets .entry) (bids .entry)
 
 -- the result lists of a clearing
 abbrev pub resultsOf : (stations charges sold paid : RefT (List ℕ)) → Results
@@ -46,10 +48,10 @@ bookOut guests stations house last =
     book (now (guests .exit)) (now (stations .exit)) (now (house .exit)) (now (last .exit))
 
 -- the tables that a sheet is read into
-abbrev pub lentTablesIn : (amounts asks bays bids : Lent (List ℕ)) → LentTables
-lentTablesIn amounts asks bays bids =
-    lentTables (now (amounts .entry)) (now (asks .entry)) (now (bays .entry)) (now (bids .entry))
+abbrev pub lentTablesIn : (amounts tickets asks bays bids : Lent (List ℕ)) → LentTables
+lentTablesIn amounts tickets asks bays bids =
+    lentTables (now (amounts .entry)) (now (tickets .entry)) (now (asks .entry)) (now (bays .entry)) (now (bids .entry))
 
-abbrev pub lentTablesOut : (amounts asks bays bids : Lent (List ℕ)) → LentTables
-lentTablesOut amounts asks bays bids =
-    lentTables (now (amounts .exit)) (now (asks .exit)) (now (bays .exit)) (now (bids .exit))
+abbrev pub lentTablesOut : (amounts tickets asks bays bids : Lent (List ℕ)) → LentTables
+lentTablesOut amounts tickets asks bays bids =
+    lentTables (now (amounts .exit)) (now (tickets .exit)) (now (asks .exit)) (now (bays .exit)) (now (bids .exit))

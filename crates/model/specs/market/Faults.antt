@@ -3,9 +3,9 @@ use Prim.Native.Nat.{ℕ, _*_}
 use mathlib.Core.Bool.{Bool, not}
 use mathlib.Core.List.{List, [], _∷_}
 use mathlib.Core.Path.{_≡_}
-use lib.ListN.{length}
+use lib.ListN.{getD, length}
 use Rattle.model.specs.Limits.{maxGuests, maxStations, maxPrice, maxAmount, maxBays}
-use Rattle.model.specs.Counting.{_<?_, _=?_, _or_, any}
+use Rattle.model.specs.Counting.{_<?_, _=?_, _or_, some, any}
 use Rattle.model.specs.Verdicts.{Row, _gives_, Verdict, accepted, firstFault}
 use Rattle.model.specs.market.Market.{Tables}
 use Rattle.model.specs.market.Mechanism.{sold, paid}
@@ -14,32 +14,39 @@ use Rattle.model.specs.market.Outcome.{Results}
 unfoldable pub outside : (low high : ℕ) → ℕ → Bool
 outside low high x = x <? low or high <? x
 
+-- two places hold the same number
+unfoldable pub repeats : List ℕ → Bool
+repeats xs = some (length xs) (λ k. some k (λ i. getD xs i 0 =? getD xs k 0))
+
 -- counts, and lengths of the market's tables
 unfoldable pub counts : (n m : ℕ) → Row
 counts n m = (maxGuests <? n or m =? 0 or maxStations <? m) gives 2
 
-unfoldable pub lengths : (n m bays bids width : ℕ) → Row
-lengths n m bays bids width = (not (bays =? m) or not (bids =? n * m) or not (width =? m)) gives 5
+unfoldable pub lengths : (n m bays tickets bids width : ℕ) → Row
+lengths n m bays tickets bids width =
+    (not (bays =? m) or not (tickets =? n) or not (bids =? n * m) or not (width =? m)) gives 5
 
 -- result lists
 unfoldable pub listLengths : (n m stations charges sold paid : ℕ) → Row
 listLengths n m stations charges sold paid =
     (not (stations =? n) or not (charges =? n) or not (sold =? m) or not (paid =? m)) gives 10
 
--- all asks, then all bays, then all amounts, then all bids
+-- all asks, then all bays, then all amounts, then all bids, then two equal tickets
 unfoldable pub values : Tables → List Row
 values t =
     (any (t .asks) (outside 0 maxPrice) gives 6)
     ∷ (any (t .bays) (outside 1 maxBays) gives 7)
     ∷ (any (t .amounts) (outside 1 maxAmount) gives 8)
     ∷ (any (t .bids) (outside 0 maxPrice) gives 9)
+    ∷ (repeats (t .tickets) gives 15)
     ∷ []
 
 -- the clearing's rows, the one on result lists aside
 unfoldable pub marketFaults : Tables → List Row
 marketFaults t =
     counts (length (t .amounts)) (length (t .asks))
-    ∷ lengths (length (t .amounts)) (length (t .asks)) (length (t .bays)) (length (t .bids)) (t .width)
+    ∷ lengths (length (t .amounts)) (length (t .asks)) (length (t .bays)) (length (t .tickets)) (length (t .bids))
+    (t .width)
     ∷ values t
 
 -- an accepted market
@@ -53,7 +60,8 @@ Accepted t = verdict t ≡ accepted tt
 unfoldable pub clearingFaults : Tables → Results → List Row
 clearingFaults t r =
     counts (length (t .amounts)) (length (t .asks))
-    ∷ lengths (length (t .amounts)) (length (t .asks)) (length (t .bays)) (length (t .bids)) (t .width)
+    ∷ lengths (length (t .amounts)) (length (t .asks)) (length (t .bays)) (length (t .tickets)) (length (t .bids))
+    (t .width)
     ∷ listLengths (length (t .amounts)) (length (t .asks)) (length (r .stations)) (length (r .charges))
     (length (r .sold)) (length (r .paid))
     ∷ values t

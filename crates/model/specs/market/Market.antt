@@ -6,20 +6,22 @@ use mathlib.Core.List.{List}
 use lib.ListN.{getD, length}
 use Rattle.model.specs.Counting.{_<?_, _≤?_, _=?_, _and_, _or_, only, greatest, count}
 
--- a market as it is lent: four tables of any lengths and values, and the row width of the bid table
+-- a market as it is lent: five tables of any lengths and values, and the row width of the bid table
 pub record Tables : Type 0 where
   pub asks : List ℕ
   pub bays : List ℕ
   pub amounts : List ℕ
+  pub tickets : List ℕ
   pub bids : List ℕ
   pub width : ℕ
 
-abbrev pub tables : (asks bays amounts bids : List ℕ) (width : ℕ) → Tables
-tables asks bays amounts bids width = record { asks = asks; bays = bays; amounts = amounts; bids = bids; width = width }
+abbrev pub tables : (asks bays amounts tickets bids : List ℕ) (width : ℕ) → Tables
+tables asks bays amounts tickets bids width =
+    record { asks = asks; bays = bays; amounts = amounts; tickets = tickets; bids = bids; width = width }
 
 -- rows as wide as there are stations
-abbrev pub regular : (asks bays amounts bids : List ℕ) → Tables
-regular asks bays amounts bids = tables asks bays amounts bids (length asks)
+abbrev pub regular : (asks bays amounts tickets bids : List ℕ) → Tables
+regular asks bays amounts tickets bids = tables asks bays amounts tickets bids (length asks)
 
 -- guest i's bid at station j: bids stand row after row
 unfoldable pub bidAt : Tables → ℕ → ℕ → ℕ
@@ -37,9 +39,9 @@ pub record Market : Type 0 where
   pub key : ℕ → ℕ
 
 -- the market that tables state, by a rule for the position of the cut, which sees the number of stations
--- alone, and a key for ties
-unfoldable pub marketBy : (rule key : ℕ → ℕ) → Tables → Market
-marketBy rule key t = record {
+-- alone. A guest's key is its ticket (document 02, request 2)
+unfoldable pub marketBy : (rule : ℕ → ℕ) → Tables → Market
+marketBy rule t = record {
   guestCount = length (t .amounts);
   stationCount = length (t .asks);
   position = rule (length (t .asks));
@@ -47,20 +49,16 @@ marketBy rule key t = record {
   bays = λ j. getD (t .bays) j 0;
   amount = λ i. getD (t .amounts) i 0;
   bid = bidAt t;
-  key = key;
+  key = λ i. getD (t .tickets) i 0;
 }
 
 -- ceil((m + 1) / 2)
 unfoldable pub median : ℕ → ℕ
 median m = (m + 1 + 1) / 2
 
--- the guest's number
-unfoldable pub byNumber : ℕ → ℕ
-byNumber i = i
-
 -- document 01's market
 unfoldable pub market : Tables → Market
-market t = marketBy median byNumber t
+market t = marketBy median t
 
 -- 1. the cut: the greatest ask that fewer than `position` asks lie below (`CutIsAskAtPosition`: the ask at that
 -- position in rising order)
@@ -125,6 +123,10 @@ rank Q i = count (Q .guestCount) (λ k. Q .candidate k and before Q k i)
 -- 4. i is a provisional winner (document 01: holds a place)
 unfoldable pub provisional : Queue → ℕ → Bool
 provisional Q i = Q .candidate i and rank Q i <? Q .bays
+
+-- 5. k is the first candidate without a place: as many stand before it as there are bays
+unfoldable pub firstOut : Queue → ℕ → Bool
+firstOut Q k = Q .candidate k and rank Q k =? Q .bays
 
 -- 5. the critical total (document 01: the floor): the greatest total of a candidate without a place, 0 for none
 unfoldable pub critical : Queue → ℕ

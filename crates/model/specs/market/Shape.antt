@@ -10,5 +10,6 @@ pub record Shaped (t : Tables) : Type 0 where
   pub stations-least : 1 ≤ length (t .asks)
   pub stations-most : length (t .asks) ≤ maxStations
   pub bays-length : length (t .bays) ≡ length (t .asks)
+  pub tickets-length : length (t .tickets) ≡ length (t .amounts)
   pub bids-length : length (t .bids) ≡ length (t .amounts) * length (t .asks)
   pub width-is : t .width ≡ length (t .asks)

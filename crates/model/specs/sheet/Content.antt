@@ -11,7 +11,7 @@ use Rattle.model.specs.market.Faults.{counts}
 use Rattle.model.specs.market.Market.{Tables}
 use Rattle.model.specs.Verdicts.{Answer, Row, _gives_, firstFault, giving}
 use Rattle.model.specs.sheet.Fields.{littleEndian}
-use Rattle.model.specs.sheet.Rows.{rowAt, askOf, baysOf, amountOf, bidOf, rowsFaults}
+use Rattle.model.specs.sheet.Rows.{rowAt, askOf, baysOf, amountOf, ticketOf, bidOf, rowsFaults}
 
 -- ---- the header, and the market
 
@@ -28,6 +28,7 @@ tablesOf s = record {
   asks = list (stations s) (askOf s);
   bays = list (stations s) (baysOf s);
   amounts = list (guests s) (amountOf s (stations s));
+  tickets = list (guests s) (ticketOf s (stations s));
   bids = joined (guests s) (λ i. list (stations s) (bidOf s (stations s) i));
   width = stations s;
 }

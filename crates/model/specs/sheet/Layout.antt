@@ -32,8 +32,9 @@ stated false x = []
 
 unfoldable pub row : Tables → (ℕ → ℕ → Bool) → ℕ → List ℕ
 row t set i = bytesOf 2 (getD (t .amounts) i 0)
+    ++ (bytesOf 4 (getD (t .tickets) i 0)
     ++ (bytesOf (mapWidth (length (t .asks))) (pack (length (t .asks)) (set i))
-    ++ joined (length (t .asks)) (λ j. stated (set i j) (bidAt t i j)))
+    ++ joined (length (t .asks)) (λ j. stated (set i j) (bidAt t i j))))
 
 -- the sheet of t with the bits `set`
 unfoldable pub layout : Tables → (ℕ → ℕ → Bool) → List ℕ
@@ -48,6 +49,7 @@ pub record Fitting (t : Tables) : Type 0 where
   pub ask-fits : (j : ℕ) → j < length (t .asks) → getD (t .asks) j 0 < 256 ^ 4
   pub bays-fit : (j : ℕ) → j < length (t .asks) → getD (t .bays) j 0 < 256 ^ 2
   pub amount-fits : (i : ℕ) → i < length (t .amounts) → getD (t .amounts) i 0 < 256 ^ 2
+  pub ticket-fits : (i : ℕ) → i < length (t .amounts) → getD (t .tickets) i 0 < 256 ^ 4
   pub bid-fits : (i j : ℕ) → i < length (t .amounts) → j < length (t .asks) → bidAt t i j < 256 ^ 4
 
 -- s states t: it is t's layout with some choice of set bits, among which is each bid that is not 0
@@ -59,6 +61,10 @@ pub record States (s : List ℕ) (t : Tables) : Type 0 where
 
 abbrev pub Bytes : List ℕ → Type 0
 Bytes s = (k : ℕ) → getD s k 0 < 256
+
+-- numbers of 32 bits, as a table of tickets holds
+abbrev pub Words : List ℕ → Type 0
+Words l = (k : ℕ) → getD l k 0 < 256 ^ 4
 
 -- ---- what is proved
 

@@ -8,12 +8,12 @@ use Rattle.model.specs.Counting.{_<?_, only, count, joined}
 use Rattle.model.specs.Verdicts.{Row, _gives_}
 use Rattle.model.specs.sheet.Fields.{littleEndian, mapWidth, hasBit}
 
--- of the row that starts at p: its bit map, where its bids start, where the next row starts
+-- of the row that starts at p: its bit map, after amount and ticket; where its bids start, where the next row starts
 unfoldable pub mapAt : List ℕ → (m p : ℕ) → ℕ
-mapAt s m p = littleEndian s (p + 2) (mapWidth m)
+mapAt s m p = littleEndian s (p + 6) (mapWidth m)
 
 unfoldable pub bidsAt : (m p : ℕ) → ℕ
-bidsAt m p = p + 2 + mapWidth m
+bidsAt m p = p + 6 + mapWidth m
 
 unfoldable pub nextAt : List ℕ → (m p : ℕ) → ℕ
 nextAt s m p = bidsAt m p + 4 * count m (hasBit (mapAt s m p))
@@ -32,6 +32,9 @@ baysOf s j = littleEndian s (8 + 6 * j) 2
 unfoldable pub amountOf : List ℕ → (m i : ℕ) → ℕ
 amountOf s m i = littleEndian s (rowAt s m i) 2
 
+unfoldable pub ticketOf : List ℕ → (m i : ℕ) → ℕ
+ticketOf s m i = littleEndian s (rowAt s m i + 2) 4
+
 -- the bid for station j in a row with this map, whose bids start at q: a field for each set bit, 0 for a clear one
 unfoldable pub bidBy : List ℕ → (map q j : ℕ) → ℕ
 bidBy s map q j = only (hasBit map j) (littleEndian s (q + 4 * count j (hasBit map)) 4)
@@ -44,6 +47,7 @@ bidOf s m i = bidBy s (mapAt s m (rowAt s m i)) (bidsAt m (rowAt s m i))
 unfoldable pub rowFaults : List ℕ → (m p : ℕ) → List Row
 rowFaults s m p =
     (length s <? p + 2 gives 1)
+    ∷ (length s <? p + 6 gives 1)
     ∷ (length s <? bidsAt m p gives 1)
     ∷ (0 <? mapAt s m p / 2 ^ m gives 3)
     ∷ (length s <? nextAt s m p gives 1)

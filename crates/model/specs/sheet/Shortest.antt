@@ -10,7 +10,7 @@ use Rattle.model.specs.market.Market.{Tables, bidAt}
 use Rattle.model.specs.market.Faults.{marketFaults, Accepted}
 use Rattle.model.specs.Verdicts.{Row, _gives_, accepted}
 use Rattle.model.specs.sheet.Content.{readSheet}
-use Rattle.model.specs.sheet.Layout.{layout, States}
+use Rattle.model.specs.sheet.Layout.{layout, States, Bytes, Words}
 
 -- 'with no set bit for a bid of 0'
 unfoldable pub bidden : Tables → (i j : ℕ) → Bool
@@ -23,15 +23,15 @@ shortest t = layout t (bidden t)
 unfoldable pub writingFaults : Tables → (room : ℕ) → List Row
 writingFaults t room = marketFaults t ++ ((room <? length (shortest t) gives 14) ∷ [])
 
--- ---- what is proved
+-- ---- what is proved. That tickets have 32 bits is asked for where no call says so: no number refuses another one
 
 -- 'a writer from an accepted market to the shortest sheet that states it'
 abbrev pub ShortestStates : Type 0
-ShortestStates = (t : Tables) → Accepted t → States (shortest t) t
+ShortestStates = (t : Tables) → Accepted t → Words (t .tickets) → States (shortest t) t
 
 -- 'Reading its output returns the same market'
 abbrev pub ShortestIsRead : Type 0
-ShortestIsRead = (t : Tables) → Accepted t → readSheet (shortest t) ≡ accepted t
+ShortestIsRead = (t : Tables) → Accepted t → Words (t .tickets) → readSheet (shortest t) ≡ accepted t
 
 -- 'Where a sheet states an accepted market, writing what was read is never longer than that sheet'; as long it is that
 -- sheet
@@ -43,8 +43,8 @@ ShortestIsLeast =
 -- 'a second reading and writing alters nothing'
 abbrev pub SecondChangesNothing : Type 0
 SecondChangesNothing =
-    (s : List ℕ) (t u : Tables) → readSheet s ≡ accepted t → Accepted t → readSheet (shortest t) ≡ accepted u
-    → (u ≡ t) × (shortest u ≡ shortest t)
+    (s : List ℕ) (t u : Tables) → Bytes s → readSheet s ≡ accepted t → Accepted t
+    → readSheet (shortest t) ≡ accepted u → (u ≡ t) × (shortest u ≡ shortest t)
 
 -- an output as long as the largest sheet is never too short
 abbrev pub ShortestFits : Type 0
