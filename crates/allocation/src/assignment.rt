@@ -1,5 +1,6 @@
 // Every guest's station and charge: the stations of an accepted market take their turns.
 use crate::turns;
+use checks::tickets;
 use model::limits::MAX_GUESTS;
 use model::limits::MAX_STATIONS;
 use model::money::UnitPrice;
@@ -7,6 +8,7 @@ use pricing::charges;
 ghost use mathlib.Core.Path.{_≡_};
 ghost use lib.ListN.{length};
 ghost use Rattle.model.specs.contracts.Lent.{regularOf, regularIn};
+ghost use Rattle.checks.specs.Tickets.{rising as risingOf};
 ghost use Rattle.allocation.specs.Stages.{AtCut, AfterIn, Turned};
 ghost use Rattle.allocation.specs.Assignment.{Assigned};
 
@@ -15,7 +17,9 @@ fn all_stations(
     asks: &[u32],
     bays: &[u16],
     amounts: &[u16],
+    tickets: &[u32],
     bids: &[u32],
+    rising: bool,
     cut: UnitPrice,
     least: &[u32],
     totals: &mut [u32],
@@ -23,10 +27,10 @@ fn all_stations(
     gains: &mut [u32],
     criticals: &mut [u32],
 )
-    requires { ⌜ AtCut (regularOf asks bays amounts bids) (cut .0) (now least) ⌝ }
-    requires { ⌜ length (now totals) ≡ length (now amounts) ⌝ }
-    requires { ⌜ AfterIn (regularOf asks bays amounts bids) 0 (now chosen) (now gains) (now criticals) ⌝ }
-    ensures { λ _. ⌜ (let t = regularIn asks bays amounts bids in
+    requires { ⌜ AtCut (regularOf asks bays amounts tickets bids) (cut .0) (now least) ⌝ }
+    requires { ⌜ (rising ≡ risingOf (now tickets)) × (length (now totals) ≡ length (now amounts)) ⌝ }
+    requires { ⌜ AfterIn (regularOf asks bays amounts tickets bids) 0 (now chosen) (now gains) (now criticals) ⌝ }
+    ensures { λ _. ⌜ (let t = regularIn asks bays amounts tickets bids in
         Turned t (cut .0) (length (t .asks)) (now (totals .entry))
         (now (totals .exit)) (now (chosen .exit)) (now (gains .exit)) (now (criticals .exit))) ⌝ }
 {
@@ -36,7 +40,9 @@ fn all_stations(
             asks,
             bays,
             amounts,
+            tickets,
             bids,
+            rising,
             cut,
             least,
             j,
@@ -54,7 +60,9 @@ fn assign(
     asks: &[u32],
     bays: &[u16],
     amounts: &[u16],
+    tickets: &[u32],
     bids: &[u32],
+    rising: bool,
     cut: UnitPrice,
     least: &[u32],
     totals: &mut [u32],
@@ -64,11 +72,11 @@ fn assign(
     stations: &mut [u16],
     charges: &mut [u32],
 )
-    requires { ⌜ AtCut (regularOf asks bays amounts bids) (cut .0) (now least) ⌝ }
-    requires { ⌜ length (now totals) ≡ length (now amounts) ⌝ }
-    requires { ⌜ AfterIn (regularOf asks bays amounts bids) 0 (now chosen) (now gains) (now criticals) ⌝ }
+    requires { ⌜ AtCut (regularOf asks bays amounts tickets bids) (cut .0) (now least) ⌝ }
+    requires { ⌜ (rising ≡ risingOf (now tickets)) × (length (now totals) ≡ length (now amounts)) ⌝ }
+    requires { ⌜ AfterIn (regularOf asks bays amounts tickets bids) 0 (now chosen) (now gains) (now criticals) ⌝ }
     requires { ⌜ (length (now stations) ≡ length (now amounts)) × (length (now charges) ≡ length (now amounts)) ⌝ }
-    ensures { λ _. ⌜ (let t = regularIn asks bays amounts bids in
+    ensures { λ _. ⌜ (let t = regularIn asks bays amounts tickets bids in
         Turned t (cut .0) (length (t .asks)) (now (totals .entry))
         (now (totals .exit)) (now (chosen .exit)) (now (gains .exit)) (now (criticals .exit))
         × Assigned t (now (stations .exit)) (now (charges .exit))) ⌝ }
@@ -77,7 +85,9 @@ fn assign(
         asks,
         bays,
         amounts,
+        tickets,
         bids,
+        rising,
         cut,
         least,
         totals,
@@ -94,15 +104,16 @@ pub fn assign_all(
     asks: &[u32],
     bays: &[u16],
     amounts: &[u16],
+    tickets: &[u32],
     bids: &[u32],
     cut: UnitPrice,
     least: &[u32],
     stations: &mut [u16],
     charges: &mut [u32],
 )
-    requires { ⌜ AtCut (regularOf asks bays amounts bids) (cut .0) (now least) ⌝ }
+    requires { ⌜ AtCut (regularOf asks bays amounts tickets bids) (cut .0) (now least) ⌝ }
     requires { ⌜ (length (now stations) ≡ length (now amounts)) × (length (now charges) ≡ length (now amounts)) ⌝ }
-    ensures { λ _. ⌜ Assigned (regularIn asks bays amounts bids)
+    ensures { λ _. ⌜ Assigned (regularIn asks bays amounts tickets bids)
         (now (stations .exit)) (now (charges .exit)) ⌝ }
 {
     let mut totals = [0u32; MAX_GUESTS];
@@ -110,11 +121,14 @@ pub fn assign_all(
     let mut gains = [0u32; MAX_GUESTS];
     let mut criticals = [0u32; MAX_STATIONS + 1];
     let n = amounts.len();
+    let rising = tickets::rising(tickets);
     assign(
         asks,
         bays,
         amounts,
+        tickets,
         bids,
+        rising,
         cut,
         least,
         &mut totals[..n],

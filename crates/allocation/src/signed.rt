@@ -4,7 +4,7 @@ ghost use Prim.Native.Nat.{_^_, _<_, max};
 ghost use mathlib.Core.Path.{_≡_};
 ghost use Rattle.model.specs.Counting.{_<?_};
 
-pub fn below(x: u32, y: u32) -> bool
+fn below(x: u32, y: u32) -> bool
     requires { ⌜ (x < 2 ^ 31) × (y < 2 ^ 31) ⌝ }
     ensures { λ r. ⌜ r ≡ x <? y ⌝ }
 {

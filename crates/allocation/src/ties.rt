@@ -1,11 +1,15 @@
-// Who wins a tie at the critical total.
+// Who wins a tie at the critical total: those with a ticket below a bound.
 use model::money::Mills;
 ghost use Prim.Native.Nat.{_+_, _<_, _≤_};
+ghost use mathlib.Core.Bool.{true};
 ghost use mathlib.Core.Path.{_≡_};
 ghost use lib.ListN.{length};
 ghost use Rattle.model.specs.Limits.{maxGuests};
-ghost use Rattle.model.specs.Counting.{_=?_, only};
-ghost use Rattle.allocation.specs.Ties.{TieBound};
+ghost use Rattle.model.specs.Counting.{_<?_, _=?_, _and_, only};
+ghost use Rattle.model.specs.claims.Meaning.{Differ};
+ghost use Rattle.checks.specs.Tickets.{rising as risingOf};
+ghost use Rattle.allocation.specs.Totals.{maxTotal};
+ghost use Rattle.allocation.specs.Ties.{tiesBelow, Tied, Tying, TieBound};
 
 // s and one more where x is t.
 fn tally(s: u32, x: Mills, t: Mills) -> u32
@@ -15,22 +19,83 @@ fn tally(s: u32, x: Mills, t: Mills) -> u32
     if x.0 == t.0 { s + 1 } else { s }
 }
 
-// Of those at the critical total t, the guest below whom they still win a place: a stand above t, b bays.
-pub fn tie_bound(totals: &[u32], t: Mills, a: u32, b: u32) -> u32
-    requires { ⌜ (length (now totals) ≤ maxGuests) × (a ≤ maxGuests) ⌝ }
-    ensures { λ r. ⌜ TieBound (now (totals .entry)) (t .0) a b r ⌝ }
+fn tied_below(total: u32, t: u32, ticket: u32, x: u32) -> bool
+    ensures { λ r. ⌜ r ≡ (total =? t and ticket <? x) ⌝ }
+{
+    (total == t) & (ticket < x)
+}
+
+// How many at t have a ticket below x.
+fn count_ties(totals: &[u32], tickets: &[u32], t: Mills, x: u32) -> u32
+    requires { ⌜ (length (now totals) ≤ maxGuests) × (length (now tickets) ≡ length (now totals))
+        × (t .0 ≤ maxTotal) ⌝ }
+    ensures { λ r. ⌜ r ≡ tiesBelow (now (totals .entry)) (now (tickets .entry)) (t .0) x ⌝ }
+{
+    let at = t.narrow();
+    let mut n: u32 = 0;
+    let mut i = 0;
+    while i < totals.len() {
+        if tied_below(totals[i], at, tickets[i], x) {
+            n += 1;
+        }
+        i += 1;
+    }
+    n
+}
+
+// The bound below which so many at t have their tickets, where tickets rise: the ticket of the next in order.
+fn bound_by_order(totals: &[u32], tickets: &[u32], t: Mills, places: u32) -> u32
+    requires { ⌜ Tied (now totals) (now tickets) (t .0) places × (risingOf (now tickets) ≡ true) ⌝ }
+    ensures { λ r. ⌜ tiesBelow (now (totals .entry)) (now (tickets .entry)) (t .0) r ≡ places ⌝ }
+{
+    let mut s: u32 = 0;
+    let mut i = 0;
+    while s < places {
+        s = tally(s, Mills::wide(totals[i]), t);
+        i += 1;
+    }
+    tickets[i]
+}
+
+// The greatest ticket.
+const LAST_TICKET: u32 = 4_294_967_295;
+
+// The same, however tickets stand: by bisection, with a count at each step.
+fn bound_by_ticket(totals: &[u32], tickets: &[u32], t: Mills, places: u32) -> u32
+    requires { ⌜ Tied (now totals) (now tickets) (t .0) places × Differ (now tickets) ⌝ }
+    ensures { λ r. ⌜ tiesBelow (now (totals .entry)) (now (tickets .entry)) (t .0) r ≡ places ⌝ }
+{
+    let mut low: u32 = 0;
+    let mut high = LAST_TICKET;
+    while low < high {
+        let mid = low + (high - low) / 2;
+        let n = count_ties(totals, tickets, t, mid);
+        if n == places {
+            return mid;
+        }
+        if n < places {
+            low = mid + 1;
+        } else {
+            high = mid;
+        }
+    }
+    low
+}
+
+// Of those at the critical total t, the ones with a ticket below the bound win a place: a stand above t, b bays. Where
+// no place is left for them, which is the common case, nobody does.
+pub fn tie_bound(totals: &[u32], tickets: &[u32], rising: bool, t: Mills, a: u32, b: u32) -> u32
+    requires { ⌜ Tying (now totals) (now tickets) rising (t .0) a b ⌝ }
+    ensures { λ r. ⌜ TieBound (now (totals .entry)) (now (tickets .entry)) (t .0) a b r ⌝ }
 {
     if t.0 == 0 {
         return 0;
     }
-    let mut s = a;
-    let mut i = 0;
-    while i < totals.len() {
-        if b <= s {
-            return i as u32;
-        }
-        s = tally(s, Mills::wide(totals[i]), t);
-        i += 1;
+    if b <= a {
+        return 0;
     }
-    i as u32
+    if rising {
+        return bound_by_order(totals, tickets, t, b - a);
+    }
+    bound_by_ticket(totals, tickets, t, b - a)
 }

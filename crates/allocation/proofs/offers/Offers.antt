@@ -71,23 +71,23 @@ unfolding gainFor
 gain-lost w total charge e = sym (only-no w _ e)
 
 -- the lists after the first i guests have been offered a place
-pub record Offering (totals least : List ℕ) (t e s : ℕ) (chosen₀ gains₀ : List ℕ) (i : ℕ)
+pub record Offering (totals tickets least : List ℕ) (t e s : ℕ) (chosen₀ gains₀ : List ℕ) (i : ℕ)
     (chosen gains : List ℕ) : Type 0 where
   pub chosen-are :
-      Filling (length totals) (taken gains₀ (gainAt totals least t e) (λ _. s) chosen₀) chosen₀ chosen i
+      Filling (length totals) (taken gains₀ (gainAt totals tickets least t e) (λ _. s) chosen₀) chosen₀ chosen i
   pub gains-are :
-      Filling (length totals) (taken gains₀ (gainAt totals least t e) (gainAt totals least t e) gains₀) gains₀ gains i
+      Filling (length totals) (taken gains₀ (gainAt totals tickets least t e) (gainAt totals tickets least t e) gains₀) gains₀ gains i
 
 pub offers-none :
-    {totals least : List ℕ} {t e s : ℕ} {chosen gains : List ℕ}
-    → Offerable totals least t e chosen gains → Offering totals least t e s chosen gains 0 chosen gains
+    {totals tickets least : List ℕ} {t e s : ℕ} {chosen gains : List ℕ}
+    → Offerable totals tickets least t e chosen gains → Offering totals tickets least t e s chosen gains 0 chosen gains
 offers-none o = record { chosen-are = filling-none (o .chosen-long); gains-are = filling-none (o .gains-long) }
 
 -- the next guest's gain is as it was
 pub gain-left :
-    {totals least : List ℕ} {t e s : ℕ} {chosen₀ gains₀ : List ℕ} {i : ℕ} {chosen gains : List ℕ}
-    → Offerable totals least t e chosen₀ gains₀
-    → Offering totals least t e s chosen₀ gains₀ i chosen gains → i < length totals → getD gains i 0 ≤ maxTotal + 1
+    {totals tickets least : List ℕ} {t e s : ℕ} {chosen₀ gains₀ : List ℕ} {i : ℕ} {chosen gains : List ℕ}
+    → Offerable totals tickets least t e chosen₀ gains₀
+    → Offering totals tickets least t e s chosen₀ gains₀ i chosen gains → i < length totals → getD gains i 0 ≤ maxTotal + 1
 gain-left {i = i} o h l = rw (h .gains-are .filled .left i (le-refl i)) (o .gains-low i (omega (arith, o .gains-long)))
 
 picked-max : (a b : ℕ) → max a b ≡ picked (a <? b) b a
@@ -98,21 +98,21 @@ picked-max a b = ⊎-elim (λ (l : a < b). rw (is-lt a b l) (omega arith)) (λ (
 -- one guest more: of the total x, the least charge y and the gain z before, the code found w, c and
 -- g, and stored v1 and v2
 pub offers-more :
-    {totals least : List ℕ} {t e s : ℕ} {chosen₀ gains₀ : List ℕ} {i : ℕ} {chosen gains : List ℕ}
-    {w : Bool} {x y z c g v1 v2 : ℕ}
-    → Offering totals least t e s chosen₀ gains₀ i chosen gains → i < length totals
-    → x ≡ getD totals i 0 → y ≡ getD least i 0 → z ≡ getD gains i 0
-    → w ≡ wonBy x t i e → c ≡ max y t → g ≡ gainFor w x c
+    {totals tickets least : List ℕ} {t e s : ℕ} {chosen₀ gains₀ : List ℕ} {i : ℕ} {chosen gains : List ℕ}
+    {w : Bool} {x k y z c g v1 v2 : ℕ}
+    → Offering totals tickets least t e s chosen₀ gains₀ i chosen gains → i < length totals
+    → x ≡ getD totals i 0 → k ≡ getD tickets i 0 → y ≡ getD least i 0 → z ≡ getD gains i 0
+    → w ≡ wonBy x t k e → c ≡ max y t → g ≡ gainFor w x c
     → v1 ≡ picked (z <? g) s (getD chosen i 0) → v2 ≡ max z g
-    → Offering totals least t e s chosen₀ gains₀ (i + 1) (set chosen i v1) (set gains i v2)
+    → Offering totals tickets least t e s chosen₀ gains₀ (i + 1) (set chosen i v1) (set gains i v2)
 unfolding taken gainAt chargeAt
-offers-more {i = i} {z = z} {g = g} h l ex ey ez ew ec eg e1 e2 = record {
+offers-more {i = i} {z = z} {g = g} h l ex ek ey ez ew ec eg e1 e2 = record {
   chosen-are = filling-turn (h .chosen-are) l
       (cc (h .gains-are .filled .left i (le-refl i), h .chosen-are .filled .left i (le-refl i)));
   gains-are = filling-turn (h .gains-are) l (cc (h .gains-are .filled .left i (le-refl i), picked-max z g));
 }
 
-pub offers-end : {totals least : List ℕ} {t e s : ℕ} {chosen₀ gains₀ : List ℕ} {i : ℕ} {chosen gains : List ℕ}
-    → Offering totals least t e s chosen₀ gains₀ i chosen gains → length totals ≤ i
-    → Offered totals least t e s chosen₀ gains₀ chosen gains
+pub offers-end : {totals tickets least : List ℕ} {t e s : ℕ} {chosen₀ gains₀ : List ℕ} {i : ℕ} {chosen gains : List ℕ}
+    → Offering totals tickets least t e s chosen₀ gains₀ i chosen gains → length totals ≤ i
+    → Offered totals tickets least t e s chosen₀ gains₀ chosen gains
 offers-end h b = record { chosen-are = filling-end (h .chosen-are) b; gains-are = filling-end (h .gains-are) b }

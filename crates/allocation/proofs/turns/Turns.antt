@@ -11,7 +11,7 @@ use lib.ListN.{getD, length, set, length-set}
 use lib.Seq.{getD-set-same, getD-set-other}
 use Rattle.model.specs.Limits.{maxStations}
 use Rattle.model.specs.Counting.{_<?_, _≤?_, _and_, only, list}
-use Rattle.model.specs.market.Market.{Tables, bidAt, Market, marketBy, byNumber, market, cut, opens, Screened, screen}
+use Rattle.model.specs.market.Market.{Tables, bidAt, Market, marketBy, market, cut, opens, Screened, screen}
 use Rattle.model.specs.market.Market.{Queue, queue, provisional, critical}
 use Rattle.model.specs.market.Mechanism.{at, better, best, surplus}
 use Rattle.model.specs.market.Outcome.{screened}
@@ -23,9 +23,10 @@ use Rattle.model.proofs.Loops.{long, element, is-list, relist, in-table}
 use Rattle.allocation.specs.Ties.{TieBound}
 use Rattle.allocation.specs.Totals.{maxTotal, Totals, totalFor, totalAt, Gathered}
 use Rattle.allocation.proofs.totals.Totals.{total-yes, total-no, total-low}
+use Rattle.model.proofs.market.Acceptance.{same-place}
 use Rattle.model.proofs.market.Limits.{product}
 use Rattle.allocation.specs.Selection.{above, LeastFew, Selected}
-use Rattle.allocation.proofs.selection.Selection.{above-most, above-greatest, selected-low}
+use Rattle.allocation.proofs.selection.Selection.{above-greatest, selected-low}
 use Rattle.allocation.specs.Offers.{picked, wonBy, gainFor, chargeAt, gainAt, taken, Offerable, Offered}
 use Rattle.allocation.proofs.offers.Offers.{gain-low}
 use Rattle.allocation.specs.Stages.{AtCut, stationBy, gainBy, criticalBy, After}
@@ -99,12 +100,12 @@ unfolding picked
 picked-le true x y m p q = p
 picked-le false x y m p q = q
 
-module _ (S : Screened) (n j : ℕ) (totals least : List ℕ) (t e s : ℕ) (chosen₀ gains₀ criticals : List ℕ)
+module _ (S : Screened) (n j : ℕ) (totals tickets least : List ℕ) (t e s : ℕ) (chosen₀ gains₀ criticals : List ℕ)
     (as-long : length totals ≡ n) (es : s ≡ j + 1) (few : j < maxStations)
-    (gain-is : (k : ℕ) → k < n → gainAt totals least t e k ≡ only (provisional (queue S j) k) (surplus S k j + 1))
+    (gain-is : (k : ℕ) → k < n → gainAt totals tickets least t e k ≡ only (provisional (queue S j) k) (surplus S k j + 1))
     (critical-is : t ≡ critical (queue S j)) (totals-low : Totals totals)
     (h : After S n j chosen₀ gains₀ criticals) where
-  chosen-step : (k : ℕ) → k < n → taken gains₀ (gainAt totals least t e) (λ _. s) chosen₀ k ≡ stationBy S (j + 1) k
+  chosen-step : (k : ℕ) → k < n → taken gains₀ (gainAt totals tickets least t e) (λ _. s) chosen₀ k ≡ stationBy S (j + 1) k
   unfolding taken gainBy
   chosen-step k lk =
       rw (
@@ -117,7 +118,7 @@ module _ (S : Screened) (n j : ℕ) (totals least : List ℕ) (t e s : ℕ) (cho
       (take-at suc (provisional (queue S j) k) (surplus S k) j (stationBy S j k) ∙ at-suc _)
 
   gain-step :
-      (k : ℕ) → k < n → taken gains₀ (gainAt totals least t e) (gainAt totals least t e) gains₀ k ≡ gainBy S (j + 1) k
+      (k : ℕ) → k < n → taken gains₀ (gainAt totals tickets least t e) (gainAt totals tickets least t e) gains₀ k ≡ gainBy S (j + 1) k
   unfolding taken gainBy
   gain-step k lk =
       rw (gain-is k lk, element n (gainBy S j) (h .gains-are) k lk, station-step S j k)
@@ -125,12 +126,12 @@ module _ (S : Screened) (n j : ℕ) (totals least : List ℕ) (t e s : ℕ) (cho
 
   -- a gain is the new one or the old one
   gain-stays-low :
-      (k : ℕ) → k < n → taken gains₀ (gainAt totals least t e) (gainAt totals least t e) gains₀ k ≤ maxTotal + 1
+      (k : ℕ) → k < n → taken gains₀ (gainAt totals tickets least t e) (gainAt totals tickets least t e) gains₀ k ≤ maxTotal + 1
   unfolding taken gainAt
   gain-stays-low k lk = picked-le _ _ _ _ (gain-low _ _ _ (totals-low k (omega arith)) refl) (h .gains-low k lk)
 
   after-offers :
-      {chosen gains : List ℕ} → Offered totals least t e s chosen₀ gains₀ chosen gains
+      {chosen gains : List ℕ} → Offered totals tickets least t e s chosen₀ gains₀ chosen gains
       → After S n (j + 1) chosen gains (set criticals s t)
   after-offers o = record {
     chosen-are = relist _ n _ _ (o .chosen-are) as-long chosen-step;
@@ -187,15 +188,17 @@ module _ (t : Tables) (c : ℕ) (least : List ℕ) (A : AtCut t c least) (j : �
 
   module _ (totals : List ℕ)
       (gathered : totals ≡ list (length (t .amounts)) (totalAt (t .bids) (t .amounts) (length (t .asks)) j c)) where
-    shows : Shows Q totals
-    unfolding queue screened screen market marketBy bidAt byNumber
+    shows : Shows Q totals (t .tickets)
+    unfolding queue screened screen market marketBy bidAt
     shows = record {
       long = long _ _ gathered;
       some = λ k lk q. element _ _ gathered k lk ∙ sym (total-yes _ _ c (le-yes _ _ (sym (candidate-is k) ∙ q)));
       none = λ k lk q. element _ _ gathered k lk ∙ sym (total-no _ _ c (le-no _ _ (sym (candidate-is k) ∙ q)));
       real = λ k lk q. let b : c ≤ bidAt t k j = le-yes _ _ (sym (candidate-is k) ∙ q) in
           positive _ _ (omega arith) (A .within .amount-least k lk);
-      number = λ k. refl;
+      ticket = λ k. refl;
+      distinct = λ k i lk li e. same-place (t .tickets) (A .within .tickets-differ) k i
+          (omega (arith, A .within .shape .tickets-length)) (omega (arith, A .within .shape .tickets-length)) e;
     }
       where
         positive : (x y : ℕ) → 1 ≤ x → 1 ≤ y → 0 < x * y
@@ -210,17 +213,17 @@ module _ (t : Tables) (c : ℕ) (least : List ℕ) (A : AtCut t c least) (j : �
         (A .within .amount-most k l))
 
     module _ (f b e : ℕ) (eb : b ≡ getD (t .bays) j 0) (few : LeastFew totals b f)
-        (tied : TieBound totals f (above totals f) b e) where
+        (tied : TieBound totals (t .tickets) f (above totals f) b e) where
       capacity-is : Q .bays ≡ b
       unfolding queue screened screen market marketBy
       capacity-is = sym eb
 
       critical-here : f ≡ critical Q
-      critical-here = critical-is Q totals shows f (rw capacity-is few)
+      critical-here = critical-is Q totals (t .tickets) shows f (rw capacity-is few)
 
-      won-here : (k : ℕ) → k < length (t .amounts) → wonBy (getD totals k 0) f k e ≡ provisional Q k
+      won-here : (k : ℕ) → k < length (t .amounts) → wonBy (getD totals k 0) f (getD (t .tickets) k 0) e ≡ provisional Q k
       unfolding queue screened screen market marketBy
-      won-here k lk = provisional-is Q totals shows k f e lk (rw capacity-is few) (rw capacity-is tied)
+      won-here k lk = provisional-is Q totals (t .tickets) shows k f e lk (rw capacity-is few) (rw capacity-is tied)
 
       charge-here :
           (k : ℕ) → k < length (t .amounts)
@@ -242,16 +245,16 @@ module _ (t : Tables) (c : ℕ) (least : List ℕ) (A : AtCut t c least) (j : �
 
       gain-here :
           (k : ℕ) → k < length (t .amounts)
-          → gainAt totals least f e k ≡ only (provisional Q k) (surplus (screened t) k j + 1)
+          → gainAt totals (t .tickets) least f e k ≡ only (provisional Q k) (surplus (screened t) k j + 1)
       unfolding gainAt gainFor
       gain-here k lk = rw (won-here k lk) (only-cong _ _ _ (λ p. ap (λ x. x + 1) (surplus-here k lk p)))
 
       pub after-open-turn : (s : ℕ) {chosen₀ gains₀ criticals chosen gains : List ℕ} → s ≡ j + 1
           → After (screened t) (length (t .amounts)) j chosen₀ gains₀ criticals
-          → Offered totals least f e s chosen₀ gains₀ chosen gains
+          → Offered totals (t .tickets) least f e s chosen₀ gains₀ chosen gains
           → After (screened t) (length (t .amounts)) (j + 1) chosen gains (set criticals s f)
       after-open-turn s es h o =
-          after-offers (screened t) (length (t .amounts)) j totals least f e s _ _ _ (long _ _ gathered) es
+          after-offers (screened t) (length (t .amounts)) j totals (t .tickets) least f e s _ _ _ (long _ _ gathered) es
           (omega (arith, A .within .shape .stations-most)) gain-here critical-here all-low h o
 
 -- the turn of a station that is not open
@@ -273,13 +276,14 @@ pub offerable :
     (t : Tables) (c j : ℕ) {f a b e : ℕ} {least totals chosen gains criticals : List ℕ}
     (A : AtCut t c least) → j < length (t .asks)
     → totals ≡ list (length (t .amounts)) (totalAt (t .bids) (t .amounts) (length (t .asks)) j c) → Totals totals
-    → f ≤ maxTotal → TieBound totals f a b e
-    → After (screened t) (length (t .amounts)) j chosen gains criticals → Offerable totals least f e chosen gains
+    → f ≤ maxTotal → TieBound totals (t .tickets) f a b e
+    → After (screened t) (length (t .amounts)) j chosen gains criticals → Offerable totals (t .tickets) least f e chosen gains
 offerable t c j {least = least} {totals} A lj g low fl tied a =
     let n : length totals ≡ length (t .amounts) = long _ _ g in
     let m : length least ≡ length (t .amounts) = long _ _ (A .least-are) in
     record {
       few = omega (arith, A .within .shape .guests-most);
+      tickets-long = A .within .shape .tickets-length ∙ sym n;
       least-long = m ∙ sym n;
       chosen-long = long _ _ (a .chosen-are) ∙ sym n;
       gains-long = long _ _ (a .gains-are) ∙ sym n;
@@ -288,7 +292,6 @@ offerable t c j {least = least} {totals} A lj g low fl tied a =
           rw (element _ _ (A .least-are) k l) (product _ _ (A .cut-low) (A .within .amount-most k l));
       gains-low = λ k lk. a .gains-low k (omega (arith, long _ _ (a .gains-are)));
       critical-low = fl;
-      bound-low = omega (arith, tied .within, A .within .shape .guests-most);
       covers = λ k lk p. let l : k < length (t .amounts) = omega arith in
           rw (element _ _ g k l, element _ _ (A .least-are) k l) (total-covers _ _ c (rw (element _ _ g k l) at p));
       no-tie = tied .none;
@@ -307,6 +310,3 @@ module _ {n : ℕ} {f : ℕ → ℕ} {totals : List ℕ} {top : ℕ} (g : Gather
 
     pub critical-low : {b t a : ℕ} → Selected totals b t a → t ≤ maxTotal
     critical-low s = omega (arith, selected-low {top = top} s none-above, top-low)
-
-pub few-above : {l : List ℕ} {b t a : ℕ} (n : ℕ) → Selected l b t a → length l ≤ n → a ≤ n
-few-above {l} {t = t} n s h = omega (arith, s .counted, above-most l t)

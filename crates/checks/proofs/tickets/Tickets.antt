@@ -16,7 +16,8 @@ use Rattle.model.specs.market.Faults.{repeats}
 use Rattle.model.proofs.Tests.{le-no, not-eq, eq-or-ne}
 use Rattle.model.proofs.Counting.{some-no, none-some}
 use Rattle.model.proofs.Loops.{Folded, folded-end, some-none, some-turn}
-use Rattle.model.proofs.market.Acceptance.{Differ, no-repeats}
+use Rattle.model.specs.claims.Meaning.{Differ}
+use Rattle.model.proofs.market.Acceptance.{no-repeats}
 use Rattle.checks.specs.Tickets.{fallsAfter, rising, standsBefore, slots, slot}
 
 -- ---- lists that rise

@@ -16,7 +16,7 @@ use Rattle.model.specs.market.Faults.{outside, repeats, counts, lengths,
 use Rattle.model.specs.market.Faults.{verdict, Accepted, clearingFaults}
 use Rattle.model.specs.book.PlainBook.{PlainBook, entered, overLimit, bookSize, outOfTurn, postingFaults}
 use Rattle.model.specs.market.Outcome.{Results}
-use Rattle.model.specs.claims.Meaning.{WithinLimits, AcceptedIffWithinLimits, CallWithinLimits}
+use Rattle.model.specs.claims.Meaning.{Differ, WithinLimits, AcceptedIffWithinLimits, CallWithinLimits}
 use Rattle.model.specs.claims.Meaning.{CallAcceptedIffWithinLimits, AccountsWithin, PostingWithinLimits}
 use Rattle.model.specs.claims.Meaning.{PostingAcceptedIffWithinLimits}
 use Rattle.model.proofs.Tests.{or-no, neither, lt-no, not-lt, le-no, not-le, eq-yes, eq-no, is-eq, not-eq}
@@ -52,10 +52,6 @@ equal a b e = eq-yes a b (not-false _ e)
 
 not-unequal : (a b : ℕ) → a ≡ b → not (a =? b) ≡ false
 not-unequal a b e = ap not (is-eq a b e)
-
--- no two places hold the same number, in the order of the places and in none
-abbrev pub Differ : List ℕ → Type 0
-Differ xs = (i k : ℕ) → i < k → k < length xs → getD xs i 0 ≡ getD xs k 0 → ⊥
 
 pub repeats-no : (xs : List ℕ) → repeats xs ≡ false → Differ xs
 unfolding repeats

@@ -18,6 +18,10 @@ use Rattle.model.specs.market.Faults.{Accepted, clearingFaults}
 use Rattle.model.specs.book.PlainBook.{PlainBook, entered, postingFaults}
 use Rattle.model.specs.market.Gains.{guestGain, stationGain}
 
+-- no two places hold the same number
+abbrev pub Differ : List ℕ → Type 0
+Differ xs = (i k : ℕ) → i < k → k < length xs → getD xs i 0 ≡ getD xs k 0 → ⊥
+
 -- 'A market'
 pub record WithinLimits (t : Tables) : Type 0 where
   pub shape : Shaped t
@@ -26,7 +30,7 @@ pub record WithinLimits (t : Tables) : Type 0 where
   pub bays-most : (j : ℕ) → j < length (t .asks) → getD (t .bays) j 0 ≤ maxBays
   pub amount-least : (i : ℕ) → i < length (t .amounts) → 1 ≤ getD (t .amounts) i 0
   pub amount-most : (i : ℕ) → i < length (t .amounts) → getD (t .amounts) i 0 ≤ maxAmount
-  pub tickets-differ : (i k : ℕ) → i < k → k < length (t .tickets) → getD (t .tickets) i 0 ≡ getD (t .tickets) k 0 → ⊥
+  pub tickets-differ : Differ (t .tickets)
   pub bid-most : (q : ℕ) → q < length (t .bids) → getD (t .bids) q 0 ≤ maxPrice
 
 -- a market is accepted exactly within these limits

@@ -9,15 +9,17 @@ use Rattle.allocation.proofs.assignment.all_stations.Statement.{stateme
 use Rattle.allocation.proofs.assignment.all_stations.Tie as tie
 
 abbrev Inv-loop : tie.InvT-loop
-Inv-loop asks bays amounts bids cut least totals₀ chosen₀ gains₀ criticals₀ j₀ totals chosen gains criticals j =
-    Turning (regular asks bays amounts bids) (cut .0) j totals₀ totals chosen gains criticals
+Inv-loop asks bays amounts tickets bids rising cut least totals₀ chosen₀ gains₀ criticals₀ j₀ totals chosen gains
+    criticals j =
+    Turning (regular asks bays amounts tickets bids) (cut .0) j totals₀ totals chosen gains criticals
 
 abbrev μ-loop : tie.MeasureT-loop
-μ-loop asks bays amounts bids cut least totals₀ chosen₀ gains₀ criticals₀ j₀ totals chosen gains criticals j =
+μ-loop asks bays amounts tickets bids rising cut least totals₀ chosen₀ gains₀ criticals₀ j₀ totals chosen gains
+    criticals j =
     length asks - j
 
 abbrev entry-before-first-turn : tie.After-slice-known4 Inv-loop μ-loop → tie.Start Inv-loop μ-loop
-entry-before-first-turn p = p .before .before .before .before .before .before .before .before .before
+entry-before-first-turn p = p .before .before .before .before .before .before .before .before .before .before
 
 abbrev entry-before-loop : tie.At-loop Inv-loop μ-loop → tie.Start Inv-loop μ-loop
 entry-before-loop p = entry-before-first-turn (p .before)
@@ -28,14 +30,19 @@ station-before-next-turn p = p .before .before .before .before .before .before .
 loop-holds : tie.Need-loop-holds Inv-loop μ-loop
 loop-holds c =
     let entry = entry-before-first-turn c in
-    turning-none (entry .pre .1 .0) (entry .pre .1 .1)
+    turning-none (entry .pre .1 .0 .1) (entry .pre .1 .1)
 
 station-requires : tie.Need-station-requires Inv-loop μ-loop
 station-requires c κs =
     let at-loop-test = c .before .before .before .before in
     let at-loop = at-loop-test .before in
-    let entry = entry-before-loop at-loop in
-    (entry .pre .0, ((at-loop-test .loop-test .taken, at-loop .loop .inv .long), at-loop .loop .inv .turned .after))
+    let entry = entry-before-loop at-loop in (
+      entry .pre .0,
+      (
+        entry .pre .1 .0 .0,
+        ((at-loop-test .loop-test .taken, at-loop .loop .inv .long), at-loop .loop .inv .turned .after),
+      ),
+    )
 
 loop-again : tie.Need-loop-again Inv-loop μ-loop
 loop-again c =
@@ -44,12 +51,12 @@ loop-again c =
     let at-loop-test = at-call .before .before .before .before in
     let at-loop = at-loop-test .before in
     turning-more (at-loop .loop .inv) (at-loop-test .loop-test .taken)
-    (at-station .station .kept .1 .1 .1 .1 .1 .1 .1 .0) (at-station .station .ensures)
+    (at-station .station .kept .1 .1 .1 .1 .1 .1 .1 .1 .1 .0) (at-station .station .ensures)
 
 same-length : tie.Need-same-length Inv-loop μ-loop
 same-length c =
     let entry = entry-before-loop (c .before) in
-    c .before .loop .inv .long ∙ sym (entry .pre .1 .0)
+    c .before .loop .inv .long ∙ sym (entry .pre .1 .0 .1)
 
 same-length-2 : tie.Need-same-length-2 Inv-loop μ-loop
 same-length-2 c =

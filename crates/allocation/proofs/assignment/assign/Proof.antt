@@ -7,7 +7,7 @@ use Rattle.allocation.proofs.assignment.assign.Tie as tie
 abbrev entry-before-all-stations : tie.After-all-stations-arg4 → tie.Start
 entry-before-all-stations p =
     p .before .before .before .before .before .before .before .before .before .before .before .before
-    .before .before .before
+    .before .before .before .before
 
 abbrev all-stations-before-charges : tie.After-charge-guests-arg4 → tie.After-all-stations
 all-stations-before-charges p =
@@ -22,7 +22,7 @@ charge-guests-requires : tie.Need-charge-guests-requires
 charge-guests-requires c κs =
     let at-all-stations = all-stations-before-charges c in
     let entry = entry-before-all-stations (at-all-stations .before) in
-    chargeable (regular _ _ _ _) (entry .pre .0) (at-all-stations .all-stations .ensures .after)
+    chargeable (regular _ _ _ _ _) (entry .pre .0) (at-all-stations .all-stations .ensures .after)
     (entry .pre .1 .1 .1 .0) (entry .pre .1 .1 .1 .1)
 
 returns : tie.Need-returns
@@ -31,7 +31,7 @@ returns c =
     let at-all-stations = all-stations-before-charges (at-charge-guests .before) in
     let entry = entry-before-all-stations (at-all-stations .before) in (
       at-all-stations .all-stations .ensures,
-      assigned (regular _ _ _ _) (entry .pre .0) (at-all-stations .all-stations .ensures .after)
+      assigned (regular _ _ _ _ _) (entry .pre .0) (at-all-stations .all-stations .ensures .after)
           (at-charge-guests .charge-guests .ensures),
     )
 

@@ -7,7 +7,8 @@ use Rattle.allocation.proofs.assignment.assign_all.Statement.{statement
 use Rattle.allocation.proofs.assignment.assign_all.Tie as tie
 
 abbrev entry-before-totals : tie.After-totals → tie.Start
-entry-before-totals p = p .before .before .before .before .before .before .before .before
+entry-before-totals p =
+    p .before .before .before .before .before .before .before .before .before .before
 
 slice-aggregate-assign : tie.Need-slice-aggregate-assign
 slice-aggregate-assign c =
@@ -27,9 +28,11 @@ slice-aggregate-assign-3 c =
 assign-requires : tie.Need-assign-requires
 assign-requires c κs =
     let at-gains = c .before .before .before in
-    let entry = entry-before-totals (at-gains .before .before) in
+    let at-totals = at-gains .before .before in
+    let at-rising = at-totals .before in
+    let entry = entry-before-totals at-totals in
     let most = entry .pre .0 .within .shape .guests-most in
-    (entry .pre .0, (sym (zeros-long maxGuests _ most), (after-none most, entry .pre .1)))
+    (entry .pre .0, ((at-rising .rising .ensures, sym (zeros-long maxGuests _ most)), (after-none most, entry .pre .1)))
 
 returns : tie.Need-returns
 returns c =
@@ -39,6 +42,6 @@ returns c =
 
 pub assign-all-spec : {M : Type 1} → statement M
 assign-all-spec =
-    tie.close (tie.spec (λ c. search needs) slice-aggregate-assign (λ c. search needs) slice-aggregate-assign-2
+    tie.close (tie.spec (λ c κs. search needs) (λ c. search needs) slice-aggregate-assign (λ c. search needs) slice-aggregate-assign-2
     (λ c. search needs) slice-aggregate-assign-3 (λ c. search needs) assign-requires (λ c. search needs)
     (λ c. search needs) returns)

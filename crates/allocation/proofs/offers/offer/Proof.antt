@@ -1,5 +1,5 @@
 use Prim.Native.Nat.{_+_, _-_, _≤_}
-use mathlib.Core.Path.{sym, _∙_}
+use mathlib.Core.Path.{refl, sym, _∙_}
 use native.Mathlib.Omega.{arith}
 use lib.ListN.{length}
 use borrow.Author.Needs.{needs}
@@ -10,20 +10,23 @@ use Rattle.allocation.proofs.offers.offer.Statement.{statement}
 use Rattle.allocation.proofs.offers.offer.Tie as tie
 
 abbrev Inv-loop : tie.InvT-loop
-Inv-loop totals least critical bound station chosen₀ gains₀ i₀ chosen gains i =
-    Offering totals least (critical .0) bound station chosen₀ gains₀ i chosen gains
+Inv-loop totals tickets least critical bound station chosen₀ gains₀ i₀ chosen gains i =
+    Offering totals tickets least (critical .0) bound station chosen₀ gains₀ i chosen gains
 
 abbrev μ-loop : tie.MeasureT-loop
-μ-loop totals least critical bound station chosen₀ gains₀ i₀ chosen gains i = length totals - i
+μ-loop totals tickets least critical bound station chosen₀ gains₀ i₀ chosen gains i = length totals - i
 
 loop-holds : tie.Need-loop-holds Inv-loop μ-loop
-loop-holds c = offers-none (c .before .before .before .before .pre)
+loop-holds c = let entry = c .before .before .before .before in offers-none (entry .before .pre)
 
 abbrev entry-before-loop : tie.At-loop Inv-loop μ-loop → tie.Start Inv-loop μ-loop
-entry-before-loop p = p .before .before .before .before .before
+entry-before-loop p = p .before .before .before .before .before .before
+
+abbrev wide-before-wins : tie.After-wins Inv-loop μ-loop → tie.After-wide Inv-loop μ-loop
+wide-before-wins p = p .before .before .before .before .before
 
 abbrev wide-before-gain-for : tie.After-gain-for Inv-loop μ-loop → tie.After-wide Inv-loop μ-loop
-wide-before-gain-for p = p .before .before .before .before .before
+wide-before-gain-for p = wide-before-wins (p .before)
 
 larger-small-requires : tie.Need-larger-small-requires Inv-loop μ-loop
 larger-small-requires c κs =
@@ -42,13 +45,11 @@ larger-small-requires c κs =
 
 wins-requires : tie.Need-wins-requires Inv-loop μ-loop
 wins-requires c κs =
-    let at-wide = c .before .before .before in
+    let at-wide = c .before .before .before .before in
     let at-loop-test = at-wide .before .before in
     let entry = entry-before-loop (at-loop-test .before) in (
       entry .pre .no-tie,
       (
-        omega (arith, entry .pre .few, at-loop-test .loop-test .taken),
-        omega (arith, entry .pre .bound-low),
         omega (arith, at-wide .wide .ensures, entry .pre .totals-low _ (at-loop-test .loop-test .taken)),
         entry .pre .critical-low,
       ),
@@ -56,15 +57,16 @@ wins-requires c κs =
 
 gain-for-requires : tie.Need-gain-for-requires Inv-loop μ-loop
 gain-for-requires c κs =
-    let at-wide = c .before .before .before .before in
+    let at-wide = wide-before-wins c in
+    let at-larger-small = c .before .before in
     let at-loop-test = at-wide .before .before in
     let entry = entry-before-loop (at-loop-test .before) in (
       omega (arith, at-wide .wide .ensures, entry .pre .totals-low _ (at-loop-test .loop-test .taken)),
-      (λ w. rw (c .before .larger-small .ensures) (won-pays _ _ _ _ _
+      (λ w. rw (at-larger-small .larger-small .ensures) (won-pays _ _ _ _ _
           (λ p. omega (
             arith,
             at-wide .wide .ensures,
-            c .before .before .wide2 .ensures,
+            at-larger-small .before .wide2 .ensures,
             entry .pre .covers _ (at-loop-test .loop-test .taken) (omega (arith, at-wide .wide .ensures)),
           ))
           (entry .pre .no-tie) (sym (c .wins .ensures) ∙ w))),
@@ -106,12 +108,12 @@ loop-again c =
     let at-wide3 = c .before .before .before .before in
     let at-gain-for = at-wide3 .before .before in
     let at-wins = at-gain-for .before in
-    let at-larger-small = at-wins .before in
+    let at-larger-small = at-wins .before .before in
     let at-wide2 = at-larger-small .before in
     let at-wide = at-wide2 .before .before in
     let at-loop-test = at-wide .before .before in
     let at-loop = at-loop-test .before in
-    offers-more (at-loop .loop .inv) (at-loop-test .loop-test .taken) (at-wide .wide .ensures)
+    offers-more (at-loop .loop .inv) (at-loop-test .loop-test .taken) (at-wide .wide .ensures) refl
     (at-wide2 .wide2 .ensures) (at-wide3 .wide3 .ensures) (at-wins .wins .ensures)
     (at-larger-small .larger-small .ensures) (at-gain-for .gain-for .ensures) (c .before .before .pick .ensures)
     (c .narrow .ensures ∙ c .before .larger-small2 .ensures)
@@ -123,7 +125,7 @@ pub offer-spec : {M : Type 1} → statement M
 offer-spec =
     tie.close (tie.spec Inv-loop μ-loop loop-holds (λ c. search needs) (λ c. search needs) (λ c κs. search needs)
     (λ c. search needs) (λ c. search needs) (λ c κs. search needs) larger-small-requires (λ c. search needs)
-    wins-requires gain-for-requires (λ c. search needs) (λ c. search needs) (λ c κs. search needs)
+    (λ c. search needs) wins-requires gain-for-requires (λ c. search needs) (λ c. search needs) (λ c κs. search needs)
     (λ c. search needs) (λ c. search needs) pick-requires (λ c. search needs) (λ c. search needs)
     larger-small-requires-2 narrow-requires (λ c. search needs) (λ c. search needs) (λ c. search needs)
     (λ c. search needs) loop-again (λ c. search needs) (λ c. search needs) returns)

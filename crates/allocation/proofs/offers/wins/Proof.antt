@@ -4,7 +4,7 @@ use Rattle.allocation.proofs.offers.wins.Statement.{statement}
 use Rattle.allocation.proofs.offers.wins.Tie as tie
 
 bar-requires : tie.Need-bar-requires
-bar-requires c κs = (c .pre .0, (c .pre .1 .0, c .pre .1 .1))
+bar-requires c κs = c .pre .0
 
 below-small-requires : tie.Need-below-small-requires
 below-small-requires c κs = (omega (arith, c .bar .ensures), omega arith)

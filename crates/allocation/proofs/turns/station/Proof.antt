@@ -10,14 +10,16 @@ use Rattle.model.proofs.Tests.{lt-yes, lt-no}
 use Rattle.model.proofs.Loops.{long}
 use Rattle.allocation.specs.Totals.{Totals, totalAt, Gathered}
 use Rattle.allocation.specs.Stages.{gatheredIf, turnTotals}
-use Rattle.allocation.proofs.turns.Turns.{few-above, offerable, all-low, none-above, top-low, critical-low}
+use Rattle.allocation.proofs.ties.Ties.{crowded}
+use Rattle.allocation.proofs.turns.Turns.{offerable, all-low, none-above, top-low, critical-low}
 use Rattle.allocation.proofs.turns.Turns.{after-closed-turn}
 use Rattle.allocation.proofs.turns.Turns.{after-open-turn}
 use Rattle.allocation.proofs.turns.station.Statement.{statement}
 use Rattle.allocation.proofs.turns.station.Tie as tie
 
 abbrev entry-before-below : tie.After-below → tie.Start
-entry-before-below p = p .before .before .before .before .before .before .before .before .before .before .before
+entry-before-below p =
+    p .before .before .before .before .before .before .before .before .before .before .before .before
 
 abbrev entry-before-gather : tie.After-gather → tie.Start
 entry-before-gather p = entry-before-below (p .before .before .before)
@@ -47,18 +49,18 @@ few c g = omega (arith, long _ _ (g .totals-are), entry-before-gather c .pre .0 
 low : (c : tie.After-gather) {l : List ℕ} {top : ℕ} → Here c l top → Totals l
 low c g =
     let entry = entry-before-gather c in
-    all-low (regular _ _ _ _) _ _ (entry .pre .0) _ (entry .pre .1 .0 .0) (opened c) _ (g .totals-are)
+    all-low (regular _ _ _ _ _) _ _ (entry .pre .0) _ (entry .pre .1 .1 .0 .0) (opened c) _ (g .totals-are)
 
 -- the station's number is within the limits
 numbered : (c : tie.After-critical-total) → entry-before-critical c .args .j < maxStations
 numbered c =
     let entry = entry-before-critical c in
-    omega (arith, entry .pre .1 .0 .0, entry .pre .0 .within .shape .stations-most)
+    omega (arith, entry .pre .1 .1 .0 .0, entry .pre .0 .within .shape .stations-most)
 
 cast-b : tie.Need-cast-b
 cast-b c =
     let entry = entry-before-gather (c .before .before .before) in
-    omega (arith, c .shared-slice-known7 .given (entry .args .j))
+    omega (arith, c .shared-slice-known8 .given (entry .args .j))
 
 critical-total-requires : tie.Need-critical-total-requires
 critical-total-requires c κs =
@@ -71,7 +73,18 @@ tie-bound-requires c κs =
     let at-critical = c .before in
     let at-gather = gather-before-critical at-critical in
     let g = at-gather .gather .ensures in
-    (few at-gather g, few-above maxGuests (at-critical .critical-total .ensures) (few at-gather g))
+    let entry = entry-before-gather at-gather in
+    let within = entry .pre .0 .within in
+    let critical = at-critical .critical-total .ensures in
+    record {
+      few = few at-gather g;
+      as-long = within .shape .tickets-length ∙ sym (long _ _ (g .totals-are));
+      differ = within .tickets-differ;
+      rise = entry .pre .1 .0;
+      low = critical-low g (low at-gather g) critical;
+      above-few = rw (critical .counted) (critical .least-few .few);
+      crowded = crowded _ critical;
+    }
 
 add-s : tie.Need-add-s
 add-s c = omega (arith, numbered (c .before .before))
@@ -91,9 +104,9 @@ slice-write-criticals c =
     let entry = entry-before-critical (c .before .before .before) in
     omega (
       arith,
-      entry .pre .1 .0 .0,
+      entry .pre .1 .1 .0 .0,
       entry .pre .0 .within .shape .stations-most,
-      long _ _ (entry .pre .1 .1 .criticals-are),
+      long _ _ (entry .pre .1 .1 .1 .criticals-are),
     )
 
 cast-offer : tie.Need-cast-offer
@@ -106,9 +119,9 @@ offer-requires c κs =
     let at-gather = gather-before-critical at-critical in
     let entry = entry-before-gather at-gather in
     let g = at-gather .gather .ensures in
-    offerable (regular _ _ _ _) _ _ (entry .pre .0) (entry .pre .1 .0 .0) (g .totals-are) (low at-gather g)
+    offerable (regular _ _ _ _ _) _ _ (entry .pre .0) (entry .pre .1 .1 .0 .0) (g .totals-are) (low at-gather g)
     (critical-low g (low at-gather g) (at-critical .critical-total .ensures))
-    (at-tie-bound .tie-bound .ensures) (entry .pre .1 .1)
+    (at-tie-bound .tie-bound .ensures) (entry .pre .1 .1 .1)
 
 returns : tie.Need-returns
 unfolding turnTotals gatheredIf
@@ -123,10 +136,10 @@ returns c =
     let entry = entry-before-below at-below in
     let g = at-gather .gather .ensures in
     let critical = at-critical .critical-total .ensures in (
-      rw (at-narrow .narrow .ensures) (after-open-turn (regular _ _ _ _) _ _ (entry .pre .0) _
-          (entry .pre .1 .0 .0) (opened at-gather)
+      rw (at-narrow .narrow .ensures) (after-open-turn (regular _ _ _ _ _) _ _ (entry .pre .0) _
+          (entry .pre .1 .1 .0 .0) (opened at-gather)
           _ (g .totals-are) _ _ _ refl (critical .least-few)
-          (rw (← critical .counted) (at-tie-bound .tie-bound .ensures)) _ refl (entry .pre .1 .1)
+          (rw (← critical .counted) (at-tie-bound .tie-bound .ensures)) _ refl (entry .pre .1 .1 .1)
           (at-offer .offer .ensures)),
       rw (sym (at-below .below .ensures) ∙ at-open .if1 .taken) (g .totals-are),
     )
@@ -135,8 +148,8 @@ returns-2 : tie.Need-returns-2
 unfolding turnTotals gatheredIf
 returns-2 c =
     let entry = entry-before-below (c .before) in (
-      after-closed-turn (regular _ _ _ _) _ _ (entry .pre .0)
-          (lt-no _ _ (sym (c .before .below .ensures) ∙ c .if1 .left)) (entry .pre .1 .1),
+      after-closed-turn (regular _ _ _ _ _) _ _ (entry .pre .0)
+          (lt-no _ _ (sym (c .before .below .ensures) ∙ c .if1 .left)) (entry .pre .1 .1 .1),
       rw (sym (c .before .below .ensures) ∙ c .if1 .left) refl,
     )
 
