@@ -3,20 +3,20 @@ use Rattle.model.specs.Counting.{_<?_, _≤?_, _=?_, _and_, _or_, only, 
 use Rattle.model.specs.Counting.{joined}
 use Rattle.model.specs.Numbers.{answerOfClearing}
 use Rattle.model.specs.Verdicts.{firstFault, giving, updated}
-use Rattle.model.specs.market.Market.{bidAt, marketBy, median, byNumber, market, cut, opens, screen, queue}
+use Rattle.model.specs.market.Market.{bidAt, marketBy, median, market, cut, opens, screen, queue}
 use Rattle.model.specs.market.Market.{before, rank, provisional, critical}
 use Rattle.model.specs.market.Mechanism.{at, charge, charged, obtained, sold, paid, margin, better, best, surplus}
 use Rattle.model.specs.market.Mechanism.{truthful}
 use Rattle.model.specs.market.Outcome.{outcomeBy, screened, decision, outcome}
-use Rattle.model.specs.market.Faults.{outside, counts, lengths, values, listLengths, marketFaults, verdict}
-use Rattle.model.specs.market.Faults.{clearingFaults}
+use Rattle.model.specs.market.Faults.{outside, repeats, counts, lengths, values, listLengths, marketFaults}
+use Rattle.model.specs.market.Faults.{verdict, clearingFaults}
 use Rattle.model.specs.market.Gains.{guestGain, stationGain}
 use Rattle.model.specs.book.PlainBook.{raised, entered, overLimit, bookSize, outOfTurn, postingFaults, emptyPlain}
 use Rattle.model.specs.book.PlainBook.{answer, after, answers, final}
 use Rattle.model.specs.book.Book.{soldOf, paidOf, emptyBook, plain}
 use Rattle.model.specs.sheet.Fields.{littleEndian, mapWidth, hasBit}
-use Rattle.model.specs.sheet.Rows.{mapAt, bidsAt, nextAt, rowAt, askOf, baysOf, amountOf, bidBy, bidOf, rowFaults}
-use Rattle.model.specs.sheet.Rows.{rowsFaults}
+use Rattle.model.specs.sheet.Rows.{mapAt, bidsAt, nextAt, rowAt, askOf, baysOf, amountOf, ticketOf, bidBy, bidOf}
+use Rattle.model.specs.sheet.Rows.{rowFaults, rowsFaults}
 use Rattle.model.specs.sheet.Content.{guests, stations, tablesOf, sheetFaults, readSheet}
 use Rattle.model.specs.sheet.Layout.{bytesOf, pack, station, stated, row, layout}
 use Rattle.model.specs.sheet.Shortest.{bidden, shortest, writingFaults}
@@ -32,9 +32,9 @@ unfolding _<?_ _≤?_ _=?_ _and_ _or_ only sum greatest count some any list join
 counting-computes = tt
 
 unfoldable pub clearing-computes : Unit {0}
-unfolding counting-computes bidAt marketBy median byNumber market cut opens screen queue before rank provisional
+unfolding counting-computes bidAt marketBy median market cut opens screen queue before rank provisional
     critical at charge charged obtained sold paid margin better best surplus truthful outcomeBy screened decision
-    outcome guestGain stationGain outside counts lengths values listLengths marketFaults verdict clearingFaults
+    outcome guestGain stationGain outside repeats counts lengths values listLengths marketFaults verdict clearingFaults
     answerOfClearing
 clearing-computes = tt
 
@@ -44,13 +44,13 @@ unfolding clearing-computes raised entered overLimit bookSize outOfTurn postingF
 posting-computes = tt
 
 unfoldable pub reading-computes : Unit {0}
-unfolding counting-computes counts littleEndian mapWidth hasBit mapAt bidsAt nextAt rowAt askOf baysOf amountOf bidBy
-    bidOf rowFaults rowsFaults guests stations tablesOf sheetFaults readSheet tableLengths readVerdict
+unfolding counting-computes counts littleEndian mapWidth hasBit mapAt bidsAt nextAt rowAt askOf baysOf amountOf ticketOf
+    bidBy bidOf rowFaults rowsFaults guests stations tablesOf sheetFaults readSheet tableLengths readVerdict
 reading-computes = tt
 
 unfoldable pub writing-computes : Unit {0}
-unfolding counting-computes outside counts lengths values marketFaults bidAt mapWidth bytesOf pack station stated row
-    layout bidden shortest writingFaults
+unfolding counting-computes outside repeats counts lengths values marketFaults bidAt mapWidth bytesOf pack station
+    stated row layout bidden shortest writingFaults
 writing-computes = tt
 
 unfoldable pub printing-computes : Unit {0}
