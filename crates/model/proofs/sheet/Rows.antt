@@ -9,7 +9,7 @@ use native.Mathlib.Omega.{arith}
 use lib.ListN.{length}
 use Rattle.model.specs.Counting.{_<?_, count, joined}
 use Rattle.model.specs.Verdicts.{_gives_, accepted, refused, firstFault}
-use Rattle.model.proofs.Tests.{lt-no, is-lt, not-lt}
+use Rattle.model.proofs.Tests.{lt-no, is-lt, not-lt, lt-or-le}
 use Rattle.model.proofs.Verdicts.{fault-here, fault-later, fault-none, no-fault, fault-first, fault-second}
 use Rattle.model.proofs.Verdicts.{no-faults}
 use Rattle.model.specs.sheet.Fields.{mapWidth, hasBit}
@@ -23,24 +23,24 @@ unfolding bidsAt
 bids-at m p = refl
 
 module _ (s : List ℕ) (m p : ℕ) where
-  pub amount-ends : length s < p + 2 → firstFault (rowFaults s m p) ≡ refused 1
+  -- inside the amount or inside the ticket
+  pub head-ends : length s < p + 6 → firstFault (rowFaults s m p) ≡ refused 1
   unfolding rowFaults
-  amount-ends h = fault-here _ (is-lt _ _ h)
+  head-ends h = ⊎-elim
+      (λ (l : length s < p + 2). fault-here _ (is-lt _ _ l))
+      (λ (l : p + 2 ≤ length s). fault-later _ _ (not-lt _ _ l) ∙ fault-here _ (is-lt _ _ h))
+      (lt-or-le (length s) (p + 2))
 
-  pub ticket-ends : p + 2 ≤ length s → length s < p + 6 → firstFault (rowFaults s m p) ≡ refused 1
-  unfolding rowFaults
-  ticket-ends h g = fault-later _ _ (not-lt _ _ h) ∙ fault-here _ (is-lt _ _ g)
-
-  after-ticket :
+  after-head :
       p + 6 ≤ length s
       → firstFault (rowFaults s m p)
       ≡ firstFault ((length s <? bidsAt m p gives 1) ∷ (0 <? mapAt s m p / 2 ^ m gives 3)
       ∷ (length s <? nextAt s m p gives 1) ∷ [])
   unfolding rowFaults
-  after-ticket h = fault-later _ _ (not-lt _ _ (omega arith)) ∙ fault-later _ _ (not-lt _ _ h)
+  after-head h = fault-later _ _ (not-lt _ _ (omega arith)) ∙ fault-later _ _ (not-lt _ _ h)
 
   pub map-ends : p + 6 ≤ length s → length s < bidsAt m p → firstFault (rowFaults s m p) ≡ refused 1
-  map-ends h g = after-ticket h ∙ fault-here _ (is-lt _ _ g)
+  map-ends h g = after-head h ∙ fault-here _ (is-lt _ _ g)
 
 -- the map x of the row at p is taken, and its bids start at q
 pub record MapTaken (s : List ℕ) (m p x q : ℕ) : Type 0 where
@@ -54,7 +54,7 @@ module _ {s : List ℕ} {m p x q : ℕ} (t : MapTaken s m p x q) where
       ≡ firstFault ((0 <? x / 2 ^ m gives 3) ∷ (length s <? nextAt s m p gives 1) ∷ [])
   after-map =
       rw (t .map)
-      (after-ticket s m p (omega (arith, bids-at m p, t .within)) ∙ fault-later _ _ (not-lt _ _ (t .within)))
+      (after-head s m p (omega (arith, bids-at m p, t .within)) ∙ fault-later _ _ (not-lt _ _ (t .within)))
 
   pub stray : 0 < x / 2 ^ m → firstFault (rowFaults s m p) ≡ refused 3
   stray g = after-map ∙ fault-here _ (is-lt _ _ g)
@@ -89,7 +89,7 @@ row-sound s m p e =
 
 pub sound-row : {s : List ℕ} {m p : ℕ} → RowSound s m p → firstFault (rowFaults s m p) ≡ accepted tt
 sound-row {s} {m} {p} t =
-    after-ticket s m p (omega (arith, bids-at m p, t .map-in)) ∙ fault-later _ _ (not-lt _ _ (t .map-in))
+    after-head s m p (omega (arith, bids-at m p, t .map-in)) ∙ fault-later _ _ (not-lt _ _ (t .map-in))
     ∙ fault-later _ _ (not-lt _ _ (wide (mapAt s m p) m (t .no-stray)))
     ∙ fault-later _ _ (not-lt _ _ (t .bids-in)) ∙ fault-none
 
