@@ -1,5 +1,6 @@
 // The first fault of a market's tables, and of a call that clears them, in the order of document 01's table.
 use crate::scans;
+use crate::tickets;
 use model::answers::Verdict;
 use model::limits;
 use model::limits::MAX_AMOUNT;
@@ -17,11 +18,18 @@ ghost use Rattle.model.specs.Verdicts.{firstFault};
 ghost use Rattle.model.specs.market.Faults.{counts, lengths, values, verdict, clearingFaults};
 ghost use Rattle.model.specs.contracts.Lent.{tablesIn, regularIn, resultsIn};
 
-fn lengths_differ(n: usize, m: usize, bays: usize, bids: usize, width: usize) -> bool
+fn lengths_differ(
+    n: usize,
+    m: usize,
+    bays: usize,
+    tickets: usize,
+    bids: usize,
+    width: usize,
+) -> bool
     requires { ⌜ (n ≤ maxGuests) × (m ≤ maxStations) ⌝ }
-    ensures { λ r. ⌜ r ≡ (not (bays =? m) or not (bids =? n * m) or not (width =? m)) ⌝ }
+    ensures { λ r. ⌜ r ≡ (not (bays =? m) or not (tickets =? n) or not (bids =? n * m) or not (width =? m)) ⌝ }
 {
-    (bays != m) | (bids != n * m) | (width != m)
+    (bays != m) | (tickets != n) | (bids != n * m) | (width != m)
 }
 
 fn list_lengths_differ(
@@ -37,9 +45,15 @@ fn list_lengths_differ(
     (stations != n) | (charges != n) | (sold != m) | (paid != m)
 }
 
-// The first fault of a value: all asks, then all bays, then all amounts, then all bids.
-fn value_fault(asks: &[u32], bays: &[u16], amounts: &[u16], bids: &[u32]) -> Verdict
-    ensures { λ r. ⌜ answerOfVerdict r ≡ firstFault (values (regularIn asks bays amounts bids)) ⌝ }
+// The first fault of a value: all asks, then all bays, then all amounts, then all bids, then two equal tickets.
+fn value_fault(
+    asks: &[u32],
+    bays: &[u16],
+    amounts: &[u16],
+    tickets: &[u32],
+    bids: &[u32],
+) -> Verdict
+    ensures { λ r. ⌜ answerOfVerdict r ≡ firstFault (values (regularIn asks bays amounts tickets bids)) ⌝ }
 {
     if scans::any_outside32(asks, 0, MAX_PRICE) {
         return Verdict::Refused(Refusal::AskOutOfRange);
@@ -53,17 +67,20 @@ fn value_fault(asks: &[u32], bays: &[u16], amounts: &[u16], bids: &[u32]) -> Ver
     if scans::any_outside32(bids, 0, MAX_PRICE) {
         return Verdict::Refused(Refusal::BidOutOfRange);
     }
+    if tickets::any_repeats(tickets) {
+        return Verdict::Refused(Refusal::TicketsRepeat);
+    }
     Verdict::Accepted
 }
 
 // The counts, then the lengths of the tables. The counts come first, so that n times m cannot wrap.
-fn size_fault(n: usize, m: usize, bays: usize, bids: usize, width: usize) -> Verdict
-    ensures { λ r. ⌜ answerOfVerdict r ≡ firstFault (counts n m ∷ lengths n m bays bids width ∷ []) ⌝ }
+fn size_fault(n: usize, m: usize, bays: usize, tickets: usize, bids: usize, width: usize) -> Verdict
+    ensures { λ r. ⌜ answerOfVerdict r ≡ firstFault (counts n m ∷ lengths n m bays tickets bids width ∷ []) ⌝ }
 {
     if limits::counts_out_of_range(n, m) {
         return Verdict::Refused(Refusal::CountsOutOfRange);
     }
-    if lengths_differ(n, m, bays, bids, width) {
+    if lengths_differ(n, m, bays, tickets, bids, width) {
         return Verdict::Refused(Refusal::LengthsDiffer);
     }
     Verdict::Accepted
@@ -74,14 +91,22 @@ pub fn market_fault(
     asks: &[u32],
     bays: &[u16],
     amounts: &[u16],
+    tickets: &[u32],
     bids: &[u32],
     width: usize,
 ) -> Verdict
-    ensures { λ r. ⌜ answerOfVerdict r ≡ verdict (tablesIn asks bays amounts bids width) ⌝ }
+    ensures { λ r. ⌜ answerOfVerdict r ≡ verdict (tablesIn asks bays amounts tickets bids width) ⌝ }
 {
-    match size_fault(amounts.len(), asks.len(), bays.len(), bids.len(), width) {
+    match size_fault(
+        amounts.len(),
+        asks.len(),
+        bays.len(),
+        tickets.len(),
+        bids.len(),
+        width,
+    ) {
         Verdict::Refused(refusal) => Verdict::Refused(refusal),
-        Verdict::Accepted => value_fault(asks, bays, amounts, bids),
+        Verdict::Accepted => value_fault(asks, bays, amounts, tickets, bids),
     }
 }
 
@@ -90,6 +115,7 @@ pub fn clearing_fault(
     asks: &[u32],
     bays: &[u16],
     amounts: &[u16],
+    tickets: &[u32],
     bids: &[u32],
     width: usize,
     stations: &[u16],
@@ -98,17 +124,17 @@ pub fn clearing_fault(
     paid: &[u64],
 ) -> Verdict
     ensures { λ r. ⌜ answerOfVerdict r ≡ firstFault (clearingFaults
-        (tablesIn asks bays amounts bids width) (resultsIn stations charges sold paid)) ⌝ }
+        (tablesIn asks bays amounts tickets bids width) (resultsIn stations charges sold paid)) ⌝ }
 {
     let n = amounts.len();
     let m = asks.len();
-    match size_fault(n, m, bays.len(), bids.len(), width) {
+    match size_fault(n, m, bays.len(), tickets.len(), bids.len(), width) {
         Verdict::Refused(refusal) => Verdict::Refused(refusal),
         Verdict::Accepted => {
             if list_lengths_differ(n, m, stations.len(), charges.len(), sold.len(), paid.len()) {
                 return Verdict::Refused(Refusal::LentLengths);
             }
-            value_fault(asks, bays, amounts, bids)
+            value_fault(asks, bays, amounts, tickets, bids)
         }
     }
 }

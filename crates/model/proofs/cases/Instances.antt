@@ -57,7 +57,8 @@ numbers = record {
 
 guests-alike : AlikeButForGuest caseG overbid 1
 unfolding pair caseG overbid bidAt
-guests-alike = record { same-asks = refl; same-bays = refl; same-amounts = refl; same-bids = row }
+guests-alike =
+    record { same-asks = refl; same-bays = refl; same-amounts = refl; same-tickets = refl; same-bids = row }
   where
     row : (k j : ℕ) → k < 2 → j < 2 → (k ≡ 1 → ⊥) → bidAt overbid k j ≡ bidAt caseG k j
     row zero zero lk lj n = refl
@@ -68,7 +69,15 @@ guests-alike = record { same-asks = refl; same-bays = refl; same-amounts = refl;
 
 stations-alike : AlikeButForStation costly underasked 0
 unfolding costly underasked
-stations-alike = record { same-count = refl; same-asks = asks; same-bays = refl; same-amounts = refl; same-bids = refl }
+stations-alike =
+    record {
+      same-count = refl;
+      same-asks = asks;
+      same-bays = refl;
+      same-amounts = refl;
+      same-tickets = refl;
+      same-bids = refl;
+    }
   where
     asks : (k : ℕ) → k < 2 → (k ≡ 0 → ⊥) → getD (underasked .asks) k 0 ≡ getD (costly .asks) k 0
     asks zero l n = absurd (n refl)

@@ -24,15 +24,15 @@ lists = results (9 ∷ 9 ∷ []) (9 ∷ 9 ∷ []) (9 ∷ 9 ∷ []) (9 ∷ 9 ∷ 
 
 -- case G: asks 2 and 6, one bay each, amounts 3 and 2, bids 9 and 10 at station 1
 abbrev pub honest : Tables
-honest = tables (2 ∷ 6 ∷ []) (1 ∷ 1 ∷ []) (3 ∷ 2 ∷ []) (9 ∷ 0 ∷ 10 ∷ 0 ∷ []) 2
+honest = tables (2 ∷ 6 ∷ []) (1 ∷ 1 ∷ []) (3 ∷ 2 ∷ []) (1 ∷ 2 ∷ []) (9 ∷ 0 ∷ 10 ∷ 0 ∷ []) 2
 
 -- guest 2 states 14 where its worth is 10
 abbrev pub overbid : Tables
-overbid = tables (2 ∷ 6 ∷ []) (1 ∷ 1 ∷ []) (3 ∷ 2 ∷ []) (9 ∷ 0 ∷ 14 ∷ 0 ∷ []) 2
+overbid = tables (2 ∷ 6 ∷ []) (1 ∷ 1 ∷ []) (3 ∷ 2 ∷ []) (1 ∷ 2 ∷ []) (9 ∷ 0 ∷ 14 ∷ 0 ∷ []) 2
 
 -- station 1 asks 7 where its cost is 2
 abbrev pub overask : Tables
-overask = tables (7 ∷ 6 ∷ []) (1 ∷ 1 ∷ []) (3 ∷ 2 ∷ []) (9 ∷ 0 ∷ 10 ∷ 0 ∷ []) 2
+overask = tables (7 ∷ 6 ∷ []) (1 ∷ 1 ∷ []) (3 ∷ 2 ∷ []) (1 ∷ 2 ∷ []) (9 ∷ 0 ∷ 10 ∷ 0 ∷ []) 2
 
 abbrev cleared : (cut margin : ℕ) → Clearing
 cleared cut margin = Cleared (record { 0 = cut }) (record { 0 = margin })
@@ -66,7 +66,8 @@ calls = (
 -- the overbid loses guest 2 seven mills, where the truth gains it nothing
 alike-guest : AlikeButForGuest honest overbid 1
 unfolding bidAt
-alike-guest = record { same-asks = refl; same-bays = refl; same-amounts = refl; same-bids = same }
+alike-guest =
+    record { same-asks = refl; same-bays = refl; same-amounts = refl; same-tickets = refl; same-bids = same }
   where
     same : (k j : ℕ) → k < 2 → j < 2 → (k ≡ 1 → ⊥) → bidAt overbid k j ≡ bidAt honest k j
     same zero zero lk lj n = refl
@@ -81,7 +82,15 @@ guest-worked = guest-truthful-calls honest overbid (calls .0) (calls .1) 1 (omeg
 
 -- the higher ask costs station 1 the twelve mills that the truth gains it
 alike-station : AlikeButForStation honest overask 0
-alike-station = record { same-count = refl; same-asks = same; same-bays = refl; same-amounts = refl; same-bids = refl }
+alike-station =
+    record {
+      same-count = refl;
+      same-asks = same;
+      same-bays = refl;
+      same-amounts = refl;
+      same-tickets = refl;
+      same-bids = refl;
+    }
   where
     same : (k : ℕ) → k < 2 → (k ≡ 0 → ⊥) → getD (overask .asks) k 0 ≡ getD (honest .asks) k 0
     same zero l n = absurd (n refl)

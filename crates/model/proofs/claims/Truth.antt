@@ -10,7 +10,7 @@ use lib.ListN.{getD, length, List·getD-eq-default}
 use lib.Signed.{leZ}
 use borrow.Author.Tests.{ltb-true, ltb-false}
 use Rattle.model.specs.Counting.{sum}
-use Rattle.model.specs.market.Market.{Tables, bidAt, Market, marketBy, median, byNumber, market, screen}
+use Rattle.model.specs.market.Market.{Tables, bidAt, Market, marketBy, median, market, screen}
 use Rattle.model.specs.market.Mechanism.{at, charged, obtained, sold, paid, margin, truthful}
 use Rattle.model.specs.market.Outcome.{screened, decision}
 use Rattle.model.specs.market.Faults.{Accepted}
@@ -20,7 +20,7 @@ use Rattle.model.specs.claims.Truth.{SignedIffUnsigned, choice, MenuOf, 
 use Rattle.model.proofs.Tests.{lt-or-le}
 use Rattle.model.proofs.market.Acceptance.{accepted-iff-within-limits}
 use Rattle.model.proofs.market.Decisions.{charged-within-bid, payment-covers-ask, balance}
-use Rattle.model.proofs.market.Truthful.{numbers-differ, truthful-candidates, truthful-fair}
+use Rattle.model.proofs.market.Truthful.{tickets-single, truthful-candidates, truthful-fair}
 use Rattle.model.proofs.market.Menus.{choice-truth, menu, menu-below, menu-near, rebid, menu-assigned}
 use Rattle.model.proofs.market.Menus.{menu-charged}
 use Rattle.model.proofs.market.Stations.{reask, station-truth}
@@ -54,9 +54,9 @@ signed-iff-unsigned a b c d = (λ h. signed a b c d (h .le), λ h. record { le =
 -- ---- guests
 
 module _ (t t′ : Tables) (i : ℕ) (A : AlikeButForGuest t t′ i) where
-  rebid-market : (rule key : ℕ → ℕ) → rebid (marketBy rule key t) (bidAt t′) ≡ marketBy rule key t′
+  rebid-market : (rule : ℕ → ℕ) → rebid (marketBy rule t) (bidAt t′) ≡ marketBy rule t′
   unfolding marketBy
-  rebid-market rule key = λ x. record {
+  rebid-market rule = λ x. record {
     guestCount = length (sym (A .same-amounts) x);
     stationCount = length (sym (A .same-asks) x);
     position = rule (length (sym (A .same-asks) x));
@@ -64,12 +64,12 @@ module _ (t t′ : Tables) (i : ℕ) (A : AlikeButForGuest t t′ i) where
     bays = λ j. getD (sym (A .same-bays) x) j 0;
     amount = λ i. getD (sym (A .same-amounts) x) i 0;
     bid = bidAt t′;
-    key = key;
+    key = λ i. getD (sym (A .same-tickets) x) i 0;
   }
 
 module _ (rule : ℕ → ℕ) (t : Tables) (i : ℕ) (a : Accepted t) (li : i < length (t .amounts)) where
   abbrev M : Market
-  M = marketBy rule byNumber t
+  M = marketBy rule t
 
   -- in N guest i is assigned its choice by the totals that it states there, and charged the price
   abbrev ByMenu : Market → Type 0
@@ -83,12 +83,12 @@ module _ (rule : ℕ → ℕ) (t : Tables) (i : ℕ) (a : Accepted t) (li : i < 
   unfolding marketBy
   rebid-by-menu b alike =
       let w = accepted-iff-within-limits t .0 a in (
-        menu-assigned M (numbers-differ _) i li (w .amount-least i li) (w .bays-least) b alike,
-        menu-charged M (numbers-differ _) i li (w .amount-least i li) (w .bays-least) b alike,
+        menu-assigned M (tickets-single t a) i li (w .amount-least i li) (w .bays-least) b alike,
+        menu-charged M (tickets-single t a) i li (w .amount-least i li) (w .bays-least) b alike,
       )
 
-  by-menu : (t′ : Tables) → AlikeButForGuest t t′ i → ByMenu (marketBy rule byNumber t′)
-  by-menu t′ A = subst ByMenu (rebid-market t t′ i A rule byNumber) (rebid-by-menu (bidAt t′) (A .same-bids))
+  by-menu : (t′ : Tables) → AlikeButForGuest t t′ i → ByMenu (marketBy rule t′)
+  by-menu t′ A = subst ByMenu (rebid-market t t′ i A rule) (rebid-by-menu (bidAt t′) (A .same-bids))
 
   -- in its own market by its true totals
   worths : ℕ → ℕ
@@ -100,22 +100,28 @@ module _ (rule : ℕ → ℕ) (t : Tables) (i : ℕ) (a : Accepted t) (li : i < 
   unfolding worths screen marketBy
   by-worths = rebid-by-menu (bidAt t) (λ k j lk lj n. refl)
 
-  obtained-worths : (t′ : Tables) → AlikeButForGuest t t′ i → let S′ = screen (marketBy rule byNumber t′) in
+  obtained-worths : (t′ : Tables) → AlikeButForGuest t t′ i → let S′ = screen (marketBy rule t′) in
       obtained S′ (truthful S′) (bidAt t i) i ≡ at worths ((truthful S′) .assigned i)
   unfolding obtained worths screen marketBy
   obtained-worths t′ A =
-      ap (λ x. at (λ j. bidAt t i j * getD x i 0) ((truthful (screen (marketBy rule byNumber t′))) .assigned i))
+      ap (λ x. at (λ j. bidAt t i j * getD x i 0) ((truthful (screen (marketBy rule t′))) .assigned i))
       (A .same-amounts)
 
   gains-no-more :
-      (t′ : Tables) → AlikeButForGuest t t′ i → let S = screen M in let S′ = screen (marketBy rule byNumber t′) in
+      (t′ : Tables) → AlikeButForGuest t t′ i → let S = screen M in let S′ = screen (marketBy rule t′) in
       obtained S′ (truthful S′) (bidAt t i) i + charged S (truthful S) i
       ≤ obtained S (truthful S) (bidAt t i) i + charged S′ (truthful S′) i
   gains-no-more t′ A =
       let (e, c) = by-worths in
       let (e′, c′) = by-menu t′ A in
       let own = obtained-worths t
-      (record { same-asks = refl; same-bays = refl; same-amounts = refl; same-bids = λ k j lk lj n. refl }) in
+      (record {
+        same-asks = refl;
+        same-bays = refl;
+        same-amounts = refl;
+        same-tickets = refl;
+        same-bids = λ k j lk lj n. refl;
+      }) in
       rw (obtained-worths t′ A, own, e′, e, c′, c)
       (choice-truth (length (t .asks)) (menu M i) (menu-below M i) (menu-near M i) worths _)
 
@@ -139,9 +145,9 @@ guest-menu t i a li = (menu (market t) i, menu-of t i a li)
 -- ---- stations
 
 module _ (t t′ : Tables) (j : ℕ) (A : AlikeButForStation t t′ j) where
-  reask-market : (rule key : ℕ → ℕ) → reask (marketBy rule key t) (λ k. getD (t′ .asks) k 0) ≡ marketBy rule key t′
+  reask-market : (rule : ℕ → ℕ) → reask (marketBy rule t) (λ k. getD (t′ .asks) k 0) ≡ marketBy rule t′
   unfolding marketBy bidAt
-  reask-market rule key = λ x. record {
+  reask-market rule = λ x. record {
     guestCount = length (sym (A .same-amounts) x);
     stationCount = sym (A .same-count) x;
     position = rule (sym (A .same-count) x);
@@ -149,7 +155,7 @@ module _ (t t′ : Tables) (j : ℕ) (A : AlikeButForStation t t′ j) where
     bays = λ k. getD (sym (A .same-bays) x) k 0;
     amount = λ i. getD (sym (A .same-amounts) x) i 0;
     bid = λ i k. getD (sym (A .same-bids) x) (i * sym (A .same-count) x + k) 0;
-    key = key;
+    key = λ i. getD (sym (A .same-tickets) x) i 0;
   }
 
   -- beyond the tables' ends too
@@ -164,20 +170,20 @@ module _ (t t′ : Tables) (j : ℕ) (A : AlikeButForStation t t′ j) where
 module _ (rule : ℕ → ℕ) (t : Tables) (j : ℕ) where
   -- in N station j gains no more, with its ask in t as its cost
   abbrev NoMore : Market → Type 0
-  NoMore N = let S = screen (marketBy rule byNumber t) in let S′ = screen N in
+  NoMore N = let S = screen (marketBy rule t) in let S′ = screen N in
       paid S′ (truthful S′) j + getD (t .asks) j 0 * sold S (truthful S) j
       ≤ paid S (truthful S) j + getD (t .asks) j 0 * sold S′ (truthful S′) j
 
   reask-no-more :
-      (a : ℕ → ℕ) → ((k : ℕ) → (k ≡ j → ⊥) → a k ≡ getD (t .asks) k 0) → NoMore (reask (marketBy rule byNumber t) a)
+      (a : ℕ → ℕ) → ((k : ℕ) → (k ≡ j → ⊥) → a k ≡ getD (t .asks) k 0) → NoMore (reask (marketBy rule t) a)
   unfolding marketBy
   reask-no-more a alike =
-      station-truth truthful truthful-candidates (marketBy rule byNumber t) j a (λ k n. sym (alike k n))
+      station-truth truthful truthful-candidates (marketBy rule t) j a (λ k n. sym (alike k n))
 
 pub station-truthful : StationTruthful
 unfolding stationGain
 station-truthful rule t t′ j a a′ lj A = signed-iff-unsigned _ _ _ _ .1
-    (subst (NoMore rule t j) (reask-market t t′ j A rule byNumber)
+    (subst (NoMore rule t j) (reask-market t t′ j A rule)
     (reask-no-more rule t j (λ k. getD (t′ .asks) k 0) (asks-same t t′ j A)))
 
 -- ---- the limits of every clearing
@@ -193,7 +199,7 @@ balanced t = balance (screened t) (decision t) (truthful-candidates (screened t)
 pub clearing-limits : ClearingLimits
 unfolding screened decision market marketBy screen charged sold at
 clearing-limits t a =
-    let F = truthful-fair (screen (market t)) (numbers-differ _) in
+    let F = truthful-fair (screen (market t)) (tickets-single t a) in
     record {
       charge-within-bid = charged-within-bid (market t) (decision t) F;
       unassigned-free = λ i e. rw e;

@@ -2,24 +2,26 @@
 use Prim.Native.Nat.{ℕ, _*_, _≤_, _<_}
 use mathlib.Core.Bool.{false, not}
 use mathlib.Core.List.{List}
-use mathlib.Core.Path.{_≡_, ap}
+use mathlib.Core.Logic.{⊎-elim}
+use mathlib.Core.Path.{_≡_, sym, ap}
 use native.Mathlib.Omega.{arith}
-use native.Mathlib.Nat.{mul-le-mul-right}
+use native.Mathlib.Nat.{mul-le-mul-right, eq-or-lt-of-le}
 use lib.ListN.{getD, length}
 use borrow.Author.Tests.{not-false}
 use Rattle.model.specs.Limits.{maxGuests, maxStations, maxPrice}
 use Rattle.model.specs.Counting.{_<?_, _=?_, _or_, any}
 use Rattle.model.specs.Verdicts.{accepted, firstFault}
 use Rattle.model.specs.market.Market.{Tables}
-use Rattle.model.specs.market.Faults.{outside, counts, lengths, listLengths, values, marketFaults, verdict}
-use Rattle.model.specs.market.Faults.{Accepted, clearingFaults}
+use Rattle.model.specs.market.Faults.{outside, repeats, counts, lengths, listLengths, values, marketFaults}
+use Rattle.model.specs.market.Faults.{verdict, Accepted, clearingFaults}
 use Rattle.model.specs.book.PlainBook.{PlainBook, entered, overLimit, bookSize, outOfTurn, postingFaults}
 use Rattle.model.specs.market.Outcome.{Results}
 use Rattle.model.specs.claims.Meaning.{WithinLimits, AcceptedIffWithinLimits, CallWithinLimits}
 use Rattle.model.specs.claims.Meaning.{CallAcceptedIffWithinLimits, AccountsWithin, PostingWithinLimits}
 use Rattle.model.specs.claims.Meaning.{PostingAcceptedIffWithinLimits}
 use Rattle.model.proofs.Tests.{or-no, neither, lt-no, not-lt, le-no, not-le, eq-yes, eq-no, is-eq, not-eq}
-use Rattle.model.proofs.Counting.{any-no, none-any}
+use Rattle.model.proofs.Tests.{lt-or-le}
+use Rattle.model.proofs.Counting.{some-no, none-some, any-no, none-any}
 use Rattle.model.proofs.Verdicts.{fault-none, no-fault, no-faults, fault-second, fault-free}
 
 -- counts within the limits
@@ -51,6 +53,25 @@ equal a b e = eq-yes a b (not-false _ e)
 not-unequal : (a b : ℕ) → a ≡ b → not (a =? b) ≡ false
 not-unequal a b e = ap not (is-eq a b e)
 
+-- no two places hold the same number, in the order of the places and in none
+abbrev pub Differ : List ℕ → Type 0
+Differ xs = (i k : ℕ) → i < k → k < length xs → getD xs i 0 ≡ getD xs k 0 → ⊥
+
+pub repeats-no : (xs : List ℕ) → repeats xs ≡ false → Differ xs
+unfolding repeats
+repeats-no xs e i k l lk = eq-no _ _ (some-no k _ (some-no (length xs) _ e k lk) i l)
+
+pub no-repeats : (xs : List ℕ) → Differ xs → repeats xs ≡ false
+unfolding repeats
+no-repeats xs d = none-some (length xs) _ (λ k lk. none-some k _ (λ i l. not-eq _ _ (d i k l lk)))
+
+pub same-place :
+    (xs : List ℕ) → Differ xs → (k i : ℕ) → k < length xs → i < length xs → getD xs k 0 ≡ getD xs i 0 → k ≡ i
+same-place xs d k i lk li e = ⊎-elim
+    (λ (l : k < i). absurd (d k i l li e))
+    (λ (l : i ≤ k). ⊎-elim (λ q. sym q) (λ (l′ : i < k). absurd (d i k l′ lk (sym e))) (eq-or-lt-of-le l))
+    (lt-or-le k i)
+
 within : (t : Tables) → Accepted t → WithinLimits t
 unfolding verdict marketFaults counts lengths values
 within t e =
@@ -60,9 +81,11 @@ within t e =
     let (bays, e4) = no-fault _ _ _ e3 in
     let (amounts, e5) = no-fault _ _ _ e4 in
     let (bids, e6) = no-fault _ _ _ e5 in
+    let (tickets, e7) = no-fault _ _ _ e6 in
     let k = counted (length (t .amounts)) (length (t .asks)) c in
-    let (l01, width) = or-no _ _ l in
-    let (bay-list, bid-list) = or-no _ _ l01 in
+    let (l012, width) = or-no _ _ l in
+    let (l01, bid-list) = or-no _ _ l012 in
+    let (bay-list, ticket-list) = or-no _ _ l01 in
     let bays-long : length (t .bays) ≡ length (t .asks) = equal _ _ bay-list in
     record {
       shape = record {
@@ -70,6 +93,7 @@ within t e =
         stations-least = k .1;
         stations-most = k .2;
         bays-length = bays-long;
+        tickets-length = equal _ _ ticket-list;
         bids-length = equal _ _ bid-list;
         width-is = equal _ _ width;
       };
@@ -78,6 +102,7 @@ within t e =
       bays-most = λ j lj. all-inside _ _ _ bays j (omega arith) .1;
       amount-least = λ i li. all-inside _ _ _ amounts i li .0;
       amount-most = λ i li. all-inside _ _ _ amounts i li .1;
+      tickets-differ = repeats-no (t .tickets) tickets;
       bid-most = λ q lq. all-inside _ _ _ bids q lq .1;
     }
 
@@ -89,7 +114,8 @@ accept t w =
     (not-eq (length (t .asks)) 0 (λ q. omega (arith, w .shape .stations-least))))
     (not-lt _ _ (w .shape .stations-most)))
     (fault-free _ _ (neither
-    (neither (not-unequal _ _ (w .shape .bays-length)) (not-unequal _ _ (w .shape .bids-length)))
+    (neither (neither (not-unequal _ _ (w .shape .bays-length)) (not-unequal _ _ (w .shape .tickets-length)))
+    (not-unequal _ _ (w .shape .bids-length)))
     (not-unequal _ _ (w .shape .width-is)))
     (fault-free _ _ (none-any (t .asks) _ (λ j lj. not-outside 0 maxPrice _ (omega arith) (w .ask-most j lj)))
     (fault-free _ _ (none-any (t .bays) _ (
@@ -97,7 +123,8 @@ accept t w =
     not-outside _ _ _ (w .bays-least j l) (w .bays-most j l)))
     (fault-free _ _ (none-any (t .amounts) _ (λ i li. not-outside _ _ _ (w .amount-least i li) (w .amount-most i li)))
     (fault-free _ _ (none-any (t .bids) _ (λ q lq. not-outside 0 maxPrice _ (omega arith) (w .bid-most q lq)))
-    fault-none)))))
+    (fault-free _ _ (no-repeats (t .tickets) (w .tickets-differ))
+    fault-none))))))
 
 pub accepted-iff-within-limits : AcceptedIffWithinLimits
 accepted-iff-within-limits t = (within t, accept t)

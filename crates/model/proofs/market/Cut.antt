@@ -197,7 +197,7 @@ module _ (M : Market) (l s : List ℕ) (rs : Rising s) (rl : Rearranged s l) (sm
 
 pub cut-is-ask-at-position : CutIsAskAtPosition
 unfolding marketBy
-cut-is-ask-at-position rule key t s rs rl low high = at-position (marketBy rule key t) (t .asks) s rs rl refl refl
+cut-is-ask-at-position rule t s rs rl low high = at-position (marketBy rule t) (t .asks) s rs rl refl refl
     (rule (length (t .asks)) - 1) (omega arith) (omega arith)
 
 pub median-is-least-position : MedianIsLeastPosition

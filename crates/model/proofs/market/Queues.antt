@@ -7,11 +7,11 @@ use native.Mathlib.Nat.{le-refl, le-trans, le-antisymm, eq-or-lt-of-le, le-of-su
 use native.Mathlib.Omega.{arith}
 use borrow.Author.Tests.{not-true}
 use Rattle.model.specs.Counting.{_<?_, _=?_, _and_, only, count}
-use Rattle.model.specs.market.Market.{Queue, before, rank, provisional, critical}
+use Rattle.model.specs.market.Market.{Queue, before, rank, provisional, firstOut, critical}
 use Rattle.model.specs.claims.Meaning.{RanksInOrder, CriticalIsFirstOut}
 use Rattle.model.proofs.Tests.{decide, clash, both, first, second, and-false, not-not, or-cases, or-left}
 use Rattle.model.proofs.Tests.{or-right, neither, only-le, le-only, lt-yes, lt-no, eq-yes, eq-no, is-lt, not-lt}
-use Rattle.model.proofs.Tests.{is-eq, lt-or-le}
+use Rattle.model.proofs.Tests.{is-eq, lt-or-le, same-test}
 use Rattle.model.proofs.Counting.{count-mono, count-strict, count-or, count-none, count-one, le-greatest}
 use Rattle.model.proofs.Counting.{greatest-le, search-below}
 
@@ -48,6 +48,12 @@ pub before-self : (Q : Queue) (a : ℕ) → before Q a a ≡ false
 unfolding before
 before-self Q a =
     neither (not-lt _ _ (le-refl _)) (ap (λ b. (Q .total a =? Q .total a) and b) (not-lt _ _ (le-refl _)) ∙ and-false _)
+
+-- of equal totals the lower key stands first
+pub equal-by-key : (Q : Queue) (k i : ℕ) → Q .total k ≡ Q .total i → before Q k i ≡ (Q .key k <? Q .key i)
+equal-by-key Q k i e = same-test _ _
+    (λ p. ⊎-elim (λ (l : Q .total i < Q .total k). absurd (omega arith)) (λ q. is-lt _ _ (q .1)) (ahead Q k i p))
+    (λ p. is-before Q k i (inr (sym e, lt-yes _ _ p)))
 
 -- no two guests have one key
 abbrev pub Distinct : Queue → Type 0
@@ -132,6 +138,10 @@ module _ (Q : Queue) (D : Distinct Q) where
   unfolding provisional
   winners-fit = few (Q .bays)
 
+pub is-first-out : (Q : Queue) (k : ℕ) → Q .candidate k ≡ true → rank Q k ≡ Q .bays → firstOut Q k ≡ true
+unfolding firstOut
+is-first-out Q k c r = both c (is-eq _ _ r)
+
 -- ---- the ranks are 0, 1, 2 .. without gaps
 
 rank-below :
@@ -189,9 +199,9 @@ module _ (Q : Queue) (D : Distinct Q) where
 
   -- ---- the critical total is that of the first candidate without a place
 
-  first-out : (k : ℕ) → k < Q .guestCount → Q .candidate k ≡ true → rank Q k ≡ Q .bays → critical Q ≡ Q .total k
-  unfolding critical
-  first-out k lk c r = le-antisymm
+  pub first-out : (k : ℕ) → k < Q .guestCount → firstOut Q k ≡ true → critical Q ≡ Q .total k
+  unfolding critical firstOut
+  first-out k lk o = let c = first _ _ o in let r = eq-yes _ _ (second _ _ o) in le-antisymm
       (greatest-le (Q .guestCount) _ _
       (λ l ll. only-le _ _ _ (λ p. after l ll (first _ _ p) (lt-no _ _ (not-true _ (second _ _ p))))))
       (le-trans (le-only _ _ (both c (not-not (not-lt _ _ (omega arith)))))
@@ -199,9 +209,29 @@ module _ (Q : Queue) (D : Distinct Q) where
     where
       after : (l : ℕ) → l < Q .guestCount → Q .candidate l ≡ true → Q .bays ≤ rank Q l → Q .total l ≤ Q .total k
       after l ll cl rl = ⊎-elim
-          (λ (q : Q .total k < Q .total l). absurd (omega (arith, rank-lt Q l k ll cl (is-before Q l k (inl q)))))
+          (λ (q : Q .total k < Q .total l).
+          absurd (omega (arith, eq-yes _ _ (second _ _ o), rank-lt Q l k ll cl (is-before Q l k (inl q)))))
           (λ q. q)
           (lt-or-le (Q .total k) (Q .total l))
+
+  -- and its key bounds the ties: of those at its total the ones with a lower key hold a place
+  pub first-out-bounds-ties :
+      (k i : ℕ) → k < Q .guestCount → i < Q .guestCount → firstOut Q k ≡ true → Q .candidate i ≡ true
+      → Q .total i ≡ critical Q → provisional Q i ≡ (Q .key i <? Q .key k)
+  unfolding firstOut
+  first-out-bounds-ties k i lk li o c e =
+      let r : rank Q k ≡ Q .bays = eq-yes _ _ (second _ _ o) in
+      let same : Q .total i ≡ Q .total k = e ∙ first-out k lk o in
+      rw (← equal-by-key Q i k same) (same-test _ _
+      (λ h. ⊎-elim (λ b. b)
+      (λ (b : before Q i k ≡ false). absurd (omega (
+        arith,
+        provisional-rank Q i h,
+        rank-lt Q k i lk (first _ _ o) (before-total Q D i k li lk (λ q.
+            let s : rank Q i ≡ rank Q k = ap (rank Q) q in omega (arith, provisional-rank Q i h)) b),
+      )))
+      (decide (before Q i k)))
+      (λ b. is-provisional Q i c (omega (arith, rank-lt Q i k li c b))))
 
   zero-if-none : count (Q .guestCount) (Q .candidate) ≤ Q .bays → critical Q ≡ 0
   unfolding critical
@@ -216,7 +246,8 @@ module _ (Q : Queue) (D : Distinct Q) where
     zero-if-none = zero-if-none;
     none-if-zero = λ z. ⊎-elim
         (λ (m : Q .bays < count (Q .guestCount) (Q .candidate)).
-        let (k, lk, c, r) = rank-taken (Q .bays) m in absurd (omega (arith, first-out k lk c r, positive k lk c)))
+        let (k, lk, c, r) = rank-taken (Q .bays) m in
+        absurd (omega (arith, first-out k lk (is-first-out Q k c r), positive k lk c)))
         (λ h. h)
         (lt-or-le (Q .bays) (count (Q .guestCount) (Q .candidate)));
   }

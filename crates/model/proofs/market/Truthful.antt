@@ -6,29 +6,34 @@ use mathlib.Core.Path.{_≡_, sym, _∙_}
 use native.Mathlib.Nat.{le-trans, mul-le-mul-right}
 use native.Mathlib.Omega.{arith}
 use lib.ListN.{getD, length}
-use Rattle.model.specs.market.Market.{Tables, bidAt, Market, marketBy, byNumber, market, cut, opens, Screened}
+use Rattle.model.specs.market.Market.{Tables, bidAt, Market, marketBy, market, cut, opens, Screened}
 use Rattle.model.specs.market.Market.{screen, queue, provisional, critical}
 use Rattle.model.specs.market.Mechanism.{at, charge, charged, obtained, served, paid, surplus, truthful}
 use Rattle.model.specs.market.Outcome.{screened, decision}
 use Rattle.model.specs.market.Faults.{Accepted}
 use Rattle.model.specs.market.Gains.{guestGain, stationGain}
 use Rattle.model.specs.claims.Meaning.{ZeroBidIsNoCandidate, GainlessWithoutTrade, RanksCountUp}
+use Rattle.model.specs.claims.Meaning.{EqualTotalsGoByTicket, TicketOfFirstOutBoundsTies}
 use Rattle.model.specs.claims.Meaning.{CriticalIsTotalOfFirstOut, AssignedToBest, AssignedAtBestPlace, NoLoss}
 use Rattle.model.proofs.Tests.{decide, eq-yes, lt-yes}
 use Rattle.model.proofs.Counting.{count-mono}
 use Rattle.model.proofs.market.Choice.{best-holds, best-best, best-lowest, best-none}
-use Rattle.model.proofs.market.Queues.{provisional-candidate, winners-fit, ranks-in-order, critical-is-first-out}
+use Rattle.model.proofs.market.Queues.{equal-by-key, provisional-candidate, winners-fit, ranks-in-order}
+use Rattle.model.proofs.market.Queues.{critical-is-first-out, first-out-bounds-ties}
 use Rattle.model.proofs.market.Pivots.{critical-le}
-use Rattle.model.proofs.market.Acceptance.{accepted-iff-within-limits}
+use Rattle.model.proofs.market.Acceptance.{accepted-iff-within-limits, same-place}
 use Rattle.model.proofs.market.Decisions.{Candidates, Fair, candidate-open, candidate-bid}
 
 -- no two of n guests have one key
 abbrev pub Keys : (ℕ → ℕ) → ℕ → Type 0
 Keys key n = (k i : ℕ) → k < n → i < n → key k ≡ key i → k ≡ i
 
-pub numbers-differ : (n : ℕ) → Keys byNumber n
-unfolding byNumber
-numbers-differ n k i lk li e = e
+-- nor of an accepted market's guests one ticket
+pub tickets-single : (t : Tables) → Accepted t → Keys (λ i. getD (t .tickets) i 0) (length (t .amounts))
+tickets-single t a k i lk li e =
+    let w = accepted-iff-within-limits t .0 a in
+    let long : length (t .tickets) ≡ length (t .amounts) = w .shape .tickets-length in
+    same-place (t .tickets) (w .tickets-differ) k i (omega arith) (omega arith) e
 
 pub assigned-to-best : (S : Screened) (i : ℕ) → AssignedToBest S (truthful S) i
 unfolding truthful
@@ -99,7 +104,7 @@ gainless-without-trade S D = record {
 
 pub ranks-count-up : RanksCountUp
 unfolding screened screen market marketBy queue
-ranks-count-up t j = ranks-in-order (queue (screened t) j) (numbers-differ _)
+ranks-count-up t a j = ranks-in-order (queue (screened t) j) (tickets-single t a)
 
 -- in an accepted market a candidate's total is not 0
 total-positive :
@@ -114,7 +119,16 @@ total-positive t a i j li c =
 pub critical-is-total-of-first-out : CriticalIsTotalOfFirstOut
 unfolding screened screen market marketBy queue
 critical-is-total-of-first-out t a j =
-    critical-is-first-out (queue (screened t) j) (numbers-differ _) (λ i li c. total-positive t a i j li c)
+    critical-is-first-out (queue (screened t) j) (tickets-single t a) (λ i li c. total-positive t a i j li c)
+
+pub equal-totals-go-by-ticket : EqualTotalsGoByTicket
+unfolding screened screen market marketBy queue
+equal-totals-go-by-ticket t j k i e = equal-by-key (queue (screened t) j) k i e
+
+pub ticket-of-first-out-bounds-ties : TicketOfFirstOutBoundsTies
+unfolding screened screen market marketBy queue
+ticket-of-first-out-bounds-ties t a j k i lk li o c e =
+    first-out-bounds-ties (queue (screened t) j) (tickets-single t a) k i lk li o c e
 
 pub assigned-at-best-place : AssignedAtBestPlace
 unfolding decision
@@ -122,4 +136,4 @@ assigned-at-best-place t i = assigned-to-best (screened t) i
 
 pub no-loss : NoLoss
 unfolding surplus charge screened decision screen market marketBy truthful
-no-loss t i j li h = omega (arith, charge-held (market t) (numbers-differ _) i j li h)
+no-loss t a i j li h = omega (arith, charge-held (market t) (tickets-single t a) i j li h)

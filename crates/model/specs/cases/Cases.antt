@@ -13,7 +13,7 @@ use Rattle.model.specs.market.Faults.{verdict, clearingFaults}
 use Rattle.model.specs.book.PlainBook.{postingFaults}
 
 -- with tickets 1, 2, 3 .. in guest order, as document 01's cases have them
-unfoldable pub numbered : (asks bays amounts bids : List ℕ) → Tables
+abbrev pub numbered : (asks bays amounts bids : List ℕ) → Tables
 numbered asks bays amounts bids = regular asks bays amounts (list (length amounts) suc) bids
 
 -- Table I of document 000
