@@ -4,7 +4,7 @@ use mathlib.Core.List.{List, _++_}
 use mathlib.Core.Path.{_≡_}
 use lib.ListN.{take}
 use Rattle.model.specs.Counting.{list, joined}
-use Rattle.model.specs.sheet.Rows.{rowAt, askOf, baysOf, amountOf, bidOf}
+use Rattle.model.specs.sheet.Rows.{rowAt, askOf, baysOf, amountOf, ticketOf, bidOf}
 use Rattle.sheet.specs.declared.fields.Cursor.{Cursor}
 use Rattle.sheet.specs.Over.{over}
 
@@ -22,6 +22,7 @@ pub record StationsFilled (s : List ℕ) (m : ℕ) (asks bays : List ℕ) (to : 
   pub asks-are : asks′ ≡ over (list m (askOf s)) asks
   pub bays-are : bays′ ≡ over (list m (baysOf s)) bays
 
-pub record RowsFilled (s : List ℕ) (n m : ℕ) (amounts bids amounts′ bids′ : List ℕ) : Type 0 where
+pub record RowsFilled (s : List ℕ) (n m : ℕ) (amounts tickets bids amounts′ tickets′ bids′ : List ℕ) : Type 0 where
   pub amounts-are : amounts′ ≡ over (list n (amountOf s m)) amounts
+  pub tickets-are : tickets′ ≡ over (list n (ticketOf s m)) tickets
   pub bids-are : bids′ ≡ over (joined n (λ i. list m (bidOf s m i))) bids

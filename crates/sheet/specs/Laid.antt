@@ -27,9 +27,9 @@ bidFields m bid = joined m (λ j. bidField (bid j))
 unfoldable pub rowMap : (m : ℕ) (bid : ℕ → ℕ) → ℕ
 rowMap m bid = pack m (λ j. 0 <? bid j)
 
-unfoldable pub rowBytes : (amount m : ℕ) (bid : ℕ → ℕ) → List ℕ
-rowBytes amount m bid =
-    bytesOf 2 amount ++ (bytesOf (mapWidth m) (rowMap m bid) ++ bidFields m bid)
+unfoldable pub rowBytes : (amount ticket m : ℕ) (bid : ℕ → ℕ) → List ℕ
+rowBytes amount ticket m bid =
+    bytesOf 2 amount ++ (bytesOf 4 ticket ++ (bytesOf (mapWidth m) (rowMap m bid) ++ bidFields m bid))
 
-unfoldable pub rowOf : (amounts bids : List ℕ) (m i : ℕ) → List ℕ
-rowOf amounts bids m i = rowBytes (getD amounts i 0) m (bidsFrom bids (i * m))
+unfoldable pub rowOf : (amounts tickets bids : List ℕ) (m i : ℕ) → List ℕ
+rowOf amounts tickets bids m i = rowBytes (getD amounts i 0) (getD tickets i 0) m (bidsFrom bids (i * m))

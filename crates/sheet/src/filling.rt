@@ -115,27 +115,30 @@ fn fill_row(
     fill_some(s, c, bits, stations, base, bids)
 }
 
-// The amounts and bids of all guests.
+// The amounts, tickets and bids of all guests.
 pub fn fill_rows(
     s: &[u8],
     c: Cursor,
     guests: usize,
     stations: usize,
     amounts: &mut [u16],
+    tickets: &mut [u32],
     bids: &mut [u32],
 )
     requires { ⌜ (stations ≤ maxStations) × (c .at ≡ rowAt (now s) stations 0)
         × (firstFault (rowsFaults (now s) stations guests) ≡ accepted tt) × (guests ≤ length (now amounts))
-        × (guests * stations ≤ length (now bids)) ⌝ }
-    ensures { λ _. ⌜ RowsFilled (now (s .entry)) guests stations (now (amounts .entry)) (now (bids .entry))
-        (now (amounts .exit)) (now (bids .exit)) ⌝ }
+        × (guests ≤ length (now tickets)) × (guests * stations ≤ length (now bids)) ⌝ }
+    ensures { λ _. ⌜ RowsFilled (now (s .entry)) guests stations (now (amounts .entry)) (now (tickets .entry))
+        (now (bids .entry)) (now (amounts .exit)) (now (tickets .exit)) (now (bids .exit)) ⌝ }
 {
     let mut d = c;
     let mut i = 0;
     while i < guests {
         let amount = d.two(s);
-        let map = amount.next.map(s, stations);
+        let ticket = amount.next.four(s);
+        let map = ticket.next.map(s, stations);
         amounts[i] = amount.value;
+        tickets[i] = ticket.value;
         d = fill_row(s, map.next, map.bits, stations, i * stations, bids);
         i += 1;
     }

@@ -16,16 +16,16 @@ pub enum Step {
     Fault(Refusal),
 }
 
-// A stray bit is a fault before the bids are looked for.
+// 2 bytes of amount and 4 of ticket, then the map. A stray bit is a fault before the bids are looked for.
 fn check_row(s: &[u8], c: Cursor, stations: usize) -> Step
     requires { ⌜ (stations ≤ maxStations) × (c .at ≤ length (now s)) ⌝ }
     ensures { λ r. ⌜ answerOfStep r ≡ giving (firstFault (rowFaults (now (s .entry)) stations (c .at)))
         (nextAt (now (s .entry)) stations (c .at)) ⌝ }
 {
-    if c.ends(s, 2) {
+    if c.ends(s, 6) {
         return Step::Fault(Refusal::SheetEnds);
     }
-    let d = c.skip(2);
+    let d = c.skip(6);
     if d.ends(s, fields::map_width(stations)) {
         return Step::Fault(Refusal::SheetEnds);
     }

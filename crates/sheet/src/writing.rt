@@ -31,12 +31,18 @@ fn count_bids(bids: &[u32]) -> u32
 }
 
 // The length of the shortest sheet.
-pub fn sheet_length(asks: &[u32], bays: &[u16], amounts: &[u16], bids: &[u32]) -> usize
-    requires { ⌜ Shaped (regularOf asks bays amounts bids) ⌝ }
-    ensures { λ r. ⌜ r ≡ length (shortest (regularIn asks bays amounts bids)) ⌝ }
+pub fn sheet_length(
+    asks: &[u32],
+    bays: &[u16],
+    amounts: &[u16],
+    tickets: &[u32],
+    bids: &[u32],
+) -> usize
+    requires { ⌜ Shaped (regularOf asks bays amounts tickets bids) ⌝ }
+    ensures { λ r. ⌜ r ≡ length (shortest (regularIn asks bays amounts tickets bids)) ⌝ }
 {
     let m = asks.len();
-    let row = 2 + fields::map_width(m);
+    let row = 6 + fields::map_width(m);
     4 + m * 6 + (amounts.len() * row + 4 * (count_bids(bids) as usize))
 }
 
@@ -147,6 +153,7 @@ fn put_bids(
 
 fn put_row(
     amount: u16,
+    ticket: u32,
     bids: &[u32],
     base: usize,
     stations: usize,
@@ -154,41 +161,57 @@ fn put_row(
     at: usize,
 ) -> usize
     requires { ⌜ (stations ≤ maxStations) × (base + stations ≤ length (now bids))
-        × (at + length (rowBytes amount stations (bidsFrom (now bids) base)) ≤ length (now out)) ⌝ }
-    ensures { λ r. ⌜ Wrote (now (out .entry)) at (rowBytes amount stations (bidsFrom (now (bids .entry)) base))
-        (now (out .exit)) r ⌝ }
+        × (at + length (rowBytes amount ticket stations (bidsFrom (now bids) base)) ≤ length (now out)) ⌝ }
+    ensures { λ r. ⌜ Wrote (now (out .entry)) at (rowBytes amount ticket stations
+        (bidsFrom (now (bids .entry)) base)) (now (out .exit)) r ⌝ }
 {
     let map = row_map(bids, base, stations);
     let p = putting::put_two(out, at, amount);
-    let q = putting::put_bytes(out, p, fields::map_width(stations), map);
-    put_bids(bids, base, map, stations, out, q)
+    let q = putting::put_four(out, p, ticket);
+    let r = putting::put_bytes(out, q, fields::map_width(stations), map);
+    put_bids(bids, base, map, stations, out, r)
 }
 
-fn put_rows(amounts: &[u16], bids: &[u32], stations: usize, out: &mut [u8], at: usize) -> usize
-    requires { ⌜ (stations ≤ maxStations) × (length (now bids) ≡ length (now amounts) * stations)
-        × (at + length (joined (length (now amounts)) (rowOf (now amounts) (now bids) stations))
+fn put_rows(
+    amounts: &[u16],
+    tickets: &[u32],
+    bids: &[u32],
+    stations: usize,
+    out: &mut [u8],
+    at: usize,
+) -> usize
+    requires { ⌜ (stations ≤ maxStations) × (length (now tickets) ≡ length (now amounts))
+        × (length (now bids) ≡ length (now amounts) * stations)
+        × (at + length (joined (length (now amounts)) (rowOf (now amounts) (now tickets) (now bids) stations))
         ≤ length (now out)) ⌝ }
-    ensures { λ r. ⌜ Wrote (now (out .entry)) at
-        (joined (length (now (amounts .entry))) (rowOf (now (amounts .entry)) (now (bids .entry)) stations))
-        (now (out .exit)) r ⌝ }
+    ensures { λ r. ⌜ Wrote (now (out .entry)) at (joined (length (now (amounts .entry)))
+        (rowOf (now (amounts .entry)) (now (tickets .entry)) (now (bids .entry)) stations)) (now (out .exit)) r ⌝ }
 {
     let mut p = at;
     let mut i = 0;
     while i < amounts.len() {
-        p = put_row(amounts[i], bids, i * stations, stations, out, p);
+        p = put_row(amounts[i], tickets[i], bids, i * stations, stations, out, p);
         i += 1;
     }
     p
 }
 
 // The shortest sheet, over the first places of the output.
-pub fn put_sheet(asks: &[u32], bays: &[u16], amounts: &[u16], bids: &[u32], out: &mut [u8]) -> usize
-    requires { ⌜ Shaped (regularOf asks bays amounts bids)
-        × (length (shortest (regularOf asks bays amounts bids)) ≤ length (now out)) ⌝ }
-    ensures { λ r. ⌜ Wrote (now (out .entry)) 0 (shortest (regularIn asks bays amounts bids)) (now (out .exit)) r ⌝ }
+pub fn put_sheet(
+    asks: &[u32],
+    bays: &[u16],
+    amounts: &[u16],
+    tickets: &[u32],
+    bids: &[u32],
+    out: &mut [u8],
+) -> usize
+    requires { ⌜ Shaped (regularOf asks bays amounts tickets bids)
+        × (length (shortest (regularOf asks bays amounts tickets bids)) ≤ length (now out)) ⌝ }
+    ensures { λ r. ⌜ Wrote (now (out .entry)) 0 (shortest (regularIn asks bays amounts tickets bids))
+        (now (out .exit)) r ⌝ }
 {
     let p = putting::put_two(out, 0, amounts.len() as u16);
     let q = putting::put_two(out, p, asks.len() as u16);
     let r = put_stations(asks, bays, out, q);
-    put_rows(amounts, bids, asks.len(), out, r)
+    put_rows(amounts, tickets, bids, asks.len(), out, r)
 }

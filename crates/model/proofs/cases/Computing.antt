@@ -15,8 +15,8 @@ use Rattle.model.specs.book.PlainBook.{raised, entered, overLimit, bookS
 use Rattle.model.specs.book.PlainBook.{answer, after, answers, final}
 use Rattle.model.specs.book.Book.{soldOf, paidOf, emptyBook, plain}
 use Rattle.model.specs.sheet.Fields.{littleEndian, mapWidth, hasBit}
-use Rattle.model.specs.sheet.Rows.{mapAt, bidsAt, nextAt, rowAt, askOf, baysOf, amountOf, bidBy, bidOf, rowFaults}
-use Rattle.model.specs.sheet.Rows.{rowsFaults}
+use Rattle.model.specs.sheet.Rows.{mapAt, bidsAt, nextAt, rowAt, askOf, baysOf, amountOf, ticketOf, bidBy, bidOf}
+use Rattle.model.specs.sheet.Rows.{rowFaults, rowsFaults}
 use Rattle.model.specs.sheet.Content.{guests, stations, tablesOf, sheetFaults, readSheet}
 use Rattle.model.specs.sheet.Layout.{bytesOf, pack, station, stated, row, layout}
 use Rattle.model.specs.sheet.Shortest.{bidden, shortest, writingFaults}
@@ -44,13 +44,13 @@ unfolding clearing-computes raised entered overLimit bookSize outOfTurn postingF
 posting-computes = tt
 
 unfoldable pub reading-computes : Unit {0}
-unfolding counting-computes counts littleEndian mapWidth hasBit mapAt bidsAt nextAt rowAt askOf baysOf amountOf bidBy
-    bidOf rowFaults rowsFaults guests stations tablesOf sheetFaults readSheet tableLengths readVerdict
+unfolding counting-computes counts littleEndian mapWidth hasBit mapAt bidsAt nextAt rowAt askOf baysOf amountOf ticketOf
+    bidBy bidOf rowFaults rowsFaults guests stations tablesOf sheetFaults readSheet tableLengths readVerdict
 reading-computes = tt
 
 unfoldable pub writing-computes : Unit {0}
-unfolding counting-computes outside repeats counts lengths values marketFaults bidAt mapWidth bytesOf pack station stated row
-    layout bidden shortest writingFaults
+unfolding counting-computes outside repeats counts lengths values marketFaults bidAt mapWidth bytesOf pack station
+    stated row layout bidden shortest writingFaults
 writing-computes = tt
 
 unfoldable pub printing-computes : Unit {0}

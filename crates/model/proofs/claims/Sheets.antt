@@ -28,7 +28,7 @@ sheet-verdict : (s : List ℕ) (l : LentTables) → RightSizes l → readVerdict
 unfolding readVerdict tableLengths
 sheet-verdict s l z =
     fault-later 10 (sheetFaults s)
-    (lent-good _ _ _ _ (z .amounts-long) (z .asks-long) (z .bays-long) (z .bids-long))
+    (lent-good _ _ _ _ _ (z .amounts-long) (z .tickets-long) (z .asks-long) (z .bays-long) (z .bids-long))
 
 pub stated-is-read : StatedIsRead
 unfolding readSheet

@@ -50,13 +50,15 @@ gave t s g =
 
 market-filled :
     (t : Tables) (l : LentTables) (n m : ℕ) → n ≡ length (t .amounts) → m ≡ length (t .asks)
-    → length (t .bays) ≡ length (t .asks) → length (t .bids) ≡ length (t .amounts) * length (t .asks)
-    → t .width ≡ length (t .asks) → marketIn (filled t l) n m ≡ t
+    → length (t .tickets) ≡ length (t .amounts) → length (t .bays) ≡ length (t .asks)
+    → length (t .bids) ≡ length (t .amounts) * length (t .asks) → t .width ≡ length (t .asks)
+    → marketIn (filled t l) n m ≡ t
 unfolding filled
-market-filled t l n m e f bays bids width = λ i. record {
+market-filled t l n m e f tickets bays bids width = λ i. record {
   asks = first-places (t .asks) (l .asks) m f i;
   bays = first-places (t .bays) (l .bays) m (f ∙ sym bays) i;
   amounts = first-places (t .amounts) (l .amounts) n e i;
+  tickets = first-places (t .tickets) (l .tickets) n (e ∙ sym tickets) i;
   bids = first-places (t .bids) (l .bids) (n * m) (ap₂ _*_ e f ∙ sym bids) i;
   width = (f ∙ sym width) i;
 }
@@ -70,14 +72,15 @@ took s t c =
     giving-accepted _ (no-fault _ _ _ v .1)
     ∙ ap accepted (sym (c .is ∙ ap (λ l. marketIn l (c .n) (c .m)) filled-in
     ∙ market-filled (tablesOf s) (c .entry) (c .n) (c .m) (ap (λ p. p .0) (sym counts) ∙ sym (are .n-is))
-    (ap (λ p. p .1) (sym counts) ∙ sym (are .m-is)) (are .bays-long) (are .bids-long) (are .width-is)))
+    (ap (λ p. p .1) (sym counts) ∙ sym (are .m-is)) (are .tickets-long) (are .bays-long) (are .bids-long)
+    (are .width-is)))
 
 -- ---- the statements
 
 pub written-is-read : WrittenIsRead
 written-is-read t s entry exit answer g z c =
     let (a, e) = gave t s g in
-    stated-is-read s t entry exit answer z c (subst (λ s. States s t) (sym e) (shortest-states t a))
+    stated-is-read s t entry exit answer z c (subst (λ s. States s t) (sym e) (shortest-states t a (g .tickets-are)))
 
 pub writing-is-no-longer : WritingIsNoLonger
 writing-is-no-longer s s′ t y c g =
@@ -88,6 +91,7 @@ writing-is-no-longer s s′ t y c g =
 pub second-alters-nothing : SecondAltersNothing
 second-alters-nothing t u s s′ g c h =
     let (a, e) = gave t s g in
-    let same : accepted u ≡ accepted t = sym (took s u c) ∙ ap readSheet e ∙ shortest-is-read t a in
+    let same : accepted u ≡ accepted t = sym (took s u c) ∙ ap readSheet e
+    ∙ shortest-is-read t a (g .tickets-are) in
     let is : u ≡ t = cc in
     (is, gave u s′ h .1 ∙ ap shortest is ∙ sym e)

@@ -33,11 +33,15 @@ pub record ReadTables (s : List ℕ) (n m : ℕ) (exit : LentTables) : Type 0 wh
   pub n-is : length (tablesOf s .amounts) ≡ n
   pub m-is : length (tablesOf s .asks) ≡ m
   pub amounts-are : take n (exit .amounts) ≡ tablesOf s .amounts
+  pub tickets-are : take n (exit .tickets) ≡ tablesOf s .tickets
   pub asks-are : take m (exit .asks) ≡ tablesOf s .asks
   pub bays-are : take m (exit .bays) ≡ tablesOf s .bays
   pub bids-are : take (n * m) (exit .bids) ≡ tablesOf s .bids
 
--- the lengths of the other two tables, and the room that the bids take
+-- the lengths of the other three tables, and the room that the bids take
+pub tickets-long : {s : List ℕ} {n m : ℕ} {exit : LentTables} → ReadTables s n m exit → length (tablesOf s .tickets) ≡ n
+tickets-long t = t .shape .tickets-length ∙ t .n-is
+
 pub bays-long : {s : List ℕ} {n m : ℕ} {exit : LentTables} → ReadTables s n m exit → length (tablesOf s .bays) ≡ m
 bays-long t = t .shape .bays-length ∙ t .m-is
 
@@ -53,11 +57,12 @@ take-pasted xs l y n e h = ap (take n) e ∙ take-at _ _ n (omega (arith, length
     ∙ take-length xs
 
 pub lent-good :
-    (a b c d : ℕ) → a ≡ maxGuests → b ≡ maxStations → c ≡ maxStations → d ≡ maxBids
-    → (not (a =? maxGuests) or not (b =? maxStations) or not (c =? maxStations) or not (d =? maxBids)) ≡ false
-lent-good a b c d la lb lc ld =
-    neither (neither (neither (ap not (is-eq a maxGuests la)) (ap not (is-eq b maxStations lb)))
-    (ap not (is-eq c maxStations lc)))
+    (a k b c d : ℕ) → a ≡ maxGuests → k ≡ maxGuests → b ≡ maxStations → c ≡ maxStations → d ≡ maxBids
+    → (not (a =? maxGuests) or not (k =? maxGuests) or not (b =? maxStations) or not (c =? maxStations)
+    or not (d =? maxBids)) ≡ false
+lent-good a k b c d la lk lb lc ld =
+    neither (neither (neither (neither (ap not (is-eq a maxGuests la)) (ap not (is-eq k maxGuests lk)))
+    (ap not (is-eq b maxStations lb))) (ap not (is-eq c maxStations lc)))
     (ap not (is-eq d maxBids ld))
 
 module _ (s : List ℕ) (entry exit : LentTables) (r : Reading) (k : Reads s entry r exit) where
@@ -70,6 +75,7 @@ module _ (s : List ℕ) (entry exit : LentTables) (r : Reading) (k : Reads s ent
       let few : n ≤ maxGuests = omega (arith, t .few) in
       let narrow : m ≤ maxStations = omega (arith, t .narrow) in
       let a-long : length (tablesOf s .amounts) ≡ n = length-list _ _ ∙ sym f in
+      let k-long : length (tablesOf s .tickets) ≡ n = length-list _ _ ∙ sym f in
       let b-long : length (tablesOf s .asks) ≡ m = length-list _ _ ∙ sym g in
       let c-long : length (tablesOf s .bays) ≡ m = length-list _ _ ∙ sym g in
       let d-long : length (tablesOf s .bids) ≡ n * m = joined-length _ _ (bidOf s (stations s)) ∙ sym (ap₂ _*_ f g) in
@@ -81,12 +87,14 @@ module _ (s : List ℕ) (entry exit : LentTables) (r : Reading) (k : Reads s ent
           stations-least = omega (arith, b-long, g, t .some);
           stations-most = omega (arith, b-long, narrow);
           bays-length = c-long ∙ sym b-long;
+          tickets-length = k-long ∙ sym a-long;
           bids-length = d-long ∙ sym (ap₂ _*_ a-long b-long);
           width-is = sym (length-list _ _);
         };
         n-is = a-long;
         m-is = b-long;
         amounts-are = take-pasted _ (entry .amounts) _ n (ap (λ l. l .amounts) full) a-long;
+        tickets-are = take-pasted _ (entry .tickets) _ n (ap (λ l. l .tickets) full) k-long;
         asks-are = take-pasted _ (entry .asks) _ m (ap (λ l. l .asks) full) b-long;
         bays-are = take-pasted _ (entry .bays) _ m (ap (λ l. l .bays) full) c-long;
         bids-are = take-pasted _ (entry .bids) _ (n * m) (ap (λ l. l .bids) full) d-long;
@@ -94,11 +102,12 @@ module _ (s : List ℕ) (entry exit : LentTables) (r : Reading) (k : Reads s ent
 
   -- a refused sheet, where the tables had the right lengths
   pub read-fault :
-      (x : Refusal) → length (entry .amounts) ≡ maxGuests → length (entry .asks) ≡ maxStations
-      → length (entry .bays) ≡ maxStations → length (entry .bids) ≡ maxBids → r ≡ Refused x
+      (x : Refusal) → length (entry .amounts) ≡ maxGuests → length (entry .tickets) ≡ maxGuests
+      → length (entry .asks) ≡ maxStations → length (entry .bays) ≡ maxStations → length (entry .bids) ≡ maxBids
+      → r ≡ Refused x
       → readSheet s ≡ refused (number x)
   unfolding readVerdict readSheet tableLengths
-  read-fault x la lb lc ld e =
-      let l = lent-good _ _ _ _ la lb lc ld in
+  read-fault x la lk lb lc ld e =
+      let l = lent-good _ _ _ _ _ la lk lb lc ld in
       let w = told-refused _ _ x r (k .answered) e in
       giving-refused _ _ (sym (fault-later 10 (sheetFaults s) l) ∙ w)

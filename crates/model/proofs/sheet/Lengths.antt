@@ -41,7 +41,7 @@ station-length t j =
 
 -- a row but for its bids
 abbrev pub rowHead : ℕ → ℕ
-rowHead m = 2 + mapWidth m
+rowHead m = 6 + mapWidth m
 
 module _ (t : Tables) (set : ℕ → ℕ → Bool) where
   abbrev m : ℕ
@@ -56,6 +56,7 @@ module _ (t : Tables) (set : ℕ → ℕ → Bool) where
       simp length-append (omega (
         arith,
         bytes-length 2 (getD (t .amounts) i 0),
+        bytes-length 4 (getD (t .tickets) i 0),
         bytes-length (mapWidth m) (pack m (set i)),
         fields-length m (set i) (bidAt t i),
       ))

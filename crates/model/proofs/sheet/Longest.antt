@@ -12,7 +12,7 @@ use Rattle.model.proofs.Counting.{sum-most, count-most}
 use Rattle.model.proofs.market.Acceptance.{product-fits}
 use Rattle.model.proofs.sheet.Lengths.{rowHead, layout-length}
 
-layout-short :
+pub layout-short :
     (t : Tables) (set : ℕ → ℕ → Bool) → length (t .amounts) ≤ maxGuests → length (t .asks) ≤ maxStations
     → length (layout t set) ≤ maxSheet
 unfolding mapWidth

@@ -9,7 +9,7 @@ use native.Mathlib.Omega.{arith}
 use lib.ListN.{length}
 use Rattle.model.specs.Counting.{_<?_, count, joined}
 use Rattle.model.specs.Verdicts.{_gives_, accepted, refused, firstFault}
-use Rattle.model.proofs.Tests.{lt-no, is-lt, not-lt}
+use Rattle.model.proofs.Tests.{lt-no, is-lt, not-lt, lt-or-le}
 use Rattle.model.proofs.Verdicts.{fault-here, fault-later, fault-none, no-fault, fault-first, fault-second}
 use Rattle.model.proofs.Verdicts.{no-faults}
 use Rattle.model.specs.sheet.Fields.{mapWidth, hasBit}
@@ -18,18 +18,29 @@ use Rattle.model.proofs.sheet.Fields.{narrow, wide, count-narrow}
 
 -- ---- a row
 
-pub bids-at : (m p : ℕ) → bidsAt m p ≡ p + 2 + mapWidth m
+pub bids-at : (m p : ℕ) → bidsAt m p ≡ p + 6 + mapWidth m
 unfolding bidsAt
 bids-at m p = refl
 
 module _ (s : List ℕ) (m p : ℕ) where
-  pub amount-ends : length s < p + 2 → firstFault (rowFaults s m p) ≡ refused 1
+  -- inside the amount or inside the ticket
+  pub head-ends : length s < p + 6 → firstFault (rowFaults s m p) ≡ refused 1
   unfolding rowFaults
-  amount-ends h = fault-here _ (is-lt _ _ h)
+  head-ends h = ⊎-elim
+      (λ (l : length s < p + 2). fault-here _ (is-lt _ _ l))
+      (λ (l : p + 2 ≤ length s). fault-later _ _ (not-lt _ _ l) ∙ fault-here _ (is-lt _ _ h))
+      (lt-or-le (length s) (p + 2))
 
-  pub map-ends : p + 2 ≤ length s → length s < bidsAt m p → firstFault (rowFaults s m p) ≡ refused 1
+  after-head :
+      p + 6 ≤ length s
+      → firstFault (rowFaults s m p)
+      ≡ firstFault ((length s <? bidsAt m p gives 1) ∷ (0 <? mapAt s m p / 2 ^ m gives 3)
+      ∷ (length s <? nextAt s m p gives 1) ∷ [])
   unfolding rowFaults
-  map-ends h g = fault-later _ _ (not-lt _ _ h) ∙ fault-here _ (is-lt _ _ g)
+  after-head h = fault-later _ _ (not-lt _ _ (omega arith)) ∙ fault-later _ _ (not-lt _ _ h)
+
+  pub map-ends : p + 6 ≤ length s → length s < bidsAt m p → firstFault (rowFaults s m p) ≡ refused 1
+  map-ends h g = after-head h ∙ fault-here _ (is-lt _ _ g)
 
 -- the map x of the row at p is taken, and its bids start at q
 pub record MapTaken (s : List ℕ) (m p x q : ℕ) : Type 0 where
@@ -41,10 +52,9 @@ module _ {s : List ℕ} {m p x q : ℕ} (t : MapTaken s m p x q) where
   after-map :
       firstFault (rowFaults s m p)
       ≡ firstFault ((0 <? x / 2 ^ m gives 3) ∷ (length s <? nextAt s m p gives 1) ∷ [])
-  unfolding rowFaults
   after-map =
       rw (t .map)
-      (fault-later _ _ (not-lt _ _ (omega (arith, bids-at m p, t .within))) ∙ fault-later _ _ (not-lt _ _ (t .within)))
+      (after-head s m p (omega (arith, bids-at m p, t .within)) ∙ fault-later _ _ (not-lt _ _ (t .within)))
 
   pub stray : 0 < x / 2 ^ m → firstFault (rowFaults s m p) ≡ refused 3
   stray g = after-map ∙ fault-here _ (is-lt _ _ g)
@@ -73,14 +83,13 @@ pub record RowSound (s : List ℕ) (m p : ℕ) : Type 0 where
 pub row-sound : (s : List ℕ) (m p : ℕ) → firstFault (rowFaults s m p) ≡ accepted tt → RowSound s m p
 unfolding rowFaults
 row-sound s m p e =
-    let (a, e1) = no-fault _ _ _ e in
-    let (b, e2) = no-fault _ _ _ e1 in let (c, e3) = no-fault _ _ _ e2 in let (d, e4) = no-fault _ _ _ e3 in
-    record { map-in = lt-no _ _ b; no-stray = narrow _ _ (lt-no _ _ c); bids-in = lt-no _ _ d }
+    let (a, e1) = no-fault _ _ _ e in let (b, e2) = no-fault _ _ _ e1 in
+    let (c, e3) = no-fault _ _ _ e2 in let (d, e4) = no-fault _ _ _ e3 in let (f, e5) = no-fault _ _ _ e4 in
+    record { map-in = lt-no _ _ c; no-stray = narrow _ _ (lt-no _ _ d); bids-in = lt-no _ _ f }
 
 pub sound-row : {s : List ℕ} {m p : ℕ} → RowSound s m p → firstFault (rowFaults s m p) ≡ accepted tt
-unfolding rowFaults
 sound-row {s} {m} {p} t =
-    fault-later _ _ (not-lt _ _ (omega (arith, bids-at m p, t .map-in))) ∙ fault-later _ _ (not-lt _ _ (t .map-in))
+    after-head s m p (omega (arith, bids-at m p, t .map-in)) ∙ fault-later _ _ (not-lt _ _ (t .map-in))
     ∙ fault-later _ _ (not-lt _ _ (wide (mapAt s m p) m (t .no-stray)))
     ∙ fault-later _ _ (not-lt _ _ (t .bids-in)) ∙ fault-none
 

@@ -5,40 +5,48 @@ use mathlib.Core.List.{List, _++_}
 use mathlib.Core.Logic.{⊎-elim}
 use mathlib.Core.Path.{_≡_, refl, sym, ap, ap₂, _∙_}
 use native.Mathlib.Omega.{arith}
-use lib.ListN.{length, getD}
+use lib.ListN.{length, getD, List·getD-eq-default}
 use Rattle.model.specs.Counting.{sum, count, joined}
 use Rattle.model.specs.market.Market.{Tables, bidAt}
 use Rattle.model.specs.market.Faults.{Accepted}
 use Rattle.model.specs.Verdicts.{accepted}
 use Rattle.model.specs.claims.Meaning.{WithinLimits}
 use Rattle.model.specs.sheet.Fields.{mapWidth}
-use Rattle.model.specs.sheet.Layout.{bytesOf, pack, stated, row, station, layout, Fitting, States}
+use Rattle.model.specs.sheet.Layout.{bytesOf, pack, stated, row, station, layout, Fitting, States, Words}
 use Rattle.model.specs.sheet.Shortest.{bidden, shortest, ShortestIsRead, ShortestIsLeast, SecondChangesNothing}
 use Rattle.model.specs.sheet.Shortest.{ShortestStates, ShortestFits}
-use Rattle.model.proofs.Tests.{decide, clash, same-test, lt-no, not-lt}
+use Rattle.model.proofs.Tests.{decide, clash, same-test, lt-no, not-lt, lt-or-le}
 use Rattle.model.proofs.Counting.{sum-mono, sum-strict, count-mono, count-strict}
 use Rattle.model.proofs.Loops.{in-table}
 use Rattle.model.proofs.market.Acceptance.{accepted-iff-within-limits}
 use Rattle.model.proofs.sheet.Holds.{pack-cong}
 use Rattle.model.proofs.sheet.Joined.{joined-cong}
 use Rattle.model.proofs.sheet.Lengths.{layout-length}
-use Rattle.model.proofs.sheet.Longest.{sheets-are-short}
-use Rattle.model.proofs.sheet.Truth.{states-read}
+use Rattle.model.proofs.sheet.Longest.{layout-short}
+use Rattle.model.proofs.sheet.Truth.{states-read, reads-exactly-what-is-stated}
 
 -- ---- an accepted market's numbers fit their fields
 
-fitting : (t : Tables) → WithinLimits t → Fitting t
+fitting : (t : Tables) → WithinLimits t → Words (t .tickets) → Fitting t
 unfolding bidAt
-fitting t w = record {
+fitting t w y = record {
   shape = w .shape;
   ask-fits = λ j l. omega (arith, w .ask-most j l);
   bays-fit = λ j l. omega (arith, w .bays-most j l);
   amount-fits = λ i l. omega (arith, w .amount-most i l);
+  ticket-fits = λ i _. y i;
   bid-fits = λ i j l k.
       let q : i * length (t .asks) + j < length (t .bids) =
       omega (arith, in-table (length (t .amounts)) (length (t .asks)) i j l k, w .shape .bids-length) in
       omega (arith, w .bid-most (i * length (t .asks) + j) q);
 }
+
+-- and the tickets of a market in fields of 4 bytes have 32 bits
+words : (t : Tables) → Fitting t → Words (t .tickets)
+words t w k = ⊎-elim
+    (λ (l : k < length (t .tickets)). w .ticket-fits k (omega (arith, w .shape .tickets-length)))
+    (λ (l : length (t .tickets) ≤ k). rw (List·getD-eq-default (t .tickets) 0 l) (omega arith))
+    (lt-or-le k (length (t .tickets)))
 
 no-bid : (t : Tables) (i j : ℕ) → bidden t i j ≡ false → bidAt t i j ≡ 0
 unfolding bidden
@@ -50,22 +58,26 @@ not-bidden t i j e = not-lt 0 (bidAt t i j) (omega arith)
 
 pub shortest-states : ShortestStates
 unfolding shortest
-shortest-states t a = record {
-  fitting = fitting t (accepted-iff-within-limits t .0 a);
+shortest-states t a y = record {
+  fitting = fitting t (accepted-iff-within-limits t .0 a) y;
   set = bidden t;
   covers = λ i j _ _ e. no-bid t i j e;
   is = refl;
 }
 
 pub shortest-is-read : ShortestIsRead
-shortest-is-read t a = states-read (shortest t) t (shortest-states t a)
+shortest-is-read t a y = states-read (shortest t) t (shortest-states t a y)
 
 pub shortest-fits : ShortestFits
-shortest-fits t a = sheets-are-short (shortest t) t (shortest-states t a)
+unfolding shortest
+shortest-fits t a =
+    let within = accepted-iff-within-limits t .0 a .shape in
+    layout-short t (bidden t) (within .guests-most) (within .stations-most)
 
 pub second-changes-nothing : SecondChangesNothing
-second-changes-nothing s t u e a f =
-    let g : accepted u ≡ accepted t = sym f ∙ shortest-is-read t a in
+second-changes-nothing s t u y e a f =
+    let w = reads-exactly-what-is-stated s t y .0 e in
+    let g : accepted u ≡ accepted t = sym f ∙ shortest-is-read t a (words t (w .fitting)) in
     let h : u ≡ t = cc in (h, ap shortest h)
 
 -- ---- sheets with the same bits are one
@@ -75,7 +87,8 @@ module _ (t : Tables) (a b : ℕ → ℕ → Bool)
   row-cong : (i : ℕ) → i < length (t .amounts) → row t a i ≡ row t b i
   unfolding row
   row-cong i l =
-      ap₂ (λ x y. bytesOf 2 (getD (t .amounts) i 0) ++ (bytesOf (mapWidth (length (t .asks))) x ++ y))
+      ap₂ (λ x y. bytesOf 2 (getD (t .amounts) i 0)
+      ++ (bytesOf 4 (getD (t .tickets) i 0) ++ (bytesOf (mapWidth (length (t .asks))) x ++ y)))
       (pack-cong (length (t .asks)) (a i) (b i) (λ j k. same i j l k))
       (joined-cong (length (t .asks)) (λ j. stated (a i j) (bidAt t i j)) (λ j. stated (b i j) (bidAt t i j))
       (λ j k. ap (λ c. stated c (bidAt t i j)) (same i j l k)))

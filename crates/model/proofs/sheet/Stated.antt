@@ -33,6 +33,9 @@ askBytes t j = bytesOf 4 (getD (t .asks) j 0)
 abbrev amountBytes : Tables → ℕ → List ℕ
 amountBytes t i = bytesOf 2 (getD (t .amounts) i 0)
 
+abbrev ticketBytes : Tables → ℕ → List ℕ
+ticketBytes t i = bytesOf 4 (getD (t .tickets) i 0)
+
 abbrev mapBytes : Tables → (ℕ → ℕ → Bool) → ℕ → List ℕ
 mapBytes t set i = bytesOf (mapWidth (m t)) (pack (m t) (set i))
 
@@ -86,46 +89,63 @@ module _ (t : Tables) (set : ℕ → ℕ → Bool) (s : List ℕ) (i p : ℕ) wh
   amount-long : p + length (amountBytes t i) ≡ p + 2
   amount-long = omega (arith, bytes-length 2 (getD (t .amounts) i 0))
 
-  map-long : p + 2 + length (mapBytes t set i) ≡ bidsAt (m t) p
+  ticket-long : p + 2 + length (ticketBytes t i) ≡ p + 6
+  ticket-long = omega (arith, bytes-length 4 (getD (t .tickets) i 0))
+
+  map-long : p + 6 + length (mapBytes t set i) ≡ bidsAt (m t) p
   map-long = omega (arith, bids-at (m t) p, bytes-length (mapWidth (m t)) (pack (m t) (set i)))
 
   row-place : mapAt s (m t) p ≡ pack (m t) (set i) → nextAt s (m t) p ≡ p + length (row t set i)
   unfolding row nextAt
   row-place e =
-      simp length-append (omega
-      (arith, amount-long, map-long, bids-place s (m t) (mapAt s (m t) p) (bidsAt (m t) p) (set i) (bidAt t i) e))
+      simp length-append (omega (
+        arith,
+        amount-long,
+        ticket-long,
+        map-long,
+        bids-place s (m t) (mapAt s (m t) p) (bidsAt (m t) p) (set i) (bidAt t i) e,
+      ))
 
-  row-holds : Bytes s → littleEndian s p 2 ≡ getD (t .amounts) i 0 → mapAt s (m t) p ≡ pack (m t) (set i)
+  row-holds : Bytes s → littleEndian s p 2 ≡ getD (t .amounts) i 0 → littleEndian s (p + 2) 4 ≡ getD (t .tickets) i 0
+      → mapAt s (m t) p ≡ pack (m t) (set i)
       → ((j : ℕ) → j < m t → set i j ≡ true
       → littleEndian s (bidsAt (m t) p + 4 * count j (hasBit (mapAt s (m t) p))) 4 ≡ bidAt t i j)
       → Holds s p (row t set i)
   unfolding row mapAt
-  row-holds y a e h =
+  row-holds y a b e h =
       holds-then s p (p + 2) (amountBytes t i) _ (number-holds s y p 2 _ a) amount-long
-      (holds-then s (p + 2) (bidsAt (m t) p) (mapBytes t set i) _
-      (number-holds s y (p + 2) (mapWidth (m t)) _ e) map-long
-      (bids-hold s (m t) (mapAt s (m t) p) (bidsAt (m t) p) (set i) (bidAt t i) e y h))
+      (holds-then s (p + 2) (p + 6) (ticketBytes t i) _ (number-holds s y (p + 2) 4 _ b) ticket-long
+      (holds-then s (p + 6) (bidsAt (m t) p) (mapBytes t set i) _
+      (number-holds s y (p + 6) (mapWidth (m t)) _ e) map-long
+      (bids-hold s (m t) (mapAt s (m t) p) (bidsAt (m t) p) (set i) (bidAt t i) e y h)))
 
   module _ (h : Holds s p (row t set i)) where
     row-amount : getD (t .amounts) i 0 < 256 ^ 2 → littleEndian s p 2 ≡ getD (t .amounts) i 0
     unfolding row
     row-amount f = holds-number s p 2 _ f (holds-left s p (amountBytes t i) _ h)
 
-    after-amount : Holds s (p + 2) (mapBytes t set i ++ joined (m t) (λ j. stated (set i j) (bidAt t i j)))
+    after-amount :
+        Holds s (p + 2) (ticketBytes t i ++ (mapBytes t set i ++ joined (m t) (λ j. stated (set i j) (bidAt t i j))))
     unfolding row
     after-amount = holds-next s p (p + 2) (amountBytes t i) _ amount-long h
+
+    row-ticket : getD (t .tickets) i 0 < 256 ^ 4 → littleEndian s (p + 2) 4 ≡ getD (t .tickets) i 0
+    row-ticket f = holds-number s (p + 2) 4 _ f (holds-left s (p + 2) (ticketBytes t i) _ after-amount)
+
+    after-ticket : Holds s (p + 6) (mapBytes t set i ++ joined (m t) (λ j. stated (set i j) (bidAt t i j)))
+    after-ticket = holds-next s (p + 2) (p + 6) (ticketBytes t i) _ ticket-long after-amount
 
     row-map : mapAt s (m t) p ≡ pack (m t) (set i)
     unfolding mapAt
     row-map =
-        holds-number s (p + 2) (mapWidth (m t)) _ (pack-fits (m t) (set i))
-        (holds-left s (p + 2) (mapBytes t set i) _ after-amount)
+        holds-number s (p + 6) (mapWidth (m t)) _ (pack-fits (m t) (set i))
+        (holds-left s (p + 6) (mapBytes t set i) _ after-ticket)
 
     row-bids : ((j : ℕ) → j < m t → bidAt t i j < 256 ^ 4)
         → (j : ℕ) → j < m t → set i j ≡ true
         → littleEndian s (bidsAt (m t) p + 4 * count j (hasBit (mapAt s (m t) p))) 4 ≡ bidAt t i j
     row-bids f = bids-held s (m t) (mapAt s (m t) p) (bidsAt (m t) p) (set i) (bidAt t i) row-map f
-        (holds-next s (p + 2) (bidsAt (m t) p) (mapBytes t set i) _ map-long after-amount)
+        (holds-next s (p + 6) (bidsAt (m t) p) (mapBytes t set i) _ map-long after-ticket)
 
 -- ---- one station, at p
 module _ (t : Tables) (s : List ℕ) (j p : ℕ) where
@@ -155,6 +175,7 @@ pub record Fields (s : List ℕ) (t : Tables) (set : ℕ → ℕ → Bool) : Typ
   pub ask-is : (j : ℕ) → j < m t → littleEndian s (4 + 6 * j) 4 ≡ getD (t .asks) j 0
   pub bays-are : (j : ℕ) → j < m t → littleEndian s (8 + 6 * j) 2 ≡ getD (t .bays) j 0
   pub amount-is : (i : ℕ) → i < n t → littleEndian s (rowAt s (m t) i) 2 ≡ getD (t .amounts) i 0
+  pub ticket-is : (i : ℕ) → i < n t → littleEndian s (rowAt s (m t) i + 2) 4 ≡ getD (t .tickets) i 0
   pub map-is : (i : ℕ) → i < n t → mapAt s (m t) (rowAt s (m t) i) ≡ pack (m t) (set i)
   pub bid-is : (i j : ℕ) → i < n t → j < m t → set i j ≡ true
       → littleEndian s (bidsAt (m t) (rowAt s (m t) i) + 4 * count j (hasBit (mapAt s (m t) (rowAt s (m t) i)))) 4
@@ -198,7 +219,8 @@ module _ (s : List ℕ) (t : Tables) (set : ℕ → ℕ → Bool) where
       (f .ask-is j l) (let e : 4 + 6 * j + 4 ≡ 8 + 6 * j = omega arith in rw e (f .bays-are j l))))
       stations-long
       (joined-holds s (rowAt s (m t)) (row t set) (n t) (λ i l. row-step i (f .map-is i l))
-      (λ i l. row-holds t set s i (rowAt s (m t) i) y (f .amount-is i l) (f .map-is i l) (λ j k. f .bid-is i j l k))))))
+      (λ i l. row-holds t set s i (rowAt s (m t) i) y (f .amount-is i l) (f .ticket-is i l) (f .map-is i l)
+      (λ j k. f .bid-is i j l k))))))
       (sym (layout-long (length s)
       (sym (f .end) ∙ joined-place s (rowAt s (m t)) (row t set) (n t) (λ i l. row-step i (f .map-is i l)))))
 
@@ -237,6 +259,7 @@ module _ (s : List ℕ) (t : Tables) (set : ℕ → ℕ → Bool) where
       ask-is = λ j l. station-at j l .0;
       bays-are = λ j l. let z : 8 + 6 * j ≡ 4 + 6 * j + 4 = omega arith in rw z (station-at j l .1);
       amount-is = λ i l. row-amount t set s i (rowAt s (m t) i) (row-at i l) (g .amount-fits i l);
+      ticket-is = λ i l. row-ticket t set s i (rowAt s (m t) i) (row-at i l) (g .ticket-fits i l);
       map-is = map-at;
       bid-is = λ i j l k. row-bids t set s i (rowAt s (m t) i) (row-at i l) (λ j k. g .bid-fits i j l k) j k;
       end = joined-place s (rowAt s (m t)) (row t set) (n t) (λ i l. row-step i (map-at i l))

@@ -16,7 +16,7 @@ use Rattle.model.proofs.Verdicts.{updated-refused}
 use Rattle.model.specs.Numbers.{number, answerOfReading}
 use Rattle.model.specs.declared.refusal.Refusal.{Refusal}
 use Rattle.model.specs.declared.refusal.Refusal.the-variants.{LentLengths}
-use Rattle.model.specs.sheet.Rows.{askOf, baysOf, amountOf, bidOf, rowsFaults}
+use Rattle.model.specs.sheet.Rows.{askOf, baysOf, amountOf, ticketOf, bidOf, rowsFaults}
 use Rattle.model.specs.sheet.Content.{guests, stations, tablesOf, sheetFaults}
 use Rattle.model.specs.declared.answers.Reading.the-variants.{Read, Refused}
 use Rattle.model.specs.declared.answers.Reading.{Reading}
@@ -33,14 +33,20 @@ pub room-for : (n m k : ℕ) → n ≤ maxGuests → m ≤ maxStations → k ≡
 room-for n m k h g e = omega (arith, product-fits n m h g)
 
 pub lent-lengths :
-    (a b c d : ℕ) → tableLengths a b c d ≡ (false gives 10)
-    → (a ≡ maxGuests) × (b ≡ maxStations) × (c ≡ maxStations) × (d ≡ maxBids)
+    (a k b c d : ℕ) → tableLengths a k b c d ≡ (false gives 10)
+    → (a ≡ maxGuests) × (k ≡ maxGuests) × (b ≡ maxStations) × (c ≡ maxStations) × (d ≡ maxBids)
 unfolding tableLengths
-lent-lengths a b c d e =
-    let t : (not (a =? maxGuests) or not (b =? maxStations) or not (c =? maxStations) or not (d =? maxBids)) ≡ false
-    = cc in
-    let (t1, t2) = or-no _ _ t in let (t3, t4) = or-no _ _ t1 in let (t5, t6) = or-no _ _ t3 in
-    (eq-yes _ _ (is _ t5), eq-yes _ _ (is _ t6), eq-yes _ _ (is _ t4), eq-yes _ _ (is _ t2))
+lent-lengths a k b c d e =
+    let t : (not (a =? maxGuests) or not (k =? maxGuests) or not (b =? maxStations) or not (c =? maxStations)
+    or not (d =? maxBids)) ≡ false = cc in
+    let (t1, t2) = or-no _ _ t in let (t3, t4) = or-no _ _ t1 in
+    let (t5, t6) = or-no _ _ t3 in let (t7, t8) = or-no _ _ t5 in (
+      eq-yes _ _ (is _ t7),
+      eq-yes _ _ (is _ t8),
+      eq-yes _ _ (is _ t6),
+      eq-yes _ _ (is _ t4),
+      eq-yes _ _ (is _ t2),
+    )
   where
     is : (b : Bool) → not b ≡ false → b ≡ true
     is true e = refl
@@ -50,21 +56,21 @@ pub rows-good :
     {s : List ℕ} {n m : ℕ} → Sound s → n ≡ guests s → m ≡ stations s → firstFault (rowsFaults s m n) ≡ accepted tt
 rows-good t e f = rw (e, f) (t .rows-in)
 
-module _ (s a b c d : List ℕ) where
+module _ (s a k b c d : List ℕ) where
   abbrev entry : LentTables
-  entry = lentTables a b c d
+  entry = lentTables a k b c d
 
   refused-by : (x : Refusal) → readVerdict entry s ≡ refused (number x) → Reads s entry (Refused x) entry
   unfolding answerOfReading
   refused-by x e = record { answered = sym (giving-refused _ _ e); left = sym (updated-refused _ _ _ e) }
 
   pub refused-lent :
-      tableLengths (length a) (length b) (length c) (length d) ≡ (true gives 10)
+      tableLengths (length a) (length k) (length b) (length c) (length d) ≡ (true gives 10)
       → Reads s entry (Refused LentLengths) entry
   unfolding readVerdict
   refused-lent e = refused-by LentLengths (rw e (fault-here _ refl))
 
-  module _ (l : tableLengths (length a) (length b) (length c) (length d) ≡ (false gives 10)) where
+  module _ (l : tableLengths (length a) (length k) (length b) (length c) (length d) ≡ (false gives 10)) where
     as-sheet : readVerdict entry s ≡ firstFault (sheetFaults s)
     unfolding readVerdict
     as-sheet = rw l (fault-later _ _ refl)
@@ -73,14 +79,15 @@ module _ (s a b c d : List ℕ) where
     refused-sheet x r e f = refused-by x (as-sheet ∙ told-refused _ _ x r e f)
 
     pub read-all :
-        (n m : ℕ) (a′ b′ c′ d′ : List ℕ) → firstFault (sheetFaults s) ≡ accepted tt → n ≡ guests s → m ≡ stations s
-        → a′ ≡ first-places (list n (amountOf s m)) a → b′ ≡ first-places (list m (askOf s)) b
-        → c′ ≡ first-places (list m (baysOf s)) c → d′ ≡ first-places (joined n (λ i. list m (bidOf s m i))) d
-        → Reads s entry (Read n m) (lentTables a′ b′ c′ d′)
+        (n m : ℕ) (a′ k′ b′ c′ d′ : List ℕ) → firstFault (sheetFaults s) ≡ accepted tt → n ≡ guests s → m ≡ stations s
+        → a′ ≡ first-places (list n (amountOf s m)) a → k′ ≡ first-places (list n (ticketOf s m)) k
+        → b′ ≡ first-places (list m (askOf s)) b → c′ ≡ first-places (list m (baysOf s)) c
+        → d′ ≡ first-places (joined n (λ i. list m (bidOf s m i))) d
+        → Reads s entry (Read n m) (lentTables a′ k′ b′ c′ d′)
     unfolding answerOfReading filled tablesOf
-    read-all n m a′ b′ c′ d′ e f g i j k l =
+    read-all n m a′ k′ b′ c′ d′ e f g i ti j q l =
         let h : readVerdict entry s ≡ accepted tt = as-sheet ∙ e in
         record {
           answered = rw (f, g) (sym (giving-accepted _ h));
-          left = rw (i, j, k, l, f, g) (sym (updated-accepted (filled (tablesOf s) entry) entry h));
+          left = rw (i, ti, j, q, l, f, g) (sym (updated-accepted (filled (tablesOf s) entry) entry h));
         }

@@ -16,8 +16,8 @@ use Rattle.model.proofs.Verdicts.{giving-accepted, gave-accepted}
 use Rattle.model.proofs.Counting.{up, here, length-list, getD-list}
 use Rattle.model.proofs.Tests.{decide, only-le, only-yes, only-no}
 use Rattle.model.specs.sheet.Fields.{littleEndian, hasBit}
-use Rattle.model.specs.sheet.Rows.{mapAt, bidsAt, nextAt, rowAt, askOf, baysOf, amountOf, bidBy, bidOf}
-use Rattle.model.specs.sheet.Rows.{rowsFaults}
+use Rattle.model.specs.sheet.Rows.{mapAt, bidsAt, nextAt, rowAt, askOf, baysOf, amountOf, ticketOf, bidBy}
+use Rattle.model.specs.sheet.Rows.{bidOf, rowsFaults}
 use Rattle.model.proofs.sheet.Rows.{bids-at, RowSound, sound-row, sound-at, rows-none, rows-suc, first-row}
 use Rattle.model.proofs.sheet.Fields.{number-low}
 use Rattle.model.proofs.sheet.Joined.{joined-length}
@@ -116,11 +116,13 @@ module _ (s : List ℕ) (t : Tables) (set : ℕ → ℕ → Bool) (g : Fitting t
         (decide (set i j))
 
     tables-same : tablesOf s ≡ t
-    unfolding tablesOf askOf baysOf amountOf bidAt
+    unfolding tablesOf askOf baysOf amountOf ticketOf bidAt
     tables-same = rw (f .n-is, f .m-is) (λ x. record {
       asks = list-is (m t) (λ j. littleEndian s (4 + 6 * j) 4) (t .asks) refl (f .ask-is) x;
       bays = list-is (m t) (λ j. littleEndian s (8 + 6 * j) 2) (t .bays) (g .shape .bays-length) (f .bays-are) x;
       amounts = list-is (n t) (λ i. littleEndian s (rowAt s (m t) i) 2) (t .amounts) refl (f .amount-is) x;
+      tickets = list-is (n t) (λ i. littleEndian s (rowAt s (m t) i + 2) 4) (t .tickets) (g .shape .tickets-length)
+          (f .ticket-is) x;
       bids = joined-is (n t) (m t) (bidOf s (m t)) (t .bids) (g .shape .stations-least)
           (g .shape .bids-length) bid-same x;
       width = sym (g .shape .width-is) x;
@@ -141,23 +143,27 @@ pub record Is (s : List ℕ) (t : Tables) : Type 0 where
   pub m-is : m t ≡ stations s
   pub width-is : t .width ≡ m t
   pub bays-long : length (t .bays) ≡ m t
+  pub tickets-long : length (t .tickets) ≡ n t
   pub bids-long : length (t .bids) ≡ n t * m t
   pub ask-at : (j : ℕ) → j < m t → getD (t .asks) j 0 ≡ littleEndian s (4 + 6 * j) 4
   pub bays-at : (j : ℕ) → j < m t → getD (t .bays) j 0 ≡ littleEndian s (8 + 6 * j) 2
   pub amount-at : (i : ℕ) → i < n t → getD (t .amounts) i 0 ≡ littleEndian s (rowAt s (m t) i) 2
+  pub ticket-at : (i : ℕ) → i < n t → getD (t .tickets) i 0 ≡ littleEndian s (rowAt s (m t) i + 2) 4
   pub bid-at : (i j : ℕ) → i < n t → j < m t → bidAt t i j ≡ bidOf s (m t) i j
 
 pub tables-are : (s : List ℕ) → Is s (tablesOf s)
-unfolding tablesOf bidAt askOf baysOf amountOf
+unfolding tablesOf bidAt askOf baysOf amountOf ticketOf
 tables-are s = record {
   n-is = length-list (guests s) _;
   m-is = length-list (stations s) _;
   width-is = sym (length-list (stations s) _);
   bays-long = length-list (stations s) _ ∙ sym (length-list (stations s) _);
+  tickets-long = length-list (guests s) _ ∙ sym (length-list (guests s) _);
   bids-long = simp (length-list, joined-length);
   ask-at = λ j l. getD-list (stations s) _ j (rw length-list at l);
   bays-at = λ j l. getD-list (stations s) _ j (rw length-list at l);
   amount-at = λ i l. simp length-list (getD-list (guests s) _ i (rw length-list at l));
+  ticket-at = λ i l. simp length-list (getD-list (guests s) _ i (rw length-list at l));
   bid-at = λ i j l k. simp length-list
       (getD-joined (guests s) (stations s) (bidOf s (stations s)) i j (rw length-list at l) (rw length-list at k));
 }
@@ -180,12 +186,14 @@ module _ (s : List ℕ) (t : Tables) (y : Bytes s) (z : firstFault (sheetFaults 
       stations-least = omega (arith, w .m-is, sound .some);
       stations-most = omega (arith, w .m-is, sound .narrow);
       bays-length = w .bays-long;
+      tickets-length = w .tickets-long;
       bids-length = w .bids-long;
       width-is = w .width-is;
     };
     ask-fits = λ j l. rw (w .ask-at j l) (number-low s y _ 4);
     bays-fit = λ j l. rw (w .bays-at j l) (number-low s y _ 2);
     amount-fits = λ i l. rw (w .amount-at i l) (number-low s y _ 2);
+    ticket-fits = λ i l. rw (w .ticket-at i l) (number-low s y _ 4);
     bid-fits = λ i j l k. rw (w .bid-at i j l k) (only-low _ _ (number-low s y _ 4));
   }
 
@@ -197,6 +205,7 @@ module _ (s : List ℕ) (t : Tables) (y : Bytes s) (z : firstFault (sheetFaults 
     ask-is = λ j l. sym (w .ask-at j l);
     bays-are = λ j l. sym (w .bays-at j l);
     amount-is = λ i l. sym (w .amount-at i l);
+    ticket-is = λ i l. sym (w .ticket-at i l);
     map-is = λ i l. sym (pack-bits (m t) _ (sound-at s (m t) (n t) i _ rows-in l refl .no-stray));
     bid-is = λ i j l k b. sym (w .bid-at i j l k ∙ only-yes _ _ b);
     end = le-antisymm (within s (m t) (n t) (omega (arith, w .m-is, sound .stations-in)) rows-in)

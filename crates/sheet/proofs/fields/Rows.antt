@@ -12,11 +12,11 @@ use Rattle.model.proofs.sheet.Fields.{moved}
 use Rattle.model.proofs.sheet.Rows.{bids-at, MapTaken}
 
 pub map-taken :
-    (s : List ℕ) (m p d x : ℕ) (e : Cursor) → d ≡ p + 2 → d + mapWidth m ≤ length s → Taken s d (mapWidth m) x e
+    (s : List ℕ) (m p d x : ℕ) (e : Cursor) → d ≡ p + 6 → d + mapWidth m ≤ length s → Taken s d (mapWidth m) x e
     → MapTaken s m p x (e .at)
 unfolding mapAt
 map-taken s m p d x e f h t = record {
   within = omega (arith, bids-at m p);
-  map = moved s (mapWidth m) d (p + 2) (t .value) f;
+  map = moved s (mapWidth m) d (p + 6) (t .value) f;
   to = omega (arith, bids-at m p, t .place);
 }

@@ -11,30 +11,33 @@ use Rattle.sheet.proofs.write.Statement.{statement}
 use Rattle.sheet.proofs.write.Tie as tie
 
 abbrev entry-before-fault : tie.After-market-fault → tie.Start
-entry-before-fault c = let after-bids = c .before .before in after-bids .before .before .before .before
+entry-before-fault c =
+    let after-bids = c .before .before in
+    let after-amounts = after-bids .before .before in
+    after-amounts .before .before .before
 
 is-accepted : (c : tie.After-enum-told) → let entry = entry-before-fault (c .before .before) in
     verdict (tables (entry .args .asks .now) (entry .args .bays .now) (entry .args .amounts .now)
-    (entry .args .bids .now) (entry .args .width)) ≡ accepted tt
+    (entry .args .tickets .now) (entry .args .bids .now) (entry .args .width)) ≡ accepted tt
 unfolding answerOfVerdict
 is-accepted c = sym (told (c .enum-told .given .1) (c .before .before .market-fault .ensures))
 
 sheet-length-requires : tie.Need-sheet-length-requires
 sheet-length-requires c κs =
     let entry = entry-before-fault (c .before .before) in
-    shaped _ _ _ _ _ (entry .args .out .now) (is-accepted c)
+    shaped _ _ _ _ _ _ (entry .args .out .now) (is-accepted c)
 
 returns : tie.Need-returns
 returns c =
     let at-accepted = c .before .before in
-    refuses-short _ _ _ _ _ _ (is-accepted at-accepted) (c .before .sheet-length .ensures) (c .if1 .taken)
+    refuses-short _ _ _ _ _ _ _ (is-accepted at-accepted) (c .before .sheet-length .ensures) (c .if1 .taken)
 
 put-sheet-requires : tie.Need-put-sheet-requires
 put-sheet-requires c κs =
     let at-length = c .before .before in
     let at-accepted = at-length .before in
     let entry = entry-before-fault (at-accepted .before .before) in (
-      shaped _ _ _ _ _ (entry .args .out .now) (is-accepted at-accepted),
+      shaped _ _ _ _ _ _ (entry .args .out .now) (is-accepted at-accepted),
       rw (at-length .sheet-length .ensures) at (c .before .if1 .left),
     )
 
@@ -49,7 +52,7 @@ returns-3 c =
     let at-put-sheet = c .before .before in
     let at-if = at-put-sheet .before .before in
     let at-length = at-if .before in
-    writes _ _ _ _ _ _ (is-accepted (at-length .before)) (at-length .sheet-length .ensures) (at-if .if1 .left)
+    writes _ _ _ _ _ _ _ (is-accepted (at-length .before)) (at-length .sheet-length .ensures) (at-if .if1 .left)
     (at-put-sheet .put-sheet .ensures)
 
 pub write-spec : {M : Type 1} → statement M

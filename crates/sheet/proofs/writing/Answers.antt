@@ -32,13 +32,13 @@ unfolding writeVerdict writingFaults verdict
 refuses-market t out x e = refuses t out x (fault-first (marketFaults t) _ e)
 
 -- an accepted market's rows are as wide as there are stations
-module _ (asks bays amounts bids : List ℕ) (width : ℕ) (out : List ℕ)
-    (a : verdict (tables asks bays amounts bids width) ≡ accepted tt) where
+module _ (asks bays amounts tickets bids : List ℕ) (width : ℕ) (out : List ℕ)
+    (a : verdict (tables asks bays amounts tickets bids width) ≡ accepted tt) where
   abbrev t : Tables
-  t = tables asks bays amounts bids width
+  t = tables asks bays amounts tickets bids width
 
   abbrev r : Tables
-  r = regular asks bays amounts bids
+  r = regular asks bays amounts tickets bids
 
   shape : Shaped t
   shape = accepted-iff-within-limits t .0 a .shape
@@ -49,12 +49,13 @@ module _ (asks bays amounts bids : List ℕ) (width : ℕ) (out : List ℕ)
     stations-least = shape .stations-least;
     stations-most = shape .stations-most;
     bays-length = shape .bays-length;
+    tickets-length = shape .tickets-length;
     bids-length = shape .bids-length;
     width-is = refl;
   }
 
   same-sheet : shortest r ≡ shortest t
-  same-sheet = ap (λ w. shortest (tables asks bays amounts bids w)) (sym (shape .width-is))
+  same-sheet = ap (λ w. shortest (tables asks bays amounts tickets bids w)) (sym (shape .width-is))
 
   pub refuses-short : {k : ℕ} → k ≡ length (shortest r) → length out < k → Writes t out (Refused OutputTooShort) out
   unfolding writeVerdict writingFaults verdict

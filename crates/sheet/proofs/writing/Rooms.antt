@@ -21,28 +21,31 @@ use Rattle.sheet.specs.Laid.{rowBytes, rowOf}
 abbrev pub stationsPart : (asks bays : List ℕ) → List ℕ
 stationsPart asks bays = joined (length asks) (stationOf asks bays)
 
-abbrev pub rowsPart : (asks amounts bids : List ℕ) → List ℕ
-rowsPart asks amounts bids = joined (length amounts) (rowOf amounts bids (length asks))
+abbrev pub rowsPart : (asks amounts tickets bids : List ℕ) → List ℕ
+rowsPart asks amounts tickets bids = joined (length amounts) (rowOf amounts tickets bids (length asks))
 
-abbrev pub sheetParts : (asks bays amounts bids : List ℕ) → List ℕ
-sheetParts asks bays amounts bids =
-    bytesOf 2 (length amounts) ++ (bytesOf 2 (length asks) ++ (stationsPart asks bays ++ rowsPart asks amounts bids))
+abbrev pub sheetParts : (asks bays amounts tickets bids : List ℕ) → List ℕ
+sheetParts asks bays amounts tickets bids =
+    bytesOf 2 (length amounts)
+    ++ (bytesOf 2 (length asks) ++ (stationsPart asks bays ++ rowsPart asks amounts tickets bids))
 
 pub sheet-parts :
-    (asks bays amounts bids : List ℕ) → shortest (regular asks bays amounts bids) ≡ sheetParts asks bays amounts bids
+    (asks bays amounts tickets bids : List ℕ)
+    → shortest (regular asks bays amounts tickets bids) ≡ sheetParts asks bays amounts tickets bids
 unfolding shortest layout station row bidden bidAt stationOf stationBytes rowOf rowBytes rowMap bidsFrom bidFields
     bidField
-sheet-parts asks bays amounts bids = refl
+sheet-parts asks bays amounts tickets bids = refl
 
 pub room-for-parts :
-    (asks bays amounts bids : List ℕ) {n : ℕ} → length (shortest (regular asks bays amounts bids)) ≤ n
-    → 0 + length (sheetParts asks bays amounts bids) ≤ n
-room-for-parts asks bays amounts bids h = omega (arith, ap length (sheet-parts asks bays amounts bids))
+    (asks bays amounts tickets bids : List ℕ) {n : ℕ} → length (shortest (regular asks bays amounts tickets bids)) ≤ n
+    → 0 + length (sheetParts asks bays amounts tickets bids) ≤ n
+room-for-parts asks bays amounts tickets bids h =
+    omega (arith, ap length (sheet-parts asks bays amounts tickets bids))
 
 -- what its length is added up from
 pub record Sizes (t : Tables) : Type 0 where
-  pub head-low : rowHead (length (t .asks)) ≤ 7
-  pub heads-low : length (t .amounts) * rowHead (length (t .asks)) ≤ 1400
+  pub head-low : rowHead (length (t .asks)) ≤ 11
+  pub heads-low : length (t .amounts) * rowHead (length (t .asks)) ≤ 2200
   pub bids-low : length (t .bids) ≤ maxBids
 
 pub sizes : (t : Tables) → Shaped t → Sizes t
@@ -56,5 +59,5 @@ sizes t s = record {
 pub by-count :
     (t : Tables) (w k : ℕ) → Shaped t → w ≡ mapWidth (length (t .asks))
     → k ≡ count (length (t .bids)) (λ k. 0 <? getD (t .bids) k 0)
-    → 4 + length (t .asks) * 6 + (length (t .amounts) * (2 + w) + 4 * k) ≡ length (shortest t)
+    → 4 + length (t .asks) * 6 + (length (t .amounts) * (6 + w) + 4 * k) ≡ length (shortest t)
 by-count t w k s e f = rw (e, f, s .bids-length) (sym (shortest-length t))

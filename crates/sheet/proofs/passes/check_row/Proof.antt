@@ -5,7 +5,7 @@ use borrow.Author.Needs.{needs}
 use Rattle.model.proofs.Tests.{lt-yes, lt-no}
 use Rattle.model.proofs.Counting.{count-most}
 use Rattle.model.specs.sheet.Fields.{hasBit}
-use Rattle.model.proofs.sheet.Rows.{MapTaken, amount-ends, map-ends, stray, bids-end, row-good, next-is, bids-at}
+use Rattle.model.proofs.sheet.Rows.{MapTaken, head-ends, map-ends, stray, bids-end, row-good, next-is, bids-at}
 use Rattle.sheet.proofs.fields.Rows.{map-taken}
 use Rattle.sheet.proofs.passes.Steps.{step-fault, step-next}
 use Rattle.sheet.proofs.passes.check_row.Statement.{statement}
@@ -32,7 +32,9 @@ taken c =
     )) (c .map .ensures)
 
 returns : tie.Need-returns
-returns c = step-fault _ _ _ (amount-ends _ _ _ (lt-yes _ _ (sym (c .before .ends .ensures) ∙ c .if1 .taken)))
+returns c =
+    let ends = lt-yes _ _ (sym (c .before .ends .ensures) ∙ c .if1 .taken) in
+    step-fault _ _ _ (head-ends _ _ _ (omega (arith, ends)))
 
 ends-requires-2 : tie.Need-ends-requires-2
 ends-requires-2 c κs =
@@ -45,10 +47,10 @@ ends-requires-2 c κs =
 returns-2 : tie.Need-returns-2
 returns-2 c =
     let at-skip = c .before .before .before in
-    let past-amount = at-skip .before in
-    let at-ends = past-amount .before in
+    let past-head = at-skip .before in
+    let at-ends = past-head .before in
     let entry = at-ends .before .before in
-    let h = lt-no _ _ (sym (at-ends .ends .ensures) ∙ past-amount .if1 .left) in
+    let h = lt-no _ _ (sym (at-ends .ends .ensures) ∙ past-head .if1 .left) in
     let g = lt-yes _ _ (sym (c .before .ends2 .ensures) ∙ c .if2 .taken) in
     step-fault _ _ _ (map-ends _ _ _ h (omega (
       arith,

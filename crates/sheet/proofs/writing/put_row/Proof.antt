@@ -1,4 +1,4 @@
--- The amount, the map, then the bids, each after the other.
+-- The amount, the ticket, the map, then the bids, each after the other.
 use native.Mathlib.Omega.{arith}
 use borrow.Author.Needs.{needs}
 use Rattle.model.specs.sheet.Fields.{mapWidth}
@@ -16,8 +16,11 @@ entry-before-map c = c .before .before .before
 abbrev map-before-amount : tie.After-put-two → tie.After-row-map
 map-before-amount c = c .before .before
 
-abbrev amount-before-width : tie.After-map-width → tie.After-put-two
-amount-before-width c = c .before .before .before .before
+abbrev amount-before-ticket : tie.After-put-four → tie.After-put-two
+amount-before-ticket c = c .before .before .before .before
+
+abbrev ticket-before-width : tie.After-map-width → tie.After-put-four
+ticket-before-width c = c .before .before .before .before
 
 row-map-requires : tie.Need-row-map-requires
 row-map-requires c κs = let entry = c .before .before in (entry .pre .0, entry .pre .1)
@@ -29,21 +32,35 @@ put-two-requires c κs =
     let amount = entry .args .amount in
     omega (arith, room-for-first (bytesOf 2 amount) _ (entry .args .at) (entry .pre .2), bytes-length 2 amount)
 
+put-four-requires : tie.Need-put-four-requires
+unfolding rowBytes
+put-four-requires c κs =
+    let at-amount = c .before .before .before in
+    let entry = entry-before-map (map-before-amount at-amount) in
+    let ticket = entry .args .ticket in
+    omega (
+      arith,
+      room-for-first (bytesOf 4 ticket) _ _ (room-for-second _ (at-amount .put-two .ensures) (entry .pre .2)),
+      bytes-length 4 ticket,
+    )
+
 map-width-requires : tie.Need-map-width-requires
 map-width-requires c κs =
-    let at-amount = c .before .before .before in
+    let at-amount = amount-before-ticket (c .before .before .before) in
     entry-before-map (map-before-amount at-amount) .pre .0
 
 put-bytes-requires : tie.Need-put-bytes-requires
 unfolding rowBytes
 put-bytes-requires c κs =
-    let at-amount = amount-before-width c in
+    let at-ticket = ticket-before-width c in
+    let at-amount = amount-before-ticket at-ticket in
     let entry = entry-before-map (map-before-amount at-amount) in
     let width = mapWidth (entry .args .stations) in
     let map = rowMap (entry .args .stations) (bidsFrom (entry .args .bids .now) (entry .args .base)) in
     omega (
       arith,
-      room-for-first (bytesOf width map) _ _ (room-for-second _ (at-amount .put-two .ensures) (entry .pre .2)),
+      room-for-first (bytesOf width map) _ _ (room-for-second _ (at-ticket .put-four .ensures)
+          (room-for-second _ (at-amount .put-two .ensures) (entry .pre .2))),
       bytes-length width map,
       c .map-width .ensures,
     )
@@ -52,7 +69,8 @@ put-bids-requires : tie.Need-put-bids-requires
 unfolding rowBytes
 put-bids-requires c κs =
     let at-put-bytes = c .before .before .before in
-    let at-amount = amount-before-width (at-put-bytes .before) in
+    let at-ticket = ticket-before-width (at-put-bytes .before) in
+    let at-amount = amount-before-ticket at-ticket in
     let at-map = map-before-amount at-amount in
     let entry = entry-before-map at-map in (
       (entry .pre .0, entry .pre .1),
@@ -60,7 +78,8 @@ put-bids-requires c κs =
         at-map .row-map .ensures,
         room-for-second _ (same-bytes (at-put-bytes .before .map-width .ensures) (at-map .row-map .ensures)
             (at-put-bytes .put-bytes .ensures))
-            (room-for-second _ (at-amount .put-two .ensures) (entry .pre .2)),
+            (room-for-second _ (at-ticket .put-four .ensures)
+            (room-for-second _ (at-amount .put-two .ensures) (entry .pre .2))),
       ),
     )
 
@@ -69,12 +88,13 @@ unfolding rowBytes
 returns c =
     let at-put-bids = c .before .before in
     let at-put-bytes = at-put-bids .before .before .before .before in
-    let at-amount = amount-before-width (at-put-bytes .before) in
-    wrote-then (at-amount .put-two .ensures)
+    let at-ticket = ticket-before-width (at-put-bytes .before) in
+    let at-amount = amount-before-ticket at-ticket in
+    wrote-then (at-amount .put-two .ensures) (wrote-then (at-ticket .put-four .ensures)
     (wrote-then (same-bytes (at-put-bytes .before .map-width .ensures) (map-before-amount at-amount .row-map .ensures)
-    (at-put-bytes .put-bytes .ensures)) (at-put-bids .put-bids .ensures))
+    (at-put-bytes .put-bytes .ensures)) (at-put-bids .put-bids .ensures)))
 
 pub put-row-spec : {M : Type 1} → statement M
 put-row-spec =
-    tie.close (tie.spec row-map-requires put-two-requires map-width-requires put-bytes-requires put-bids-requires
-    (λ c. search needs) returns)
+    tie.close (tie.spec row-map-requires put-two-requires put-four-requires map-width-requires put-bytes-requires
+    put-bids-requires (λ c. search needs) returns)

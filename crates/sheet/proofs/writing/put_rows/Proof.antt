@@ -10,40 +10,46 @@ use Rattle.sheet.proofs.writing.put_rows.Statement.{statement}
 use Rattle.sheet.proofs.writing.put_rows.Tie as tie
 
 abbrev Inv-loop : tie.InvT-loop
-Inv-loop amounts bids stations out₀ at p₀ i₀ out p i =
-    Listing (length amounts) (rowOf amounts bids stations) out₀ at i out p
+Inv-loop amounts tickets bids stations out₀ at p₀ i₀ out p i =
+    Listing (length amounts) (rowOf amounts tickets bids stations) out₀ at i out p
 
 abbrev μ-loop : tie.MeasureT-loop
-μ-loop amounts bids stations out₀ at p₀ i₀ out p i = length amounts - i
+μ-loop amounts tickets bids stations out₀ at p₀ i₀ out p i = length amounts - i
 
 loop-holds : tie.Need-loop-holds Inv-loop μ-loop
 loop-holds c = listing-none
 
 abbrev entry-before-loop : tie.At-loop Inv-loop μ-loop → tie.Start Inv-loop μ-loop
-entry-before-loop c = c .before .before .before .before
+entry-before-loop c = let after-bids = c .before .before in after-bids .before .before .before
 
-mul-put-row-2 : tie.Need-mul-put-row-2 Inv-loop μ-loop
-mul-put-row-2 c =
-    let at-loop = c .before .before in
-    let entry = entry-before-loop at-loop in
-    omega (arith, entry .pre .1, mul-le-mul-right (entry .args .stations) (c .before .loop-test .taken))
+read-ticket : tie.Need-shared-slice-read-put-row-2 Inv-loop μ-loop
+read-ticket c =
+    let at-loop-test = c .before .before in
+    let entry = entry-before-loop (at-loop-test .before) in
+    omega (arith, entry .pre .1, at-loop-test .loop-test .taken)
+
+mul-put-row-3 : tie.Need-mul-put-row-3 Inv-loop μ-loop
+mul-put-row-3 c =
+    let at-loop-test = c .before .before in
+    let entry = entry-before-loop (at-loop-test .before) in
+    omega (arith, entry .pre .2, mul-le-mul-right (entry .args .stations) (at-loop-test .loop-test .taken))
 
 put-row-requires : tie.Need-put-row-requires Inv-loop μ-loop
 unfolding rowOf
 put-row-requires c κs =
-    let at-loop-test = c .before .before in
+    let at-loop-test = c .before .before .before in
     let at-loop = at-loop-test .before in
     let entry = entry-before-loop at-loop in (
       entry .pre .0,
-      omega (arith, entry .pre .1, mul-le-mul-right (entry .args .stations) (at-loop-test .loop-test .taken)),
-      room-for-next _ (at-loop .loop .inv) (at-loop-test .loop-test .taken) (entry .pre .2),
+      omega (arith, entry .pre .2, mul-le-mul-right (entry .args .stations) (at-loop-test .loop-test .taken)),
+      room-for-next _ (at-loop .loop .inv) (at-loop-test .loop-test .taken) (entry .pre .3),
     )
 
 loop-again : tie.Need-loop-again Inv-loop μ-loop
 unfolding rowOf
 loop-again c =
     let at-put-row = c .before .before in
-    let at-loop-test = at-put-row .before .before .before in
+    let at-loop-test = at-put-row .before .before .before .before in
     let at-loop = at-loop-test .before in
     listing-more (at-loop .loop .inv) (at-loop-test .loop-test .taken) (at-put-row .put-row .ensures)
 
@@ -55,5 +61,5 @@ returns c = listing-end (c .before .loop .inv) (c .loop-test .left)
 
 pub put-rows-spec : {M : Type 1} → statement M
 put-rows-spec =
-    tie.close (tie.spec Inv-loop μ-loop loop-holds (λ c. search needs) (λ c. search needs) mul-put-row-2
-    put-row-requires (λ c. search needs) (λ c. search needs) loop-again same-length returns)
+    tie.close (tie.spec Inv-loop μ-loop loop-holds (λ c. search needs) (λ c. search needs) (λ c. search needs)
+    read-ticket mul-put-row-3 put-row-requires (λ c. search needs) (λ c. search needs) loop-again same-length returns)

@@ -10,7 +10,10 @@ use Rattle.sheet.proofs.writing.put_sheet.Statement.{statement}
 use Rattle.sheet.proofs.writing.put_sheet.Tie as tie
 
 abbrev entry-before-guests : tie.After-put-two-arg → tie.Start
-entry-before-guests c = let after-bids = c .before .before in after-bids .before .before .before .before
+entry-before-guests c =
+    let after-bids = c .before .before in
+    let after-amounts = after-bids .before .before in
+    after-amounts .before .before .before
 
 abbrev guests-before-count : tie.After-put-two-arg2 → tie.After-put-two
 guests-before-count c = c .before .before .before
@@ -29,7 +32,7 @@ put-two-requires c κs =
     let entry = entry-before-guests c in
     omega (
       arith,
-      room-for-first (bytesOf 2 (length (entry .args .amounts .now))) _ 0 (room-for-parts _ _ _ _ (entry .pre .1)),
+      room-for-first (bytesOf 2 (length (entry .args .amounts .now))) _ 0 (room-for-parts _ _ _ _ _ (entry .pre .1)),
       bytes-length 2 (length (entry .args .amounts .now)),
     )
 
@@ -44,7 +47,7 @@ put-two-requires-2 c κs =
     omega (
       arith,
       room-for-first (bytesOf 2 count) _ _
-          (room-for-second _ (at-guests .put-two .ensures) (room-for-parts _ _ _ _ (entry .pre .1))),
+          (room-for-second _ (at-guests .put-two .ensures) (room-for-parts _ _ _ _ _ (entry .pre .1))),
       bytes-length 2 count,
     )
 
@@ -56,9 +59,9 @@ put-stations-requires c κs =
     let asks = entry .args .asks .now in (
       entry .pre .0 .bays-length,
       room-for-first (stationsPart asks (entry .args .bays .now))
-          (rowsPart asks (entry .args .amounts .now) (entry .args .bids .now)) _
+          (rowsPart asks (entry .args .amounts .now) (entry .args .tickets .now) (entry .args .bids .now)) _
           (room-for-second _ (at-count .put-two2 .ensures)
-          (room-for-second _ (at-guests .put-two .ensures) (room-for-parts _ _ _ _ (entry .pre .1)))),
+          (room-for-second _ (at-guests .put-two .ensures) (room-for-parts _ _ _ _ _ (entry .pre .1)))),
     )
 
 put-rows-requires : tie.Need-put-rows-requires
@@ -68,9 +71,10 @@ put-rows-requires c κs =
     let at-guests = guests-before-count (at-count .before) in
     let entry = entry-before-guests (at-guests .before) in (
       entry .pre .0 .stations-most,
+      entry .pre .0 .tickets-length,
       entry .pre .0 .bids-length,
       room-for-second _ (at-stations .put-stations .ensures) (room-for-second _ (at-count .put-two2 .ensures)
-          (room-for-second _ (at-guests .put-two .ensures) (room-for-parts _ _ _ _ (entry .pre .1)))),
+          (room-for-second _ (at-guests .put-two .ensures) (room-for-parts _ _ _ _ _ (entry .pre .1)))),
     )
 
 returns : tie.Need-returns

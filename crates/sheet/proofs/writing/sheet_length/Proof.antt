@@ -10,10 +10,10 @@ use Rattle.sheet.proofs.writing.sheet_length.Statement.{statement}
 use Rattle.sheet.proofs.writing.sheet_length.Tie as tie
 
 abbrev entry-before-map-width : tie.After-map-width → tie.Start
-entry-before-map-width c = let after-amounts = c .before .before in after-amounts .before .before .before
+entry-before-map-width c = let after-amounts = c .before .before .before in after-amounts .before .before .before
 
 heads-low : (c : tie.After-map-width) → let entry = entry-before-map-width c in
-    length (entry .args .amounts .now) * (2 + c .map-width .result) ≤ 1400
+    length (entry .args .amounts .now) * (6 + c .map-width .result) ≤ 2200
 heads-low c = rw (← c .map-width .ensures) at (sizes _ (entry-before-map-width c .pre) .heads-low)
 
 bids-low : (c : tie.After-map-width) → let bids = entry-before-map-width c .args .bids .now in
@@ -27,7 +27,10 @@ bids-low c =
     )
 
 map-width-requires : tie.Need-map-width-requires
-map-width-requires c κs = c .before .before .before .before .pre .stations-most
+map-width-requires c κs =
+    let after-amounts = c .before .before in
+    let entry = after-amounts .before .before .before in
+    entry .pre .stations-most
 
 add-row : tie.Need-add-row
 add-row c = omega (arith, sizes _ (entry-before-map-width c .pre) .head-low, c .map-width .ensures)
