@@ -96,7 +96,8 @@ for way in c slices owned; do
     finds 'write empty' 'what was written is (longer than|as long as) the sheet' trip $way
     finds 'write second' 'the second writing differs' trip $way
     finds 'write answer' 'answered 5, expected 0' trip $way
-    finds 'read amounts first accepted' 'the second reading differs' trip $way
+    finds 'read amounts first accepted' 'differs' trip $way
+    finds 'read second' 'the second reading differs' trip $way
 done
 # faults of tickets
 for way in c slices owned; do

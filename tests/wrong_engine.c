@@ -13,6 +13,7 @@
  *   FUNCTION repeat-late         15 comes after 13 or 14, the next refusal of a posting or a writing
  *   read place                   a ticket is read from the row's first bytes, where the amount stands
  *   read untouched               the tickets stay as they were
+ *   read second                  every second market that is read has another first ask
  *   write order                  a ticket is written highest byte first
  *   write past                   a byte past the sheet is turned over
  *   write early                  14 for an output that no sheet fits into goes before the market's own faults
@@ -164,6 +165,7 @@ uint8_t bay_market_read(const uint8_t *sheet, size_t sheet_len, uint16_t *amount
 {
     const struct part parts[] = {LIST(sheet), LIST(amounts), LIST(tickets), LIST(asks), LIST(bays), LIST(bids),
                                  NUMBER(n), NUMBER(m)};
+    static int taken = 0;
     uint32_t before[BAY_MARKET_MAX_GUESTS];
     char words[4][16];
 
@@ -173,7 +175,10 @@ uint8_t bay_market_read(const uint8_t *sheet, size_t sheet_len, uint16_t *amount
     uint8_t answer = REAL(bay_market_read)(sheet, sheet_len, amounts, amounts_len, tickets, tickets_len, asks, asks_len,
                                            bays, bays_len, bids, bids_len, n, m);
     if (answer == 0 && fault("read", words)) {
-        if (strcmp(words[1], "untouched") == 0) {
+        taken++;
+        if (strcmp(words[1], "second") == 0 && taken % 2 == 0) {
+            asks[0] ^= 1;
+        } else if (strcmp(words[1], "untouched") == 0) {
             memcpy(tickets, before, sizeof before);
         } else if (strcmp(words[1], "place") == 0) {
             size_t at = 4 + 6 * (size_t)*m;
