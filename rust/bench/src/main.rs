@@ -221,12 +221,12 @@ fn readings(random: &mut Random) {
     }
 }
 
-type WriteSheet = fn(&lent::Market, &mut [u8]) -> Result<usize, u8>;
+type WriteSheet = fn(&mut Scratch, &lent::Market, &mut [u8]) -> Result<usize, u8>;
 
 const WRITINGS: [WriteSheet; 3] = [
-    |market, sheet| lent::write(market, sheet).map_err(|refusal| refusal.number()),
-    |market, sheet| baseline::write(market, sheet, baseline::by_map),
-    |market, sheet| baseline::write(market, sheet, baseline::by_bid),
+    |_, market, sheet| lent::write(market, sheet).map_err(|refusal| refusal.number()),
+    |scratch, market, sheet| baseline::write(scratch, market, sheet, baseline::by_map),
+    |scratch, market, sheet| baseline::write(scratch, market, sheet, baseline::by_bid),
 ];
 
 fn writings(random: &mut Random) {
@@ -235,16 +235,16 @@ fn writings(random: &mut Random) {
     for (name, empty) in FILLINGS {
         let shape = Shape { bids: 1..=1_000_000, empty, ..full() };
         let markets: Vec<Market> = (0..MARKETS).map(|_| shape.market(random)).collect();
-        let mut outputs = WRITINGS.map(|_| vec![0; MAX_SHEET]);
+        let mut working = WRITINGS.map(|_| (Scratch::new(), vec![0; MAX_SHEET]));
         for market in &markets {
-            for (write, output) in WRITINGS.iter().zip(&mut outputs) {
-                let length = write(&lend(market), output).expect("an accepted market");
+            for (write, (scratch, output)) in WRITINGS.iter().zip(&mut working) {
+                let length = write(scratch, &lend(market), output).expect("an accepted market");
                 assert!(output[..length] == sheet::shortest(market), "a contender differs from the reference");
             }
         }
-        let [engine, map, bid] = &mut outputs;
-        let run = |write: WriteSheet, market: &Market, output: &mut [u8]| {
-            black_box(write(&lend(market), output)).expect("an accepted market");
+        let [engine, map, bid] = &mut working;
+        let run = |write: WriteSheet, market: &Market, (scratch, output): &mut (Box<Scratch>, Vec<u8>)| {
+            black_box(write(scratch, &lend(market), output)).expect("an accepted market");
         };
         let medians = medians(
             &markets,
