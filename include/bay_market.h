@@ -12,12 +12,13 @@
  * nothing is read or written through it. A pointer with no length after it is not null and has one element.
  * Calls share no state, so threads may call at the same time on different memory.
  *
- * MIND THE ORDER OF ARGUMENTS. bay_market_read takes amounts, asks, bays, bids, as the sheet's reader fills them;
- * bay_market_write, bay_market_clear and bay_market_post take asks, bays, amounts, bids. Amounts and bays have one
- * type, asks and bids another, so a compiler cannot see a swap.
+ * MIND THE ORDER OF ARGUMENTS. bay_market_read takes amounts, tickets, asks, bays, bids, as the sheet's reader fills
+ * them; bay_market_write, bay_market_clear and bay_market_post take asks, bays, amounts, tickets, bids. Amounts and
+ * bays have one type, tickets, asks and bids another, so a compiler cannot see a swap.
  *
  * Prices are in mills (thousandths of the currency unit) per kWh, charges and payments in mills,
- * amounts in whole kWh. Guests and stations are numbered from 1; element 0 of a table is number 1.
+ * amounts in whole kWh. Guests and stations are numbered from 1; element 0 of a table is number 1. A ticket is any
+ * 32-bit number, another for each guest; of equal totals the lower ticket stands first.
  */
 #ifndef BAY_MARKET_H
 #define BAY_MARKET_H
@@ -38,7 +39,7 @@ extern "C" {
 #define BAY_MARKET_MAX_PRICE 1000000                  /* of an ask and of a bid */
 #define BAY_MARKET_MAX_AMOUNT 1000
 #define BAY_MARKET_MAX_BAYS 200
-#define BAY_MARKET_MAX_SHEET 33644                    /* bytes of the largest sheet */
+#define BAY_MARKET_MAX_SHEET 34444                    /* bytes of the largest sheet */
 #define BAY_MARKET_MAX_ACCOUNT UINT64_C(1000000000000000)
 #define BAY_MARKET_MAX_ROUND UINT32_C(4294967295)
 #define BAY_MARKET_MAX_STACK 16384                    /* bytes of stack that a call takes at most */
@@ -50,7 +51,7 @@ enum bay_market_refusal {
     BAY_MARKET_COUNTS_OUT_OF_RANGE = 2, /* more than 200 guests, no station, or more than 40 */
     BAY_MARKET_STRAY_BIT = 3,           /* a bit map has a bit beyond the last station */
     BAY_MARKET_TRAILING_BYTES = 4,      /* bytes follow the last row */
-    BAY_MARKET_LENGTHS_DIFFER = 5,      /* bays, bids or row width do not fit the counts */
+    BAY_MARKET_LENGTHS_DIFFER = 5,      /* bays, tickets, bids or row width do not fit the counts */
     BAY_MARKET_ASK_OUT_OF_RANGE = 6,    /* an ask is above 1,000,000 */
     BAY_MARKET_BAYS_OUT_OF_RANGE = 7,   /* a station has no bays or more than 200 */
     BAY_MARKET_AMOUNT_OUT_OF_RANGE = 8, /* an amount is 0 or above 1,000 */
@@ -59,7 +60,8 @@ enum bay_market_refusal {
     BAY_MARKET_ROUND_OUT_OF_TURN = 11,  /* the round is not the last one plus 1, or no round is left */
     BAY_MARKET_ACCOUNT_OVER_LIMIT = 12, /* an account is above 10^15, or would be */
     BAY_MARKET_BOOK_SIZE = 13,          /* the ledger has accounts beyond the limits, or fewer than the market needs */
-    BAY_MARKET_OUTPUT_TOO_SHORT = 14    /* the output is shorter than the sheet */
+    BAY_MARKET_OUTPUT_TOO_SHORT = 14,   /* the output is shorter than the sheet */
+    BAY_MARKET_TICKETS_REPEAT = 15      /* two guests have the same ticket */
 };
 
 /* What an answer says. */
@@ -71,7 +73,7 @@ static inline const char *bay_market_refusal_text(uint8_t answer)
     case BAY_MARKET_COUNTS_OUT_OF_RANGE: return "more than 200 guests, no station, or more than 40";
     case BAY_MARKET_STRAY_BIT: return "a bit map has a bit beyond the last station";
     case BAY_MARKET_TRAILING_BYTES: return "bytes follow the last row";
-    case BAY_MARKET_LENGTHS_DIFFER: return "bays, bids or row width do not fit the counts";
+    case BAY_MARKET_LENGTHS_DIFFER: return "bays, tickets, bids or row width do not fit the counts";
     case BAY_MARKET_ASK_OUT_OF_RANGE: return "an ask is above 1,000,000";
     case BAY_MARKET_BAYS_OUT_OF_RANGE: return "a station has no bays or more than 200";
     case BAY_MARKET_AMOUNT_OUT_OF_RANGE: return "an amount is 0 or above 1,000";
@@ -81,6 +83,7 @@ static inline const char *bay_market_refusal_text(uint8_t answer)
     case BAY_MARKET_ACCOUNT_OVER_LIMIT: return "an account is above 10^15, or would be";
     case BAY_MARKET_BOOK_SIZE: return "the ledger has accounts beyond the limits, or fewer than the market needs";
     case BAY_MARKET_OUTPUT_TOO_SHORT: return "the output is shorter than the sheet";
+    case BAY_MARKET_TICKETS_REPEAT: return "two guests have the same ticket";
     default: return "not an answer of the engine";
     }
 }
@@ -93,16 +96,18 @@ struct bay_market_station_account {
 };
 
 /*
- * Reads a sheet into tables of the greatest size: 200 amounts, 40 asks, 40 bays, 8,000 bids, IN THIS ORDER, which
- * is not that of the other functions.
- * Fills the first n amounts, m asks, m bays and n times m bids, row after row, and leaves the rest;
- * *n is the number of guests and *m of stations. Whether values are in range is the clearing's business.
+ * Reads a sheet into tables of the greatest size: 200 amounts, 200 tickets, 40 asks, 40 bays, 8,000 bids, IN THIS
+ * ORDER, which is not that of the other functions.
+ * Fills the first n amounts and tickets, m asks and bays and n times m bids, row after row, and leaves the rest;
+ * *n is the number of guests and *m of stations. Whether values are in range, and whether tickets repeat, is the
+ * clearing's business.
  *
  * Refusals in this order: 10 for another table length; 1 for fewer than 4 bytes; 2 for the counts;
  * then, field by field, 1 where the sheet ends and, after a bit map, 3; at the end 4.
  */
 uint8_t bay_market_read(const uint8_t *sheet, size_t sheet_len,
                         uint16_t *amounts, size_t amounts_len,
+                        uint32_t *tickets, size_t tickets_len,
                         uint32_t *asks, size_t asks_len,
                         uint16_t *bays, size_t bays_len,
                         uint32_t *bids, size_t bids_len,
@@ -113,11 +118,12 @@ uint8_t bay_market_read(const uint8_t *sheet, size_t sheet_len,
  * bytes of sheet, and leaves the rest. The market is lent as to bay_market_clear. BAY_MARKET_MAX_SHEET bytes are
  * enough for every market.
  *
- * Refusals in this order: 2, 5 and 6 to 9 as in clearing; 14 where sheet_len is shorter than the sheet.
+ * Refusals in this order: 2, 5, 6 to 9 and 15 as in clearing; 14 where sheet_len is shorter than the sheet.
  */
 uint8_t bay_market_write(const uint32_t *asks, size_t asks_len,
                          const uint16_t *bays, size_t bays_len,
                          const uint16_t *amounts, size_t amounts_len,
+                         const uint32_t *tickets, size_t tickets_len,
                          const uint32_t *bids, size_t bids_len,
                          size_t width,
                          uint8_t *sheet, size_t sheet_len,
@@ -128,13 +134,14 @@ uint8_t bay_market_write(const uint32_t *asks, size_t asks_len,
  * bids[i * width + j], and 0 is no bid. Result lists: for each guest its station (0 for none) and its
  * charge (0 for none), for each station the kWh sold and its payment. *cut is the cut, per kWh.
  *
- * Refusals in this order: 2 for n or m; 5 where bays_len or width is not m or bids_len is not n times m;
- * 10 for a result list that is not n or m long; then 6 for any ask, 7 for any bays, 8 for any amount,
- * 9 for any bid out of range.
+ * Refusals in this order: 2 for n or m; 5 where bays_len or width is not m, tickets_len is not n or bids_len is
+ * not n times m; 10 for a result list that is not n or m long; then 6 for any ask, 7 for any bays, 8 for any amount,
+ * 9 for any bid out of range; 15 where two tickets are equal.
  */
 uint8_t bay_market_clear(const uint32_t *asks, size_t asks_len,
                          const uint16_t *bays, size_t bays_len,
                          const uint16_t *amounts, size_t amounts_len,
+                         const uint32_t *tickets, size_t tickets_len,
                          const uint32_t *bids, size_t bids_len,
                          size_t width,
                          uint16_t *stations, size_t stations_len,
@@ -148,13 +155,14 @@ uint8_t bay_market_clear(const uint32_t *asks, size_t asks_len,
  * guests' accounts, sales and payments to the stations', the margin to *house, the round to *last.
  * Accounts beyond the market's guests and stations stay. An empty ledger is all zeros; round 1 is first.
  *
- * Refusals in this order: 2, 5 and 6 to 9 as in clearing; 13 for a ledger over 200 guests or 40 stations
+ * Refusals in this order: 2, 5, 6 to 9 and 15 as in clearing; 13 for a ledger over 200 guests or 40 stations
  * or smaller than the market; 11 where round is not *last + 1, and always after 4,294,967,295;
  * 12 where any account or kWh sum is above 10^15 before the posting or would be after it.
  */
 uint8_t bay_market_post(const uint32_t *asks, size_t asks_len,
                         const uint16_t *bays, size_t bays_len,
                         const uint16_t *amounts, size_t amounts_len,
+                        const uint32_t *tickets, size_t tickets_len,
                         const uint32_t *bids, size_t bids_len,
                         size_t width, uint32_t round,
                         uint64_t *guests, size_t guests_len,

@@ -52,13 +52,26 @@ done
 
 # case E with a set bit for a bid of 0: the same clearing, and 4 bytes more than are written
 {
-    head -c 25 examples/case_e.sheet
+    head -c 33 examples/case_e.sheet
     printf '\3\10\0\0\0\0\0\0\0'
 } >"$work/empty"
-[ "$(wc -c <"$work/empty")" = 34 ]
+[ "$(wc -c <"$work/empty")" = 42 ]
 expect 0 "$(cat examples/case_e.txt)" '' "./clear $work/empty"
 expect_sheet examples/case_e.sheet "./clear --write $work/empty"
 expect_sheet examples/case_e.sheet "./clear --write $work/empty | ./clear --write"
+
+# case E with tickets 9 and 4, and with equal ones
+tickets() {
+    head -c 18 examples/case_e.sheet
+    printf '%b\0\0\0\1\10\0\0\0\3\0%b\0\0\0\1\10\0\0\0' "$1" "$2"
+}
+tickets '\1' '\2' | cmp - examples/case_e.sheet
+tickets '\11' '\4' >"$work/tickets"
+expect 0 $'cut 6\nguest 1 station 0 charge 0\nguest 2 station 1 charge 24\n*' '' "./clear $work/tickets"
+expect_sheet "$work/tickets" "./clear --write $work/tickets"
+tickets '\4' '\4' >"$work/equal"
+expect 1 'refused 15' '' "./clear $work/equal"
+expect 1 'refused 15' '' "./clear --write $work/equal"
 
 # the largest sheet, a byte more, and no byte
 {
@@ -67,12 +80,12 @@ expect_sheet examples/case_e.sheet "./clear --write $work/empty | ./clear --writ
 } >"$work/stations"
 {
     cat "$work/stations"
-    for _ in {1..200}; do
-        printf '\1\0\377\377\377\377\377'
-        printf '\2\0\0\0%.0s' {1..40}
+    for ticket in {1..200}; do
+        printf '\1\0%b\0\0\0\377\377\377\377\377' "\\0$(printf %o "$ticket")"
+        printf '\372\0\0\0%.0s' {1..40}
     done
 } >"$work/largest"
-[ "$(wc -c <"$work/largest")" = 33644 ]
+[ "$(wc -c <"$work/largest")" = 34444 ]
 expect 0 $'cut 1\n*' '' "./clear $work/largest"
 expect 1 'refused 4' '' "{ cat $work/largest; printf x; } | ./clear"
 expect 1 'refused 1' '' './clear </dev/null'
@@ -82,9 +95,11 @@ expect 1 'refused 1' '' './clear --write </dev/null'
 # all its bids 0
 {
     cat "$work/stations"
-    printf '\1\0\0\0\0\0\0%.0s' {1..200}
+    for ticket in {1..200}; do
+        printf '\1\0%b\0\0\0\0\0\0\0\0' "\\0$(printf %o "$ticket")"
+    done
 } >"$work/no_bids"
-expect_sheet "$work/no_bids" "tr '\2' '\0' <$work/largest | ./clear --write"
+expect_sheet "$work/no_bids" "tr '\372' '\0' <$work/largest | ./clear --write"
 
 # help, wrong use, no such file
 expect 0 'usage: ./clear*' '' './clear --help'

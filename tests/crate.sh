@@ -46,7 +46,7 @@ fi
 grep -q 'libbay_market.a is not there' "$work/err"
 
 export BAY_MARKET_LIB_DIR=$libraries
-[ "$(run case_e)" = $'cut 6\nsheet of 30 bytes' ]
+[ "$(run case_e)" = $'cut 6\nsheet of 38 bytes' ]
 if run refused >"$work/out" 2>"$work/err"; then
     echo 'cleared what is to be refused' >&2
     exit 1

@@ -41,12 +41,12 @@ done
 lists() {
     case $1 in
     read) echo sheet ;;
-    write | clear | post) echo asks bays amounts bids ;;
+    write | clear | post) echo asks bays amounts tickets bids ;;
     esac
 }
 filled() {
     case $1 in
-    read) echo amounts asks bays bids ;;
+    read) echo amounts tickets asks bays bids ;;
     write) echo sheet ;;
     clear) echo stations charges sold paid ;;
     post) echo guests stations ;;
@@ -96,7 +96,28 @@ for way in c slices owned; do
     finds 'write empty' 'what was written is (longer than|as long as) the sheet' trip $way
     finds 'write second' 'the second writing differs' trip $way
     finds 'write answer' 'answered 5, expected 0' trip $way
-    finds 'read amounts first accepted' 'the second reading differs' trip $way
+    finds 'read amounts first accepted' 'differs' trip $way
+    finds 'read second' 'the second reading differs' trip $way
+done
+# faults of tickets
+for way in c slices owned; do
+    for function in clear post; do
+        finds "$function higher" 'differ' $function $way
+    done
+    for function in write clear post; do
+        finds "$function equal" 'answered 0, expected 15|owned [a-z]+ differs' $function $way
+        finds "$function repeat-early" 'answered 15, expected 9|owned [a-z]+ differs' $function $way
+    done
+    finds 'post repeat-late' 'answered 13, expected 15|owned ledger differs' post $way
+    finds 'write order' 'differs' write $way
+    for fault in place untouched; do
+        finds "read $fault" 'tickets differ|owned market differs' read $way
+        finds "read $fault" 'differs|answered 15, expected 0' trip $way
+    done
+    finds 'write order' 'what was written is as long as the sheet and differs' trip $way
+done
+for way in c slices; do
+    finds 'write repeat-late' 'answered 14, expected 15' write $way
 done
 finds 'clear bid' 'guest [0-9]+ gains by' truth
 finds 'clear ask' 'station [0-9]+ gains by' truth
@@ -105,7 +126,7 @@ finds 'clear sold first accepted' 'sold other kWh' truth
 
 export BAY_MARKET_PROGRAM=$PWD/tests/wrong_program BAY_MARKET_REAL=$real/clear
 BAY_MARKET_FAULT='' "$compare" $seed print >/dev/null
-for fault in text refusal stderr line status sheet byte refused-sheet; do
+for fault in text refusal repeat stderr line status sheet byte refused-sheet repeat-sheet; do
     finds $fault 'differs' print
 done
 status=0

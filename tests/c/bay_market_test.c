@@ -1,4 +1,4 @@
-/* Case E of document 01, refusals and the header's limits, through include/bay_market.h. */
+/* Case E of document 01, tickets, refusals and the header's limits, through include/bay_market.h. */
 #include "bay_market.h"
 
 #include <stdio.h>
@@ -6,7 +6,7 @@
 
 _Static_assert(BAY_MARKET_MAX_BIDS == BAY_MARKET_MAX_GUESTS * BAY_MARKET_MAX_STATIONS, "bids");
 _Static_assert(BAY_MARKET_MAX_SHEET == 4 + 6 * BAY_MARKET_MAX_STATIONS
-               + (2 + BAY_MARKET_MAX_STATIONS / 8) * BAY_MARKET_MAX_GUESTS + 4 * BAY_MARKET_MAX_BIDS, "sheet");
+               + (2 + 4 + BAY_MARKET_MAX_STATIONS / 8) * BAY_MARKET_MAX_GUESTS + 4 * BAY_MARKET_MAX_BIDS, "sheet");
 
 static int failures = 0;
 
@@ -20,29 +20,34 @@ static void expect(int holds, const char *what)
 
 static const uint8_t sheet[] = {
     0x02, 0x00, 0x02, 0x00, 0x02, 0x00, 0x00, 0x00, 0x01, 0x00, 0x06, 0x00, 0x00, 0x00, 0x01, 0x00,
-    0x03, 0x00, 0x01, 0x08, 0x00, 0x00, 0x00, 0x03, 0x00, 0x01, 0x08, 0x00, 0x00, 0x00,
+    0x03, 0x00, 0x01, 0x00, 0x00, 0x00, 0x01, 0x08, 0x00, 0x00, 0x00,
+    0x03, 0x00, 0x02, 0x00, 0x00, 0x00, 0x01, 0x08, 0x00, 0x00, 0x00,
 };
 
 static uint16_t amounts[BAY_MARKET_MAX_GUESTS];
+static uint32_t tickets[BAY_MARKET_MAX_GUESTS];
 static uint32_t asks[BAY_MARKET_MAX_STATIONS];
 static uint16_t bays[BAY_MARKET_MAX_STATIONS];
 static uint32_t bids[BAY_MARKET_MAX_BIDS];
 static uint16_t n = 77, m = 77;
 
-static uint8_t read_sheet(size_t length)
+static uint8_t read_sheet(const uint8_t *bytes, size_t length)
 {
-    return bay_market_read(sheet, length, amounts, BAY_MARKET_MAX_GUESTS, asks, BAY_MARKET_MAX_STATIONS,
-                           bays, BAY_MARKET_MAX_STATIONS, bids, BAY_MARKET_MAX_BIDS, &n, &m);
+    return bay_market_read(bytes, length, amounts, BAY_MARKET_MAX_GUESTS, tickets, BAY_MARKET_MAX_GUESTS,
+                           asks, BAY_MARKET_MAX_STATIONS, bays, BAY_MARKET_MAX_STATIONS, bids, BAY_MARKET_MAX_BIDS,
+                           &n, &m);
 }
 
 static void test_read(void)
 {
-    expect(read_sheet(sizeof sheet - 1) == BAY_MARKET_SHEET_ENDS, "a cut sheet is refused");
-    expect(n == 77 && m == 77 && asks[0] == 0 && amounts[0] == 0, "a refused sheet is not read");
-    expect(read_sheet(sizeof sheet) == BAY_MARKET_ACCEPTED, "case E is read");
+    expect(read_sheet(sheet, sizeof sheet - 1) == BAY_MARKET_SHEET_ENDS, "a cut sheet is refused");
+    expect(read_sheet(sheet, 21) == BAY_MARKET_SHEET_ENDS, "a sheet that is cut inside a ticket is refused");
+    expect(n == 77 && m == 77 && asks[0] == 0 && amounts[0] == 0 && tickets[0] == 0, "a refused sheet is not read");
+    expect(read_sheet(sheet, sizeof sheet) == BAY_MARKET_ACCEPTED, "case E is read");
     expect(n == 2 && m == 2, "counts");
     expect(asks[0] == 2 && asks[1] == 6 && bays[0] == 1 && bays[1] == 1, "asks and bays");
     expect(amounts[0] == 3 && amounts[1] == 3, "amounts");
+    expect(tickets[0] == 1 && tickets[1] == 2, "tickets");
     expect(bids[0] == 8 && bids[1] == 0 && bids[2] == 8 && bids[3] == 0, "bids");
 }
 
@@ -51,21 +56,20 @@ static void test_write(void)
 {
     static const uint8_t empty[] = {
         0x02, 0x00, 0x02, 0x00, 0x02, 0x00, 0x00, 0x00, 0x01, 0x00, 0x06, 0x00, 0x00, 0x00, 0x01, 0x00,
-        0x03, 0x00, 0x03, 0x08, 0x00, 0x00, 0x00, 0x00, 0x00, 0x00, 0x00, 0x03, 0x00, 0x01, 0x08, 0x00, 0x00, 0x00,
+        0x03, 0x00, 0x01, 0x00, 0x00, 0x00, 0x03, 0x08, 0x00, 0x00, 0x00, 0x00, 0x00, 0x00, 0x00,
+        0x03, 0x00, 0x02, 0x00, 0x00, 0x00, 0x01, 0x08, 0x00, 0x00, 0x00,
     };
     uint8_t output[sizeof sheet + 2];
     size_t length = 77;
 
-    expect(bay_market_read(empty, sizeof empty, amounts, BAY_MARKET_MAX_GUESTS, asks, BAY_MARKET_MAX_STATIONS, bays,
-                           BAY_MARKET_MAX_STATIONS, bids, BAY_MARKET_MAX_BIDS, &n, &m) == BAY_MARKET_ACCEPTED,
-           "a set bit for a bid of 0 is read");
+    expect(read_sheet(empty, sizeof empty) == BAY_MARKET_ACCEPTED, "a set bit for a bid of 0 is read");
     memset(output, 77, sizeof output);
-    expect(bay_market_write(asks, m, bays, m, amounts, n, bids, 4, 1, output, 0, &length) == BAY_MARKET_LENGTHS_DIFFER,
-           "the market is looked at before the output");
-    expect(bay_market_write(asks, m, bays, m, amounts, n, bids, 4, m, output, sizeof sheet - 1, &length)
+    expect(bay_market_write(asks, m, bays, m, amounts, n, tickets, n, bids, 4, 1, output, 0, &length)
+           == BAY_MARKET_LENGTHS_DIFFER, "the market is looked at before the output");
+    expect(bay_market_write(asks, m, bays, m, amounts, n, tickets, n, bids, 4, m, output, sizeof sheet - 1, &length)
            == BAY_MARKET_OUTPUT_TOO_SHORT, "an output that is a byte too short is refused");
     expect(length == 77 && output[0] == 77 && output[sizeof sheet - 2] == 77, "a refused writing writes nothing");
-    expect(bay_market_write(asks, m, bays, m, amounts, n, bids, 4, m, output, sizeof output, &length)
+    expect(bay_market_write(asks, m, bays, m, amounts, n, tickets, n, bids, 4, m, output, sizeof output, &length)
            == BAY_MARKET_ACCEPTED, "case E is written");
     expect(length == sizeof sheet && memcmp(output, sheet, sizeof sheet) == 0, "its shortest sheet");
     expect(output[sizeof sheet] == 77 && output[sizeof sheet + 1] == 77, "what is beyond it stays");
@@ -80,26 +84,52 @@ static void test_clear(void)
     uint32_t cut = 77;
     uint64_t margin = 77;
 
-    expect(bay_market_clear(asks, m, bays, m, amounts, n, bids, 4, 1, stations, n, charges, n, sold, m, paid, m,
-                            &cut, &margin) == BAY_MARKET_LENGTHS_DIFFER, "another row width is refused");
+    expect(bay_market_clear(asks, m, bays, m, amounts, n, tickets, n, bids, 4, 1, stations, n, charges, n, sold, m,
+                            paid, m, &cut, &margin) == BAY_MARKET_LENGTHS_DIFFER, "another row width is refused");
     expect(stations[0] == 77 && charges[0] == 77 && sold[0] == 77 && paid[0] == 77 && cut == 77 && margin == 77,
            "a refused clearing writes nothing");
-    expect(bay_market_clear(asks, m, bays, m, amounts, n, bids, 4, m, stations, n, charges, n, sold, m, paid, m,
-                            &cut, &margin) == BAY_MARKET_ACCEPTED, "case E is cleared");
+    expect(bay_market_clear(asks, m, bays, m, amounts, n, tickets, n, bids, 4, m, stations, n, charges, n, sold, m,
+                            paid, m, &cut, &margin) == BAY_MARKET_ACCEPTED, "case E is cleared");
     expect(stations[0] == 1 && stations[1] == 0 && charges[0] == 24 && charges[1] == 0, "guests");
     expect(sold[0] == 3 && sold[1] == 0 && paid[0] == 18 && paid[1] == 0, "stations");
     expect(cut == 6 && margin == 6, "cut and margin");
 }
 
+/* Case E with other tickets: who is seated, or 0 and the answer. */
+static unsigned seated(const uint32_t *others, size_t count, uint8_t *answer)
+{
+    uint16_t stations[2] = {0, 0};
+    uint32_t charges[2], sold[2], cut;
+    uint64_t paid[2], margin;
+
+    *answer = bay_market_clear(asks, m, bays, m, amounts, n, others, count, bids, 4, m, stations, n, charges, n,
+                               sold, m, paid, m, &cut, &margin);
+    return stations[0] == 1 ? 1 : stations[1] == 1 ? 2 : 0;
+}
+
+static void test_tickets(void)
+{
+    static const uint32_t higher_first[] = {9, 4}, ends[] = {0, UINT32_MAX}, equal[] = {UINT32_MAX, UINT32_MAX};
+    static const uint32_t three[] = {1, 2, 3};
+    uint8_t answer;
+
+    expect(seated(higher_first, 2, &answer) == 2 && answer == BAY_MARKET_ACCEPTED, "the lower ticket stands first");
+    expect(seated(ends, 2, &answer) == 1 && answer == BAY_MARKET_ACCEPTED, "the least and the greatest ticket");
+    expect(seated(equal, 2, &answer) == 0 && answer == BAY_MARKET_TICKETS_REPEAT, "two equal tickets");
+    expect(seated(equal, 1, &answer) == 0 && answer == BAY_MARKET_LENGTHS_DIFFER, "too few tickets");
+    expect(seated(three, 3, &answer) == 0 && answer == BAY_MARKET_LENGTHS_DIFFER, "too many tickets");
+}
+
 /* Clears one guest at one station. */
 static uint8_t clear_one(uint32_t ask, uint16_t count, uint16_t amount, uint32_t bid)
 {
+    const uint32_t ticket = 7;
     uint16_t station;
     uint32_t charge, sold, cut;
     uint64_t paid, margin;
 
-    return bay_market_clear(&ask, 1, &count, 1, &amount, 1, &bid, 1, 1, &station, 1, &charge, 1, &sold, 1, &paid, 1,
-                            &cut, &margin);
+    return bay_market_clear(&ask, 1, &count, 1, &amount, 1, &ticket, 1, &bid, 1, 1, &station, 1, &charge, 1, &sold, 1,
+                            &paid, 1, &cut, &margin);
 }
 
 static void test_limits(void)
@@ -121,7 +151,8 @@ static uint8_t post_to(uint64_t house, uint32_t last)
     uint64_t guests[2] = {0};
     struct bay_market_station_account stations[2] = {{0, 0}, {0, 0}};
 
-    return bay_market_post(asks, m, bays, m, amounts, n, bids, 4, m, last + 1, guests, 2, stations, 2, &house, &last);
+    return bay_market_post(asks, m, bays, m, amounts, n, tickets, n, bids, 4, m, last + 1, guests, 2, stations, 2,
+                           &house, &last);
 }
 
 static void test_ledger_limits(void)
@@ -140,7 +171,8 @@ static void test_post(void)
     uint32_t last = 0;
 
     for (int posting = 0; posting < 2; posting++) {
-        uint8_t answer = bay_market_post(asks, m, bays, m, amounts, n, bids, 4, m, 1, guests, 3, stations, 2, &house, &last);
+        uint8_t answer = bay_market_post(asks, m, bays, m, amounts, n, tickets, n, bids, 4, m, 1, guests, 3,
+                                         stations, 2, &house, &last);
         expect(answer == (posting == 0 ? BAY_MARKET_ACCEPTED : BAY_MARKET_ROUND_OUT_OF_TURN), "round 1 is posted once");
         expect(guests[0] == 24 && guests[1] == 0 && guests[2] == 0, "guest accounts");
         expect(stations[0].sold == 3 && stations[0].paid == 18 && stations[1].sold == 0 && stations[1].paid == 0,
@@ -160,32 +192,32 @@ static void test_null(void)
     uint8_t output[10];
     size_t length = 77;
 
-    expect(bay_market_write(&ask, 1, &bay, 1, NULL, 0, NULL, 0, 1, NULL, 0, &length) == BAY_MARKET_OUTPUT_TOO_SHORT,
-           "no output");
-    expect(bay_market_write(&ask, 1, &bay, 1, NULL, 0, NULL, 0, 1, output, sizeof output, &length)
+    expect(bay_market_write(&ask, 1, &bay, 1, NULL, 0, NULL, 0, NULL, 0, 1, NULL, 0, &length)
+           == BAY_MARKET_OUTPUT_TOO_SHORT, "no output");
+    expect(bay_market_write(&ask, 1, &bay, 1, NULL, 0, NULL, 0, NULL, 0, 1, output, sizeof output, &length)
            == BAY_MARKET_ACCEPTED && length == sizeof output, "a market with no guests is written");
-    expect(bay_market_write(NULL, 0, NULL, 0, NULL, 0, NULL, 0, 0, NULL, 0, &length) == BAY_MARKET_COUNTS_OUT_OF_RANGE,
-           "no station to write");
-    expect(bay_market_clear(&ask, 1, &bay, 1, NULL, 0, NULL, 0, 1, NULL, 0, NULL, 0, &sold, 1, &paid, 1, &cut, &margin)
-           == BAY_MARKET_ACCEPTED, "a market with no guests is cleared");
+    expect(bay_market_write(NULL, 0, NULL, 0, NULL, 0, NULL, 0, NULL, 0, 0, NULL, 0, &length)
+           == BAY_MARKET_COUNTS_OUT_OF_RANGE, "no station to write");
+    expect(bay_market_clear(&ask, 1, &bay, 1, NULL, 0, NULL, 0, NULL, 0, 1, NULL, 0, NULL, 0, &sold, 1, &paid, 1, &cut,
+                            &margin) == BAY_MARKET_ACCEPTED, "a market with no guests is cleared");
     expect(sold == 0 && paid == 0 && cut == 5 && margin == 0, "nobody buys");
-    expect(bay_market_post(&ask, 1, &bay, 1, NULL, 0, NULL, 0, 1, 1, NULL, 0, &station, 1, &house, &last)
+    expect(bay_market_post(&ask, 1, &bay, 1, NULL, 0, NULL, 0, NULL, 0, 1, 1, NULL, 0, &station, 1, &house, &last)
            == BAY_MARKET_ACCEPTED, "a market with no guests is posted");
     expect(station.sold == 1 && station.paid == 2 && house == 3 && last == 1, "only the round is posted");
-    expect(bay_market_clear(NULL, 0, NULL, 0, NULL, 0, NULL, 0, 0, NULL, 0, NULL, 0, NULL, 0, NULL, 0, &cut, &margin)
-           == BAY_MARKET_COUNTS_OUT_OF_RANGE, "no station");
-    expect(bay_market_post(NULL, 0, NULL, 0, NULL, 0, NULL, 0, 0, 1, NULL, 0, NULL, 0, &house, &last)
+    expect(bay_market_clear(NULL, 0, NULL, 0, NULL, 0, NULL, 0, NULL, 0, 0, NULL, 0, NULL, 0, NULL, 0, NULL, 0, &cut,
+                            &margin) == BAY_MARKET_COUNTS_OUT_OF_RANGE, "no station");
+    expect(bay_market_post(NULL, 0, NULL, 0, NULL, 0, NULL, 0, NULL, 0, 0, 1, NULL, 0, NULL, 0, &house, &last)
            == BAY_MARKET_COUNTS_OUT_OF_RANGE, "no station to post");
-    expect(bay_market_post(&ask, 1, &bay, 1, NULL, 0, NULL, 0, 1, 2, NULL, 0, NULL, 0, &house, &last)
+    expect(bay_market_post(&ask, 1, &bay, 1, NULL, 0, NULL, 0, NULL, 0, 1, 2, NULL, 0, NULL, 0, &house, &last)
            == BAY_MARKET_BOOK_SIZE, "no ledger");
-    expect(bay_market_read(NULL, 0, NULL, 0, NULL, 0, NULL, 0, NULL, 0, &n, &m) == BAY_MARKET_LENT_LENGTHS, "no tables");
-    expect(bay_market_read(NULL, 0, amounts, BAY_MARKET_MAX_GUESTS, asks, BAY_MARKET_MAX_STATIONS, bays,
-                           BAY_MARKET_MAX_STATIONS, bids, BAY_MARKET_MAX_BIDS, &n, &m) == BAY_MARKET_SHEET_ENDS, "no sheet");
+    expect(bay_market_read(NULL, 0, NULL, 0, NULL, 0, NULL, 0, NULL, 0, NULL, 0, &n, &m) == BAY_MARKET_LENT_LENGTHS,
+           "no tables");
+    expect(read_sheet(NULL, 0) == BAY_MARKET_SHEET_ENDS, "no sheet");
 }
 
 static void test_texts(void)
 {
-    const uint8_t beyond = BAY_MARKET_OUTPUT_TOO_SHORT + 1;
+    const uint8_t beyond = BAY_MARKET_TICKETS_REPEAT + 1;
 
     expect(strcmp(bay_market_refusal_text(BAY_MARKET_ACCEPTED), "accepted") == 0, "the text of 0");
     expect(strcmp(bay_market_refusal_text(beyond), bay_market_refusal_text(255)) == 0, "no answer of the engine");
@@ -201,6 +233,7 @@ int main(void)
     test_read();
     test_write();
     test_clear();
+    test_tickets();
     test_post();
     test_limits();
     test_ledger_limits();

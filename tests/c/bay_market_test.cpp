@@ -9,7 +9,7 @@ static_assert(sizeof(bay_market_station_account) == 16, "two accounts of 64 bits
 
 int main()
 {
-    std::vector<std::uint32_t> asks{2, 6}, bids, charges, sold(2, 77);
+    std::vector<std::uint32_t> asks{2, 6}, tickets, bids, charges, sold(2, 77);
     std::vector<std::uint16_t> bays{1, 1}, amounts, stations;
     std::vector<std::uint64_t> paid(2, 77);
     std::uint32_t cut = 77;
@@ -17,25 +17,30 @@ int main()
 
     const auto clear = [&] {
         return bay_market_clear(asks.data(), asks.size(), bays.data(), bays.size(), amounts.data(), amounts.size(),
-                                bids.data(), bids.size(), asks.size(), stations.data(), stations.size(), charges.data(),
-                                charges.size(), sold.data(), sold.size(), paid.data(), paid.size(), &cut, &margin);
+                                tickets.data(), tickets.size(), bids.data(), bids.size(), asks.size(), stations.data(),
+                                stations.size(), charges.data(), charges.size(), sold.data(), sold.size(), paid.data(),
+                                paid.size(), &cut, &margin);
     };
     bool good = clear() == BAY_MARKET_ACCEPTED && cut == 6 && margin == 0 && sold[0] == 0 && paid[1] == 0;
     amounts = {3, 3};
     bids = {8, 0, 8, 0};
+    good = good && clear() == BAY_MARKET_LENGTHS_DIFFER;
+    tickets = {9, 4};
     good = good && clear() == BAY_MARKET_LENT_LENGTHS;
     stations.resize(2);
     charges.resize(2);
-    good = good && clear() == BAY_MARKET_ACCEPTED && charges[0] == 24 && paid[0] == 18 && margin == 6;
+    good = good && clear() == BAY_MARKET_ACCEPTED && charges[1] == 24 && paid[0] == 18 && margin == 6;
     std::vector<std::uint8_t> sheet;
     std::size_t length = 77;
     const auto write = [&] {
         return bay_market_write(asks.data(), asks.size(), bays.data(), bays.size(), amounts.data(), amounts.size(),
-                                bids.data(), bids.size(), asks.size(), sheet.data(), sheet.size(), &length);
+                                tickets.data(), tickets.size(), bids.data(), bids.size(), asks.size(), sheet.data(),
+                                sheet.size(), &length);
     };
     good = good && write() == BAY_MARKET_OUTPUT_TOO_SHORT && length == 77;
     sheet.resize(BAY_MARKET_MAX_SHEET, 77);
-    good = good && write() == BAY_MARKET_ACCEPTED && length == 30 && sheet[0] == 2 && sheet[29] == 0 && sheet[30] == 77;
+    good = good && write() == BAY_MARKET_ACCEPTED && length == 38;
+    good = good && sheet[0] == 2 && sheet[18] == 9 && sheet[37] == 0 && sheet[38] == 77;
     good = good && std::string(bay_market_refusal_text(BAY_MARKET_BOOK_SIZE)).find("ledger") != std::string::npos;
     std::puts(good ? "C++ test: all as expected" : "C++ test failed");
     return good ? 0 : 1;

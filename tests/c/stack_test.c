@@ -12,7 +12,7 @@
 #define PAINT 0xA5
 
 static uint16_t amounts[BAY_MARKET_MAX_GUESTS], bays[BAY_MARKET_MAX_STATIONS], n, m;
-static uint32_t asks[BAY_MARKET_MAX_STATIONS], bids[BAY_MARKET_MAX_BIDS], cut, last;
+static uint32_t asks[BAY_MARKET_MAX_STATIONS], tickets[BAY_MARKET_MAX_GUESTS], bids[BAY_MARKET_MAX_BIDS], cut, last;
 static uint8_t sheet[BAY_MARKET_MAX_SHEET];
 static size_t sheet_len;
 static uint16_t stations[BAY_MARKET_MAX_GUESTS];
@@ -27,25 +27,27 @@ static void none(void)
 
 static void call_read(void)
 {
-    answer = bay_market_read(sheet, sheet_len, amounts, BAY_MARKET_MAX_GUESTS, asks, BAY_MARKET_MAX_STATIONS,
-                             bays, BAY_MARKET_MAX_STATIONS, bids, BAY_MARKET_MAX_BIDS, &n, &m);
+    answer = bay_market_read(sheet, sheet_len, amounts, BAY_MARKET_MAX_GUESTS, tickets, BAY_MARKET_MAX_GUESTS,
+                             asks, BAY_MARKET_MAX_STATIONS, bays, BAY_MARKET_MAX_STATIONS, bids, BAY_MARKET_MAX_BIDS,
+                             &n, &m);
 }
 
 static void call_write(void)
 {
-    answer = bay_market_write(asks, m, bays, m, amounts, n, bids, (size_t)n * m, m, sheet, sizeof sheet, &sheet_len);
+    answer = bay_market_write(asks, m, bays, m, amounts, n, tickets, n, bids, (size_t)n * m, m, sheet, sizeof sheet,
+                              &sheet_len);
 }
 
 static void call_clear(void)
 {
-    answer = bay_market_clear(asks, m, bays, m, amounts, n, bids, (size_t)n * m, m, stations, n, charges, n, sold, m,
-                              paid, m, &cut, &margin);
+    answer = bay_market_clear(asks, m, bays, m, amounts, n, tickets, n, bids, (size_t)n * m, m, stations, n, charges, n,
+                              sold, m, paid, m, &cut, &margin);
 }
 
 static void call_post(void)
 {
-    answer = bay_market_post(asks, m, bays, m, amounts, n, bids, (size_t)n * m, m, last + 1, guests, n, accounts, m,
-                             &house, &last);
+    answer = bay_market_post(asks, m, bays, m, amounts, n, tickets, n, bids, (size_t)n * m, m, last + 1, guests, n,
+                             accounts, m, &house, &last);
 }
 
 /* How many bytes of the stack a call touches. */
@@ -74,7 +76,7 @@ static size_t depth(void (*call)(void))
     return BAY_MARKET_MAX_STACK - untouched;
 }
 
-/* The largest sheet, full of candidates; `spread` moves the bids apart. */
+/* The largest sheet, full of candidates; `spread` moves the bids apart, and tickets fall where it is even. */
 static void write_sheet(uint32_t spread)
 {
     uint8_t *at = sheet;
@@ -87,6 +89,7 @@ static void write_sheet(uint32_t spread)
     }
     for (int guest = 0; guest < BAY_MARKET_MAX_GUESTS; guest++) {
         *at++ = (uint8_t)(1 + guest), *at++ = 0;
+        *at++ = (uint8_t)(spread % 2 == 0 ? UINT8_MAX - guest : guest), *at++ = 0, *at++ = 0, *at++ = 0;
         memset(at, 0xFF, BAY_MARKET_MAX_STATIONS / 8);
         at += BAY_MARKET_MAX_STATIONS / 8;
         for (int station = 0; station < BAY_MARKET_MAX_STATIONS; station++) {

@@ -1,8 +1,8 @@
 //! The functions of include/bay_market.h, where each is documented.
 //!
-//! Mind the order of arguments: `bay_market_read` takes amounts, asks, bays, bids, the others asks, bays, amounts, bids.
-//! Amounts and bays have one type, asks and bids another, so the compiler cannot see a swap. The safe functions name
-//! each.
+//! Mind the order of arguments: `bay_market_read` takes amounts, tickets, asks, bays, bids, the others asks, bays,
+//! amounts, tickets, bids. Amounts and bays have one type, tickets, asks and bids another, so the compiler cannot see a
+//! swap. The safe functions name each.
 
 use crate::StationAccount;
 
@@ -11,6 +11,7 @@ unsafe extern "C" {
     pub fn bay_market_read(
         sheet: *const u8, sheet_len: usize,
         amounts: *mut u16, amounts_len: usize,
+        tickets: *mut u32, tickets_len: usize,
         asks: *mut u32, asks_len: usize,
         bays: *mut u16, bays_len: usize,
         bids: *mut u32, bids_len: usize,
@@ -21,6 +22,7 @@ unsafe extern "C" {
         asks: *const u32, asks_len: usize,
         bays: *const u16, bays_len: usize,
         amounts: *const u16, amounts_len: usize,
+        tickets: *const u32, tickets_len: usize,
         bids: *const u32, bids_len: usize,
         width: usize,
         sheet: *mut u8, sheet_len: usize,
@@ -31,6 +33,7 @@ unsafe extern "C" {
         asks: *const u32, asks_len: usize,
         bays: *const u16, bays_len: usize,
         amounts: *const u16, amounts_len: usize,
+        tickets: *const u32, tickets_len: usize,
         bids: *const u32, bids_len: usize,
         width: usize,
         stations: *mut u16, stations_len: usize,
@@ -44,6 +47,7 @@ unsafe extern "C" {
         asks: *const u32, asks_len: usize,
         bays: *const u16, bays_len: usize,
         amounts: *const u16, amounts_len: usize,
+        tickets: *const u32, tickets_len: usize,
         bids: *const u32, bids_len: usize,
         width: usize, round: u32,
         guests: *mut u64, guests_len: usize,

@@ -4,7 +4,8 @@
 //! ```
 //! use bay_market::lent::{Cleared, Market, Results, clear};
 //!
-//! let market = Market { asks: &[2, 6], bays: &[1, 1], amounts: &[3, 3], bids: &[8, 0, 8, 0], width: 2 };
+//! let (amounts, tickets) = (&[3, 3], &[1, 2]);
+//! let market = Market { asks: &[2, 6], bays: &[1, 1], amounts, tickets, bids: &[8, 0, 8, 0], width: 2 };
 //! let (mut stations, mut charges, mut sold, mut paid) = ([0; 2], [0; 2], [0; 2], [0; 2]);
 //! let mut results = Results { stations: &mut stations, charges: &mut charges, sold: &mut sold, paid: &mut paid };
 //! assert_eq!(clear(&market, &mut results), Ok(Cleared { cut: 6, margin: 6 }));
@@ -13,12 +14,13 @@
 
 use crate::{MAX_BIDS, MAX_GUESTS, MAX_STATIONS, Refusal, StationAccount, c};
 
-/// A market: n amounts, m asks, m bays, n rows of m bids (0: no bid); `width` is the length of a row.
+/// A market: n amounts and tickets, m asks, m bays, n rows of m bids (0: no bid); `width` is the length of a row.
 #[derive(Clone, Copy, Debug)]
 pub struct Market<'a> {
     pub asks: &'a [u32],
     pub bays: &'a [u16],
     pub amounts: &'a [u16],
+    pub tickets: &'a [u32],
     pub bids: &'a [u32],
     pub width: usize,
 }
@@ -44,12 +46,13 @@ pub struct Cleared {
 /// Another size is no table:
 ///
 /// ```compile_fail,E0308
-/// let (mut amounts, mut asks, mut bays, mut bids) = ([0; 199], [0; 40], [0; 40], [0; 8000]);
-/// bay_market::lent::Tables { amounts: &mut amounts, asks: &mut asks, bays: &mut bays, bids: &mut bids };
+/// let (amounts, tickets) = (&mut [0; 200], &mut [0; 199]);
+/// bay_market::lent::Tables { amounts, tickets, asks: &mut [0; 40], bays: &mut [0; 40], bids: &mut [0; 8000] };
 /// ```
 #[derive(Debug)]
 pub struct Tables<'a> {
     pub amounts: &'a mut [u16; MAX_GUESTS],
+    pub tickets: &'a mut [u32; MAX_GUESTS],
     pub asks: &'a mut [u32; MAX_STATIONS],
     pub bays: &'a mut [u16; MAX_STATIONS],
     pub bids: &'a mut [u32; MAX_BIDS],
@@ -75,7 +78,14 @@ impl<'a> Tables<'a> {
     /// The market that was read, whose values may be out of range.
     pub fn market(&self, counts: Counts) -> Market<'_> {
         let (n, m) = (usize::from(counts.guests), usize::from(counts.stations));
-        Market { asks: &self.asks[..m], bays: &self.bays[..m], amounts: &self.amounts[..n], bids: &self.bids[..n * m], width: m }
+        Market {
+            asks: &self.asks[..m],
+            bays: &self.bays[..m],
+            amounts: &self.amounts[..n],
+            tickets: &self.tickets[..n],
+            bids: &self.bids[..n * m],
+            width: m,
+        }
     }
 }
 
@@ -84,11 +94,12 @@ impl<'a> Tables<'a> {
 pub fn read(sheet: &[u8], tables: &mut Tables) -> Result<Counts, Refusal> {
     let mut counts = Counts { guests: 0, stations: 0 };
     // SAFETY: every pointer and length is that of a live slice or number, and borrows keep the written ones apart.
-    // The order is the reader's: amounts, asks, bays, bids.
+    // The order is the reader's: amounts, tickets, asks, bays, bids.
     let answer = unsafe {
         c::bay_market_read(
             sheet.as_ptr(), sheet.len(),
             tables.amounts.as_mut_ptr(), tables.amounts.len(),
+            tables.tickets.as_mut_ptr(), tables.tickets.len(),
             tables.asks.as_mut_ptr(), tables.asks.len(),
             tables.bays.as_mut_ptr(), tables.bays.len(),
             tables.bids.as_mut_ptr(), tables.bids.len(),
@@ -105,21 +116,23 @@ pub fn read(sheet: &[u8], tables: &mut Tables) -> Result<Counts, Refusal> {
 /// use bay_market::Refusal;
 /// use bay_market::lent::{Market, write};
 ///
-/// let market = Market { asks: &[5], bays: &[2], amounts: &[3, 4], bids: &[0, 9], width: 1 };
-/// let mut sheet = [77; 22];
-/// assert_eq!(write(&market, &mut sheet), Ok(20));
-/// assert_eq!(sheet, [2, 0, 1, 0, 5, 0, 0, 0, 2, 0, 3, 0, 0, 4, 0, 1, 9, 0, 0, 0, 77, 77]);
-/// assert_eq!(write(&market, &mut sheet[..19]), Err(Refusal::OutputTooShort));
+/// let market = Market { asks: &[5], bays: &[2], amounts: &[3, 4], tickets: &[8, 7], bids: &[0, 9], width: 1 };
+/// let mut sheet = [77; 30];
+/// assert_eq!(write(&market, &mut sheet), Ok(28));
+/// assert_eq!(sheet[..10], [2, 0, 1, 0, 5, 0, 0, 0, 2, 0]);
+/// assert_eq!(sheet[10..], [3, 0, 8, 0, 0, 0, 0, 4, 0, 7, 0, 0, 0, 1, 9, 0, 0, 0, 77, 77]);
+/// assert_eq!(write(&market, &mut sheet[..27]), Err(Refusal::OutputTooShort));
 /// ```
 #[rustfmt::skip] // pointer and length on one line
 pub fn write(market: &Market, sheet: &mut [u8]) -> Result<usize, Refusal> {
     let mut length = 0;
-    // SAFETY: as in `read`. The order is asks, bays, amounts, bids.
+    // SAFETY: as in `read`. The order is asks, bays, amounts, tickets, bids.
     let answer = unsafe {
         c::bay_market_write(
             market.asks.as_ptr(), market.asks.len(),
             market.bays.as_ptr(), market.bays.len(),
             market.amounts.as_ptr(), market.amounts.len(),
+            market.tickets.as_ptr(), market.tickets.len(),
             market.bids.as_ptr(), market.bids.len(),
             market.width,
             sheet.as_mut_ptr(), sheet.len(),
@@ -139,6 +152,7 @@ pub fn clear(market: &Market, results: &mut Results) -> Result<Cleared, Refusal>
             market.asks.as_ptr(), market.asks.len(),
             market.bays.as_ptr(), market.bays.len(),
             market.amounts.as_ptr(), market.amounts.len(),
+            market.tickets.as_ptr(), market.tickets.len(),
             market.bids.as_ptr(), market.bids.len(),
             market.width,
             results.stations.as_mut_ptr(), results.stations.len(),
@@ -160,6 +174,7 @@ pub fn post(market: &Market, round: u32, ledger: &mut Ledger) -> Result<(), Refu
             market.asks.as_ptr(), market.asks.len(),
             market.bays.as_ptr(), market.bays.len(),
             market.amounts.as_ptr(), market.amounts.len(),
+            market.tickets.as_ptr(), market.tickets.len(),
             market.bids.as_ptr(), market.bids.len(),
             market.width, round,
             ledger.guests.as_mut_ptr(), ledger.guests.len(),

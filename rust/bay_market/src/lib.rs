@@ -6,7 +6,8 @@
 //! ```
 //! use bay_market::{Ledger, Market, Refusal};
 //!
-//! let market = Market { asks: vec![2, 6], bays: vec![1, 1], amounts: vec![3, 3], bids: vec![8, 0, 8, 0] };
+//! let (amounts, tickets) = (vec![3, 3], vec![1, 2]);
+//! let market = Market { asks: vec![2, 6], bays: vec![1, 1], amounts, tickets, bids: vec![8, 0, 8, 0] };
 //! let clearing = market.clear()?;
 //! assert_eq!((clearing.cut, clearing.stations, clearing.charges), (6, vec![1, 0], vec![24, 0]));
 //! assert_eq!(Market::read(&market.to_sheet()?)?, market);
@@ -39,7 +40,7 @@ pub const MAX_AMOUNT: u16 = 1_000;
 /// Of a station; the least is 1.
 pub const MAX_BAYS: u16 = 200;
 /// Bytes of the largest sheet.
-pub const MAX_SHEET: usize = 33_644;
+pub const MAX_SHEET: usize = 34_444;
 /// Of an account in mills, and of a sum in kWh.
 pub const MAX_ACCOUNT: u64 = 1_000_000_000_000_000;
 pub const MAX_ROUND: u32 = u32::MAX;

@@ -2,12 +2,13 @@
 
 use crate::{MAX_BIDS, MAX_GUESTS, MAX_SHEET, MAX_STATIONS, Refusal, StationAccount, lent};
 
-/// A market: n amounts, m asks, m bays, and n times m bids, guest after guest (0: no bid).
+/// A market: n amounts and tickets, m asks, m bays, and n times m bids, guest after guest (0: no bid).
 #[derive(Clone, Debug, Default, PartialEq, Eq)]
 pub struct Market {
     pub asks: Vec<u32>,
     pub bays: Vec<u16>,
     pub amounts: Vec<u16>,
+    pub tickets: Vec<u32>,
     pub bids: Vec<u32>,
 }
 
@@ -43,12 +44,22 @@ impl Market {
     /// assert_eq!(Market::read(&sheet[..9]), Err(Refusal::SheetEnds));
     /// ```
     pub fn read(sheet: &[u8]) -> Result<Market, Refusal> {
-        let (mut amounts, mut asks, mut bays) = ([0; MAX_GUESTS], [0; MAX_STATIONS], [0; MAX_STATIONS]);
-        let mut bids = [0; MAX_BIDS];
-        let mut tables = lent::Tables { amounts: &mut amounts, asks: &mut asks, bays: &mut bays, bids: &mut bids };
+        let mut tables = lent::Tables {
+            amounts: &mut [0; MAX_GUESTS],
+            tickets: &mut [0; MAX_GUESTS],
+            asks: &mut [0; MAX_STATIONS],
+            bays: &mut [0; MAX_STATIONS],
+            bids: &mut [0; MAX_BIDS],
+        };
         let counts = lent::read(sheet, &mut tables)?;
         let read = tables.market(counts);
-        Ok(Market { asks: read.asks.into(), bays: read.bays.into(), amounts: read.amounts.into(), bids: read.bids.into() })
+        Ok(Market {
+            asks: read.asks.into(),
+            bays: read.bays.into(),
+            amounts: read.amounts.into(),
+            tickets: read.tickets.into(),
+            bids: read.bids.into(),
+        })
     }
 
     /// The shortest sheet that states the market, with a set bit exactly where a bid is not 0. It is refused where its
@@ -58,10 +69,10 @@ impl Market {
     /// use bay_market::{Market, Refusal};
     ///
     /// // one guest, with a set bit and a bid of 0
-    /// let sheet = [1, 0, 1, 0, 5, 0, 0, 0, 2, 0, 3, 0, 1, 0, 0, 0, 0];
+    /// let sheet = [1, 0, 1, 0, 5, 0, 0, 0, 2, 0, 3, 0, 7, 0, 0, 0, 1, 0, 0, 0, 0];
     /// let market = Market::read(&sheet)?;
     /// let shortest = market.to_sheet()?;
-    /// assert_eq!(shortest, [1, 0, 1, 0, 5, 0, 0, 0, 2, 0, 3, 0, 0]);
+    /// assert_eq!(shortest, [1, 0, 1, 0, 5, 0, 0, 0, 2, 0, 3, 0, 7, 0, 0, 0, 0]);
     /// assert_eq!(Market::read(&shortest)?, market);
     /// # Ok::<(), Refusal>(())
     /// ```
@@ -83,7 +94,14 @@ impl Market {
     }
 
     pub fn lend(&self) -> lent::Market<'_> {
-        lent::Market { asks: &self.asks, bays: &self.bays, amounts: &self.amounts, bids: &self.bids, width: self.asks.len() }
+        lent::Market {
+            asks: &self.asks,
+            bays: &self.bays,
+            amounts: &self.amounts,
+            tickets: &self.tickets,
+            bids: &self.bids,
+            width: self.asks.len(),
+        }
     }
 }
 
@@ -107,10 +125,13 @@ impl Ledger {
 mod tests {
     use super::*;
 
-    const SHEET_E: [u8; 30] = [2, 0, 2, 0, 2, 0, 0, 0, 1, 0, 6, 0, 0, 0, 1, 0, 3, 0, 1, 8, 0, 0, 0, 3, 0, 1, 8, 0, 0, 0];
+    const SHEET_E: [u8; 38] = [
+        2, 0, 2, 0, 2, 0, 0, 0, 1, 0, 6, 0, 0, 0, 1, 0, //
+        3, 0, 1, 0, 0, 0, 1, 8, 0, 0, 0, 3, 0, 2, 0, 0, 0, 1, 8, 0, 0, 0,
+    ];
 
     fn case_e() -> Market {
-        Market { asks: vec![2, 6], bays: vec![1, 1], amounts: vec![3, 3], bids: vec![8, 0, 8, 0] }
+        Market { asks: vec![2, 6], bays: vec![1, 1], amounts: vec![3, 3], tickets: vec![1, 2], bids: vec![8, 0, 8, 0] }
     }
 
     #[test]
@@ -122,19 +143,28 @@ mod tests {
     }
 
     #[test]
+    fn the_lower_ticket_goes_first() {
+        let clearing = Market { tickets: vec![9, 4], ..case_e() }.clear().unwrap();
+        assert_eq!((clearing.stations, clearing.charges), (vec![0, 1], vec![0, 24]));
+        assert_eq!(Market { tickets: vec![4, 4], ..case_e() }.clear(), Err(Refusal::TicketsRepeat));
+        assert_eq!(Market { tickets: vec![4], ..case_e() }.clear(), Err(Refusal::LengthsDiffer));
+    }
+
+    #[test]
     fn writes_case_e() {
         assert_eq!(case_e().to_sheet(), Ok(SHEET_E.into()));
         assert_eq!(Market { asks: vec![2, 1_000_001], ..case_e() }.to_sheet(), Err(Refusal::AskOutOfRange));
-        let mut sheet = [77; 31];
-        assert_eq!(lent::write(&case_e().lend(), &mut sheet[..29]), Err(Refusal::OutputTooShort));
-        assert_eq!(sheet, [77; 31]);
-        assert_eq!(lent::write(&case_e().lend(), &mut sheet), Ok(30));
-        assert_eq!((&sheet[..30], sheet[30]), (&SHEET_E[..], 77));
+        let mut sheet = [77; 39];
+        assert_eq!(lent::write(&case_e().lend(), &mut sheet[..37]), Err(Refusal::OutputTooShort));
+        assert_eq!(sheet, [77; 39]);
+        assert_eq!(lent::write(&case_e().lend(), &mut sheet), Ok(38));
+        assert_eq!((&sheet[..38], sheet[38]), (&SHEET_E[..], 77));
     }
 
     #[test]
     fn the_largest_sheet_fits() {
-        let largest = Market { asks: vec![1; 40], bays: vec![1; 40], amounts: vec![1; 200], bids: vec![1; 8_000] };
+        let (amounts, tickets) = (vec![1; 200], (0..200).collect());
+        let largest = Market { asks: vec![1; 40], bays: vec![1; 40], amounts, tickets, bids: vec![1; 8_000] };
         assert_eq!(largest.to_sheet().map(|sheet| sheet.len()), Ok(MAX_SHEET));
     }
 

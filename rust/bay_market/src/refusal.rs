@@ -12,7 +12,7 @@ pub enum Refusal {
     StrayBit = 3,
     /// bytes follow the last row
     TrailingBytes = 4,
-    /// bays, bids or row width do not fit the counts
+    /// bays, tickets, bids or row width do not fit the counts
     LengthsDiffer = 5,
     /// an ask is above 1,000,000
     AskOutOfRange = 6,
@@ -32,11 +32,13 @@ pub enum Refusal {
     BookSize = 13,
     /// the output is shorter than the sheet
     OutputTooShort = 14,
+    /// two guests have the same ticket
+    TicketsRepeat = 15,
 }
 
 impl Refusal {
     /// All refusals, by rising number.
-    pub const ALL: [Refusal; 14] = [
+    pub const ALL: [Refusal; 15] = [
         Refusal::SheetEnds,
         Refusal::CountsOutOfRange,
         Refusal::StrayBit,
@@ -51,6 +53,7 @@ impl Refusal {
         Refusal::AccountOverLimit,
         Refusal::BookSize,
         Refusal::OutputTooShort,
+        Refusal::TicketsRepeat,
     ];
 
     /// What the refusal says.
@@ -60,7 +63,7 @@ impl Refusal {
             Refusal::CountsOutOfRange => "more than 200 guests, no station, or more than 40",
             Refusal::StrayBit => "a bit map has a bit beyond the last station",
             Refusal::TrailingBytes => "bytes follow the last row",
-            Refusal::LengthsDiffer => "bays, bids or row width do not fit the counts",
+            Refusal::LengthsDiffer => "bays, tickets, bids or row width do not fit the counts",
             Refusal::AskOutOfRange => "an ask is above 1,000,000",
             Refusal::BaysOutOfRange => "a station has no bays or more than 200",
             Refusal::AmountOutOfRange => "an amount is 0 or above 1,000",
@@ -70,6 +73,7 @@ impl Refusal {
             Refusal::AccountOverLimit => "an account is above 10^15, or would be",
             Refusal::BookSize => "the ledger has accounts beyond the limits, or fewer than the market needs",
             Refusal::OutputTooShort => "the output is shorter than the sheet",
+            Refusal::TicketsRepeat => "two guests have the same ticket",
         }
     }
 }

@@ -6,7 +6,7 @@ use baseline::Scratch;
 use bay_market::lent::{self, Cleared, Counts, Results, Tables};
 use bay_market::{Ledger, MAX_BIDS, MAX_GUESTS, MAX_SHEET, MAX_STATIONS, StationAccount};
 use reference::market::Market;
-use reference::random::{Random, Shape};
+use reference::random::{self, Random, Shape};
 use reference::{clearing, ledger, sheet};
 use std::hint::black_box;
 use std::time::{Duration, Instant};
@@ -68,7 +68,14 @@ impl Lists {
 }
 
 fn lend(market: &Market) -> lent::Market<'_> {
-    lent::Market { asks: &market.asks, bays: &market.bays, amounts: &market.amounts, bids: &market.bids, width: market.width }
+    lent::Market {
+        asks: &market.asks,
+        bays: &market.bays,
+        amounts: &market.amounts,
+        tickets: &market.tickets,
+        bids: &market.bids,
+        width: market.width,
+    }
 }
 
 type Clear = fn(&mut Scratch, &lent::Market, &mut Results) -> Result<Cleared, u8>;
@@ -97,18 +104,29 @@ fn verify_clearing(scratch: &mut Scratch, market: &Market) {
     }
 }
 
+/// 200 guests, whose tickets rise, and 40 stations.
+fn full() -> Shape {
+    Shape { tickets: random::numbered, ..Shape::full() }
+}
+
 fn clearings(random: &mut Random) {
-    let full = Shape::full();
+    let full = full();
     let candidates = Shape { asks: 0..=500_000, bids: 500_000..=1_000_000, bays: 1..=10, ..full.clone() };
+    let tied = Shape { bids: 700_000..=700_000, amounts: 50..=50, ..candidates.clone() };
+    let small = Shape { guests: 100..=100, stations: 10..=10, bays: 1..=10, ..full.clone() };
+    let mixed = |shape: &Shape| Shape { tickets: random::mixed, ..shape.clone() };
     let shapes = [
         ("200 by 40, bays 1 to 200", full.clone()),
         ("200 by 40, bays 1 to 10", Shape { bays: 1..=10, ..full.clone() }),
         ("200 by 40, bays 1", Shape { bays: 1..=1, ..full.clone() }),
         ("200 by 40, bays 200", Shape { bays: 200..=200, ..full.clone() }),
         ("200 by 40, all candidates, bays 1 to 10", candidates.clone()),
-        ("200 by 40, all candidates, bays 1 to 200", Shape { bays: 1..=200, ..candidates.clone() }),
-        ("200 by 40, all totals tied, bays 1 to 10", Shape { bids: 700_000..=700_000, amounts: 50..=50, ..candidates }),
-        ("100 by 10, bays 1 to 10", Shape { guests: 100..=100, stations: 10..=10, bays: 1..=10, ..full }),
+        ("200 by 40, all candidates, bays 1 to 200", Shape { bays: 1..=200, ..candidates }),
+        ("200 by 40, all totals tied, bays 1 to 10", tied.clone()),
+        ("100 by 10, bays 1 to 10", small.clone()),
+        ("200 by 40, bays 1 to 200, random tickets", mixed(&full)),
+        ("200 by 40, all totals tied, bays 1 to 10, random tickets", mixed(&tied)),
+        ("100 by 10, bays 1 to 10, random tickets", mixed(&small)),
     ];
     println!("| clearing | engine µs | select µs | engine / select | sort µs | engine / sort |");
     println!("|---|---|---|---|---|---|");
@@ -135,6 +153,7 @@ fn clearings(random: &mut Random) {
 /// Owned tables of the reader.
 struct Read {
     amounts: [u16; MAX_GUESTS],
+    tickets: [u32; MAX_GUESTS],
     asks: [u32; MAX_STATIONS],
     bays: [u16; MAX_STATIONS],
     bids: [u32; MAX_BIDS],
@@ -142,23 +161,35 @@ struct Read {
 
 impl Read {
     fn new() -> Read {
-        Read { amounts: [0; MAX_GUESTS], asks: [0; MAX_STATIONS], bays: [0; MAX_STATIONS], bids: [0; MAX_BIDS] }
+        Read {
+            amounts: [0; MAX_GUESTS],
+            tickets: [0; MAX_GUESTS],
+            asks: [0; MAX_STATIONS],
+            bays: [0; MAX_STATIONS],
+            bids: [0; MAX_BIDS],
+        }
     }
 
     fn lend(&mut self) -> Tables<'_> {
-        Tables { amounts: &mut self.amounts, asks: &mut self.asks, bays: &mut self.bays, bids: &mut self.bids }
+        Tables {
+            amounts: &mut self.amounts,
+            tickets: &mut self.tickets,
+            asks: &mut self.asks,
+            bays: &mut self.bays,
+            bids: &mut self.bids,
+        }
     }
 
     fn market(&mut self, counts: Counts) -> Market {
         let tables = self.lend();
         let read = tables.market(counts);
-        Market::new(read.asks, read.bays, read.amounts, read.bids)
+        Market::new(read.asks, read.bays, read.amounts, read.tickets, read.bids)
     }
 }
 
 /// Of a hundred bids of a sheet, how many are 0.
 const FILLINGS: [(&str, u64); 3] =
-    [("largest sheet, 33,644 bytes", 0), ("200 by 40, two bids in five", 60), ("200 by 40, one bid in ten", 90)];
+    [("largest sheet, 34,444 bytes", 0), ("200 by 40, two bids in five", 60), ("200 by 40, one bid in ten", 90)];
 
 type ReadSheet = fn(&[u8], &mut Tables) -> Result<Counts, u8>;
 
@@ -168,7 +199,7 @@ fn readings(random: &mut Random) {
     println!("\n| reading | engine µs | two walks µs | engine / two walks |");
     println!("|---|---|---|---|");
     for (name, empty) in FILLINGS {
-        let shape = Shape { bids: 1..=1_000_000, empty, ..Shape::full() };
+        let shape = Shape { bids: 1..=1_000_000, empty, ..full() };
         let sheets: Vec<Vec<u8>> = (0..MARKETS).map(|_| sheet::shortest(&shape.market(random))).collect();
         let mut tables = [Read::new(), Read::new()];
         for sheet in &sheets {
@@ -190,30 +221,30 @@ fn readings(random: &mut Random) {
     }
 }
 
-type WriteSheet = fn(&lent::Market, &mut [u8]) -> Result<usize, u8>;
+type WriteSheet = fn(&mut Scratch, &lent::Market, &mut [u8]) -> Result<usize, u8>;
 
 const WRITINGS: [WriteSheet; 3] = [
-    |market, sheet| lent::write(market, sheet).map_err(|refusal| refusal.number()),
-    |market, sheet| baseline::write(market, sheet, baseline::by_map),
-    |market, sheet| baseline::write(market, sheet, baseline::by_bid),
+    |_, market, sheet| lent::write(market, sheet).map_err(|refusal| refusal.number()),
+    |scratch, market, sheet| baseline::write(scratch, market, sheet, baseline::by_map),
+    |scratch, market, sheet| baseline::write(scratch, market, sheet, baseline::by_bid),
 ];
 
 fn writings(random: &mut Random) {
     println!("\n| writing | engine µs | by map µs | engine / by map | by bid µs | engine / by bid |");
     println!("|---|---|---|---|---|---|");
     for (name, empty) in FILLINGS {
-        let shape = Shape { bids: 1..=1_000_000, empty, ..Shape::full() };
+        let shape = Shape { bids: 1..=1_000_000, empty, ..full() };
         let markets: Vec<Market> = (0..MARKETS).map(|_| shape.market(random)).collect();
-        let mut outputs = WRITINGS.map(|_| vec![0; MAX_SHEET]);
+        let mut working = WRITINGS.map(|_| (Scratch::new(), vec![0; MAX_SHEET]));
         for market in &markets {
-            for (write, output) in WRITINGS.iter().zip(&mut outputs) {
-                let length = write(&lend(market), output).expect("an accepted market");
+            for (write, (scratch, output)) in WRITINGS.iter().zip(&mut working) {
+                let length = write(scratch, &lend(market), output).expect("an accepted market");
                 assert!(output[..length] == sheet::shortest(market), "a contender differs from the reference");
             }
         }
-        let [engine, map, bid] = &mut outputs;
-        let run = |write: WriteSheet, market: &Market, output: &mut [u8]| {
-            black_box(write(&lend(market), output)).expect("an accepted market");
+        let [engine, map, bid] = &mut working;
+        let run = |write: WriteSheet, market: &Market, (scratch, output): &mut (Box<Scratch>, Vec<u8>)| {
+            black_box(write(scratch, &lend(market), output)).expect("an accepted market");
         };
         let medians = medians(
             &markets,
@@ -244,7 +275,7 @@ fn postings(random: &mut Random) {
     println!("\n| posting | engine µs | select µs | engine / select |");
     println!("|---|---|---|---|");
     for (name, guests, stations) in [("200 by 40, bays 1 to 10", 200, 40), ("100 by 10, bays 1 to 10", 100, 10)] {
-        let shape = Shape { guests: guests..=guests, stations: stations..=stations, bays: 1..=10, ..Shape::full() };
+        let shape = Shape { guests: guests..=guests, stations: stations..=stations, bays: 1..=10, ..full() };
         let markets: Vec<Market> = (0..MARKETS).map(|_| shape.market(random)).collect();
         let mut working = [Scratch::new(), Scratch::new()].map(|scratch| (scratch, Ledger::new(MAX_GUESTS, MAX_STATIONS)));
         let mut expected = ledger::Ledger::empty(MAX_GUESTS, MAX_STATIONS);

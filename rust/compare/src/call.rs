@@ -17,6 +17,7 @@ struct Tables {
     asks: Lent<u32>,
     bays: Lent<u16>,
     amounts: Lent<u16>,
+    tickets: Lent<u32>,
     bids: Lent<u32>,
 }
 
@@ -26,6 +27,7 @@ impl Tables {
             asks: Lent::holding(random, &market.asks),
             bays: Lent::holding(random, &market.bays),
             amounts: Lent::holding(random, &market.amounts),
+            tickets: Lent::holding(random, &market.tickets),
             bids: Lent::holding(random, &market.bids),
         }
     }
@@ -35,13 +37,15 @@ impl Tables {
             asks: self.asks.slice(),
             bays: self.bays.slice(),
             amounts: self.amounts.slice(),
+            tickets: self.tickets.slice(),
             bids: self.bids.slice(),
             width,
         }
     }
 
     fn untouched(&self) -> bool {
-        self.asks.untouched() && self.bays.untouched() && self.amounts.untouched() && self.bids.untouched()
+        let guests = self.amounts.untouched() && self.tickets.untouched() && self.bids.untouched();
+        guests && self.asks.untouched() && self.bays.untouched()
     }
 }
 
@@ -103,6 +107,7 @@ fn read_lent(
 ) -> Result<(), String> {
     let mut sheet: Lent<u8> = Lent::holding(random, sheet);
     let mut amounts: Lent<u16> = Lent::noise(random, lengths.amounts);
+    let mut tickets: Lent<u32> = Lent::noise(random, lengths.tickets);
     let mut asks: Lent<u32> = Lent::noise(random, lengths.asks);
     let mut bays: Lent<u16> = Lent::noise(random, lengths.bays);
     let mut bids: Lent<u32> = Lent::noise(random, lengths.bids);
@@ -114,6 +119,7 @@ fn read_lent(
             bay_market_read(
                 sheet.pointer(), sheet.len(),
                 amounts.pointer(), amounts.len(),
+                tickets.pointer(), tickets.len(),
                 asks.pointer(), asks.len(),
                 bays.pointer(), bays.len(),
                 bids.pointer(), bids.len(),
@@ -124,6 +130,7 @@ fn read_lent(
             let size = "a table of the greatest size";
             let mut tables = lent::Tables {
                 amounts: amounts.slice().try_into().expect(size),
+                tickets: tickets.slice().try_into().expect(size),
                 asks: asks.slice().try_into().expect(size),
                 bays: bays.slice().try_into().expect(size),
                 bids: bids.slice().try_into().expect(size),
@@ -137,12 +144,13 @@ fn read_lent(
     require_answer(answer, expected)?;
     require(sheet.untouched(), "the sheet was written")?;
     let Ok(market) = expected else {
-        let tables = amounts.untouched() && asks.untouched() && bays.untouched() && bids.untouched();
-        return require(tables && n.untouched() && m.untouched(), "a refused call wrote");
+        let guests = amounts.untouched() && tickets.untouched() && bids.untouched() && n.untouched();
+        return require(guests && asks.untouched() && bays.untouched() && m.untouched(), "a refused call wrote");
     };
     require(n.holds([market.guests() as u16]), "n differs")?;
     require(m.holds([market.stations() as u16]), "m differs")?;
     require(amounts.holds(market.amounts.iter().copied()), "amounts differ")?;
+    require(tickets.holds(market.tickets.iter().copied()), "tickets differ")?;
     require(asks.holds(market.asks.iter().copied()), "asks differ")?;
     require(bays.holds(market.bays.iter().copied()), "bays differ")?;
     require(bids.holds(market.bids.iter().copied()), "bids differ")
@@ -171,6 +179,7 @@ fn write_lent(
                 tables.asks.pointer(), tables.asks.len(),
                 tables.bays.pointer(), tables.bays.len(),
                 tables.amounts.pointer(), tables.amounts.len(),
+                tables.tickets.pointer(), tables.tickets.len(),
                 tables.bids.pointer(), tables.bids.len(),
                 market.width,
                 sheet.pointer(), sheet.len(),
@@ -218,9 +227,9 @@ fn read_and_write(way: Way, sheet: &[u8]) -> Result<Passed, String> {
         accepted(numbered(read.to_sheet(), |sheet| written = sheet))?;
         return Ok((read, written));
     }
-    let (mut amounts, mut asks, mut bays) = ([0; MAX_GUESTS], [0; MAX_STATIONS], [0; MAX_STATIONS]);
-    let mut bids = [0; MAX_BIDS];
-    let mut tables = lent::Tables { amounts: &mut amounts, asks: &mut asks, bays: &mut bays, bids: &mut bids };
+    let (amounts, tickets) = (&mut [0; MAX_GUESTS], &mut [0; MAX_GUESTS]);
+    let (asks, bays, bids) = (&mut [0; MAX_STATIONS], &mut [0; MAX_STATIONS], &mut [0; MAX_BIDS]);
+    let mut tables = lent::Tables { amounts, tickets, asks, bays, bids };
     let mut counts = lent::Counts { guests: 0, stations: 0 };
     accepted(match way {
         // SAFETY: each pointer and length is that of an array.
@@ -228,6 +237,7 @@ fn read_and_write(way: Way, sheet: &[u8]) -> Result<Passed, String> {
             bay_market_read(
                 sheet.as_ptr(), sheet.len(),
                 tables.amounts.as_mut_ptr(), tables.amounts.len(),
+                tables.tickets.as_mut_ptr(), tables.tickets.len(),
                 tables.asks.as_mut_ptr(), tables.asks.len(),
                 tables.bays.as_mut_ptr(), tables.bays.len(),
                 tables.bids.as_mut_ptr(), tables.bids.len(),
@@ -246,6 +256,7 @@ fn read_and_write(way: Way, sheet: &[u8]) -> Result<Passed, String> {
                 market.asks.as_ptr(), market.asks.len(),
                 market.bays.as_ptr(), market.bays.len(),
                 market.amounts.as_ptr(), market.amounts.len(),
+                market.tickets.as_ptr(), market.tickets.len(),
                 market.bids.as_ptr(), market.bids.len(),
                 market.width,
                 written.as_mut_ptr(), written.len(),
@@ -257,7 +268,8 @@ fn read_and_write(way: Way, sheet: &[u8]) -> Result<Passed, String> {
     require(length <= MAX_SHEET, "the length is beyond the output")?;
     written.truncate(length);
     let own = |market: lent::Market| bay_market::Market {
-        asks: market.asks.to_vec(), bays: market.bays.to_vec(), amounts: market.amounts.to_vec(), bids: market.bids.to_vec(),
+        asks: market.asks.to_vec(), bays: market.bays.to_vec(),
+        amounts: market.amounts.to_vec(), tickets: market.tickets.to_vec(), bids: market.bids.to_vec(),
     };
     Ok((own(market), written))
 }
@@ -292,6 +304,7 @@ fn clear_lent(
                 tables.asks.pointer(), tables.asks.len(),
                 tables.bays.pointer(), tables.bays.len(),
                 tables.amounts.pointer(), tables.amounts.len(),
+                tables.tickets.pointer(), tables.tickets.len(),
                 tables.bids.pointer(), tables.bids.len(),
                 market.width,
                 stations.pointer(), stations.len(),
@@ -363,6 +376,7 @@ fn post_lent(way: Way, random: &mut Random, posting: &Posting) -> Result<(), Str
                 tables.asks.pointer(), tables.asks.len(),
                 tables.bays.pointer(), tables.bays.len(),
                 tables.amounts.pointer(), tables.amounts.len(),
+                tables.tickets.pointer(), tables.tickets.len(),
                 tables.bids.pointer(), tables.bids.len(),
                 market.width, round,
                 guests.pointer(), guests.len(),
@@ -394,11 +408,12 @@ fn station_accounts(ledger: &Ledger) -> Vec<StationAccount> {
 }
 
 /// The reference's market, outcome and ledger as those that the engine's crate owns.
-fn own(market: &Market) -> bay_market::Market {
+pub fn own(market: &Market) -> bay_market::Market {
     bay_market::Market {
         asks: market.asks.clone(),
         bays: market.bays.clone(),
         amounts: market.amounts.clone(),
+        tickets: market.tickets.clone(),
         bids: market.bids.clone(),
     }
 }

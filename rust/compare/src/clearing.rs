@@ -45,5 +45,5 @@ pub fn run(random: &mut Random, tally: &mut Tally, cases: usize) -> Result<(), S
             }
         }
     }
-    tally.require(&[0, 2, 5, 6, 7, 8, 9, 10])
+    tally.require(&[0, 2, 5, 6, 7, 8, 9, 10, 15])
 }

@@ -2,12 +2,13 @@
 
 use reference::faults::{ListLengths, MAX_AMOUNT, MAX_BAYS, MAX_GUESTS, MAX_PRICE, MAX_STATIONS};
 use reference::market::Market;
-use reference::random::{Random, Shape};
+use reference::random::{self, Random, Shape};
 use reference::sheet::shortest;
 
 /// A handful of guests and stations, and small numbers.
 pub fn small() -> Shape {
-    Shape { guests: 0..=6, stations: 1..=6, asks: 0..=5, bays: 1..=3, amounts: 1..=4, bids: 0..=8, empty: 10 }
+    let sizes = Shape { guests: 0..=6, stations: 1..=6, bays: 1..=3, ..Shape::whole() };
+    Shape { asks: 0..=5, amounts: 1..=4, bids: 0..=8, empty: 10, ..sizes }
 }
 
 /// Many ties in totals and gains.
@@ -16,7 +17,8 @@ pub fn tied() -> Shape {
 }
 
 pub fn middling() -> Shape {
-    Shape { guests: 0..=40, stations: 1..=12, asks: 0..=1_000, bays: 1..=10, amounts: 1..=1_000, bids: 0..=2_000, empty: 30 }
+    let sizes = Shape { guests: 0..=40, stations: 1..=12, bays: 1..=10, ..Shape::whole() };
+    Shape { asks: 0..=1_000, bids: 0..=2_000, empty: 30, ..sizes }
 }
 
 /// Ranges of accepted markets, from small numbers to the limits.
@@ -68,6 +70,9 @@ fn at_the_ends(random: &mut Random, market: &mut Market) {
     for amount in &mut market.amounts {
         *amount = *random.pick(&[1, 2, MAX_AMOUNT - 1, MAX_AMOUNT]);
     }
+    for (guest, ticket) in market.tickets.iter_mut().enumerate() {
+        *ticket = if random.chance(50) { guest as u32 } else { u32::MAX - guest as u32 };
+    }
     for bid in &mut market.bids {
         *bid = *random.pick(&[0, 1, MAX_PRICE - 1, MAX_PRICE]);
     }
@@ -92,6 +97,7 @@ pub enum Table {
     Asks,
     Bays,
     Amounts,
+    Tickets,
     Bids,
 }
 
@@ -110,12 +116,37 @@ pub enum Place {
     Any,
 }
 
+/// Two guests.
+#[derive(Clone, Copy, Debug)]
+pub enum Pair {
+    Neighbours,
+    /// The first and the last.
+    Ends,
+    Any,
+}
+
+pub const PAIRS: [Pair; 3] = [Pair::Neighbours, Pair::Ends, Pair::Any];
+
+impl Pair {
+    /// Their places among so many, at least two.
+    fn places(self, random: &mut Random, guests: usize) -> (usize, usize) {
+        let second = 1 + random.below(guests - 1);
+        match self {
+            Pair::Neighbours => (second - 1, second),
+            Pair::Ends => (0, guests - 1),
+            Pair::Any => (random.below(second), second),
+        }
+    }
+}
+
 /// One number of a call made wrong, or moved to its limit.
 #[derive(Clone, Copy, Debug)]
 pub enum Change {
     /// A table gets another length; the others stay.
     Length(Table, usize),
     Value(Table, Place, u32),
+    /// The later guest of a pair gets the ticket of the earlier one with these bits turned over.
+    Tickets(Pair, u32),
     Width(usize),
     List(List, usize),
     /// The market gets so many guests, with a row of bids for each.
@@ -127,7 +158,8 @@ pub enum Change {
 /// Every change that is tried, for a market with n guests and m stations.
 pub fn changes(n: usize, m: usize) -> Vec<Change> {
     let mut changes = Vec::new();
-    for (table, length) in [(Table::Asks, m), (Table::Bays, m), (Table::Amounts, n), (Table::Bids, n * m)] {
+    let tables = [(Table::Asks, m), (Table::Bays, m), (Table::Amounts, n), (Table::Tickets, n), (Table::Bids, n * m)];
+    for (table, length) in tables {
         for other in other_lengths(length) {
             changes.push(Change::Length(table, other));
         }
@@ -148,7 +180,11 @@ pub fn changes(n: usize, m: usize) -> Vec<Change> {
         changes.extend(price.map(|value| Change::Value(Table::Asks, place, value)));
         changes.extend(bays.map(|value| Change::Value(Table::Bays, place, value)));
         changes.extend(amount.map(|value| Change::Value(Table::Amounts, place, value)));
+        changes.extend([0, u32::MAX].map(|value| Change::Value(Table::Tickets, place, value)));
         changes.extend(price.map(|value| Change::Value(Table::Bids, place, value)));
+    }
+    for pair in PAIRS {
+        changes.extend([0, 1, 1 << 8, 1 << 16, 1 << 31].map(|bits| Change::Tickets(pair, bits)));
     }
     changes.extend([0, MAX_GUESTS, MAX_GUESTS + 1].map(Change::Guests));
     changes.extend([0, MAX_STATIONS, MAX_STATIONS + 1].map(Change::Stations));
@@ -165,11 +201,18 @@ impl Change {
             Change::Length(Table::Asks, length) => market.asks.resize(length, 1),
             Change::Length(Table::Bays, length) => market.bays.resize(length, 1),
             Change::Length(Table::Amounts, length) => market.amounts.resize(length, 1),
+            Change::Length(Table::Tickets, length) => market.tickets.resize(length, 1),
             Change::Length(Table::Bids, length) => market.bids.resize(length, 1),
             Change::Value(Table::Asks, place, value) => set(random, &mut market.asks, place, value),
             Change::Value(Table::Bays, place, value) => set(random, &mut market.bays, place, value as u16),
             Change::Value(Table::Amounts, place, value) => set(random, &mut market.amounts, place, value as u16),
+            Change::Value(Table::Tickets, place, value) => set(random, &mut market.tickets, place, value),
             Change::Value(Table::Bids, place, value) => set(random, &mut market.bids, place, value),
+            Change::Tickets(_, _) if market.tickets.len() < 2 => {}
+            Change::Tickets(pair, bits) => {
+                let (earlier, later) = pair.places(random, market.tickets.len());
+                market.tickets[later] = market.tickets[earlier] ^ bits;
+            }
             Change::Width(width) => market.width = width,
             Change::List(List::Stations, length) => lists.stations = length,
             Change::List(List::Charges, length) => lists.charges = length,
@@ -177,14 +220,21 @@ impl Change {
             Change::List(List::Paid, length) => lists.paid = length,
             Change::Guests(guests) => {
                 market.amounts.resize(guests, 1);
-                fit(market, lists);
+                fit(random, market, lists);
             }
             Change::Stations(stations) => {
                 market.asks.resize(stations, 1);
-                fit(market, lists);
+                fit(random, market, lists);
             }
         }
     }
+}
+
+/// The market with a change.
+pub fn changed(random: &mut Random, market: &Market, change: Change) -> Market {
+    let (mut changed, mut lists) = (market.clone(), ListLengths::of(market));
+    change.apply(random, &mut changed, &mut lists);
+    changed
 }
 
 fn set<T>(random: &mut Random, table: &mut [T], place: Place, value: T) {
@@ -199,9 +249,13 @@ fn set<T>(random: &mut Random, table: &mut [T], place: Place, value: T) {
     table[at] = value;
 }
 
-/// Gives bays, bids, width and result lists the lengths that the counts want.
-fn fit(market: &mut Market, lists: &mut ListLengths) {
+/// Gives bays, tickets, bids, width and result lists the lengths that the counts want. Where tickets have another length
+/// they are made anew, so that they do not repeat.
+fn fit(random: &mut Random, market: &mut Market, lists: &mut ListLengths) {
     let (n, m) = (market.guests(), market.stations());
+    if market.tickets.len() != n {
+        market.tickets = random::any(random, n);
+    }
     market.bays.resize(m, 1);
     market.bids.resize(n * m, 1);
     market.width = m;
@@ -211,15 +265,15 @@ fn fit(market: &mut Market, lists: &mut ListLengths) {
 /// The shortest sheet that states a market, whose values may be out of range, where its lengths fit.
 pub fn sheet(market: &Market) -> Option<Vec<u8>> {
     let (n, m) = (market.guests(), market.stations());
-    (market.bays.len() == m && market.bids.len() == n * m).then(|| shortest(market))
+    (market.bays.len() == m && market.tickets.len() == n && market.bids.len() == n * m).then(|| shortest(market))
 }
 
 /// A market for a failing case's message: as numbers, and as a sheet where one states it.
 pub fn show(market: &Market) -> String {
     let sheet = sheet(market).map_or("none: the lengths do not fit".to_string(), |sheet| hex(&sheet));
     format!(
-        "asks {:?}\nbays {:?}\namounts {:?}\nbids {:?}\nwidth {}\nsheet {sheet}",
-        market.asks, market.bays, market.amounts, market.bids, market.width
+        "asks {:?}\nbays {:?}\namounts {:?}\ntickets {:?}\nbids {:?}\nwidth {}\nsheet {sheet}",
+        market.asks, market.bays, market.amounts, market.tickets, market.bids, market.width
     )
 }
 

@@ -2,8 +2,8 @@
 
 use crate::Tally;
 use crate::call;
-use crate::markets::{accepted, changes, shapes, show};
-use reference::faults::{ListLengths, MAX_GUESTS, MAX_STATIONS};
+use crate::markets::{Change, PAIRS, Pair, accepted, changed, changes, middling, shapes, show};
+use reference::faults::{ListLengths, MAX_GUESTS, MAX_PRICE, MAX_STATIONS};
 use reference::ledger::{Ledger, MAX_ACCOUNT, MAX_ROUND};
 use reference::market::Market;
 use reference::random::{Random, Shape};
@@ -104,10 +104,31 @@ fn list(random: &mut Random, tally: &mut Tally, shapes: &[Shape], moved: bool) -
     Ok(())
 }
 
+/// Equal tickets alone, and with every choice of a bid out of range, which goes before them, and of a book too small, a
+/// round out of turn and an account over its limit, which come after.
+fn repeated(random: &mut Random, tally: &mut Tally, pair: Pair) -> Result<(), String> {
+    let market = Shape { guests: 2..=40, ..middling() }.market(random);
+    let market = changed(random, &market, Change::Tickets(pair, 0));
+    for choice in 0..1 << 4 {
+        let chosen = |fault: u32| choice >> fault & 1 == 1;
+        let mut market = market.clone();
+        if chosen(0) {
+            *market.bids.last_mut().expect("a bid") = MAX_PRICE + 1;
+        }
+        let mut ledger = Ledger::empty(market.guests() - usize::from(chosen(1)), market.stations());
+        ledger.house = MAX_ACCOUNT + u128::from(chosen(3));
+        check(random, tally, &mut ledger, &market, 1 + u32::from(chosen(2)))?;
+    }
+    Ok(())
+}
+
 pub fn run(random: &mut Random, tally: &mut Tally, cases: usize) -> Result<(), String> {
+    for pair in PAIRS {
+        repeated(random, tally, pair)?;
+    }
     let shapes = shapes();
     for case in 0..cases {
         list(random, tally, &shapes, case % 2 == 1)?;
     }
-    tally.require(&[0, 2, 5, 6, 7, 8, 9, 11, 12, 13])
+    tally.require(&[0, 2, 5, 6, 7, 8, 9, 11, 12, 13, 15])
 }

@@ -43,14 +43,15 @@ fn run_program(program: &Path, arguments: &[&str], input: &[u8], first: usize) -
     Ok(output.stdout)
 }
 
-/// A market with one value out of range.
+/// A market with one value out of range, or with two equal tickets.
 fn out_of_range(random: &mut Random, which: usize) -> Vec<u8> {
-    let mut market = Shape { guests: 1..=9, stations: 1..=9, bids: 1..=9, ..small() }.market(random);
+    let mut market = Shape { guests: 2..=9, stations: 1..=9, bids: 1..=9, ..small() }.market(random);
     let (guest, station) = (random.below(market.guests()), random.below(market.stations()));
     match which {
         13 => market.asks[station] = MAX_PRICE + 1,
         17 => market.bays[station] = *random.pick(&[0, MAX_BAYS + 1]),
         21 => market.amounts[guest] = *random.pick(&[0, MAX_AMOUNT + 1]),
+        29 => market.tickets[0] = market.tickets[market.guests() - 1],
         _ => {
             let bid = random.below(market.bids.len());
             market.bids[bid] = MAX_PRICE + 1;
@@ -77,8 +78,8 @@ pub fn run(random: &mut Random, tally: &mut Tally, cases: usize) -> Result<(), S
             5 => sheet = [stating(&Shape::full().market(random), |_, _| true), vec![0]].concat(),
             // more than a pipe holds
             9 => sheet.resize(200_000, 0),
-            // an ask, bays, an amount or a bid out of range
-            13 | 17 | 21 | 25 => sheet = out_of_range(random, case % 40),
+            // an ask, bays, an amount or a bid out of range, or equal tickets
+            13 | 17 | 21 | 25 | 29 => sheet = out_of_range(random, case % 40),
             _ => {}
         }
         let text = printed(&sheet);
@@ -96,5 +97,5 @@ pub fn run(random: &mut Random, tally: &mut Tally, cases: usize) -> Result<(), S
             }
         }
     }
-    tally.require(&[0, 1, 2, 3, 4, 6, 7, 8, 9])
+    tally.require(&[0, 1, 2, 3, 4, 6, 7, 8, 9, 15])
 }

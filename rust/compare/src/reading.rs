@@ -33,6 +33,7 @@ pub fn any_sheet(random: &mut Random, shape: &Shape) -> Vec<u8> {
         market.asks.fill_with(|| random.bits() as u32);
         market.bays.fill_with(|| random.bits() as u16);
         market.amounts.fill_with(|| random.bits() as u16);
+        market.tickets.fill_with(|| *random.pick(&[0, 1, 0x0102_0304, u32::MAX - 1, u32::MAX]));
         for bid in market.bids.iter_mut().filter(|bid| **bid != 0) {
             *bid = random.bits() as u32;
         }
@@ -82,10 +83,11 @@ pub fn damaged(random: &mut Random, sheet: &[u8]) -> Vec<u8> {
 fn other_lengths(random: &mut Random) -> TableLengths {
     let mut lengths = GREATEST;
     for _ in 0..random.within(1..=2) {
-        let length = match random.below(4) {
+        let length = match random.below(5) {
             0 => &mut lengths.amounts,
-            1 => &mut lengths.asks,
-            2 => &mut lengths.bays,
+            1 => &mut lengths.tickets,
+            2 => &mut lengths.asks,
+            3 => &mut lengths.bays,
             _ => &mut lengths.bids,
         };
         *length = *random.pick(&[0, 1, length.saturating_sub(1), *length + 1, 2 * *length]);
@@ -118,7 +120,7 @@ fn sheets(random: &mut Random, cases: usize, visit: &mut Visit) -> Result<(), St
         for m in (0..=42).chain([255, 256, 257, 296, 65_535]) {
             let header = [u16::to_le_bytes(n), u16::to_le_bytes(m)].concat();
             visit(random, &header, GREATEST)?;
-            let length = 6 * usize::from(m) + usize::from(n) * (2 + usize::from(m).div_ceil(8));
+            let length = 6 * usize::from(m) + usize::from(n) * (2 + 4 + usize::from(m).div_ceil(8));
             if length <= 40_000 {
                 visit(random, &[header, vec![0; length]].concat(), GREATEST)?;
             }

@@ -1,19 +1,14 @@
 //! A search for a false report that pays, and the limits of every outcome met on the way, on small markets.
 
 use crate::Tally;
-use crate::markets::show;
+use crate::call::own;
+use crate::markets::{show, small};
 use bay_market::Clearing;
 use reference::market::Market;
 use reference::random::{Random, Shape};
 
 fn clear(tally: &mut Tally, market: &Market) -> Result<Clearing, String> {
-    let own = bay_market::Market {
-        asks: market.asks.clone(),
-        bays: market.bays.clone(),
-        amounts: market.amounts.clone(),
-        bids: market.bids.clone(),
-    };
-    let answer = own.clear();
+    let answer = own(market).clear();
     tally.count(&answer.as_ref().map_err(|refusal| refusal.number()));
     let clearing = answer.map_err(|refusal| format!("refused {}\n{}", refusal.number(), show(market)))?;
     within_limits(market, &clearing).map_err(|what| format!("{what}\n{}", show(market)))?;
@@ -77,6 +72,7 @@ fn next_row(digits: &mut [usize], values: usize) -> bool {
     false
 }
 
+/// Sets the market against each one with another row or another ask, all else the same, tickets too.
 fn search(tally: &mut Tally, market: &Market, values: &[u32]) -> Result<(), String> {
     let m = market.stations();
     let honest = clear(tally, market)?;
@@ -116,7 +112,8 @@ fn search(tally: &mut Tally, market: &Market, values: &[u32]) -> Result<(), Stri
 }
 
 pub fn run(random: &mut Random, tally: &mut Tally, cases: usize) -> Result<(), String> {
-    let shape = Shape { guests: 1..=4, stations: 2..=4, asks: 0..=5, bays: 1..=2, amounts: 1..=3, bids: 0..=5, empty: 0 };
+    let sizes = Shape { guests: 1..=4, stations: 2..=4, bays: 1..=2, amounts: 1..=3, ..small() };
+    let shape = Shape { asks: 0..=5, bids: 0..=5, empty: 0, ..sizes };
     for _ in 0..cases {
         let mut market = shape.market(random);
         // the six values of a price, close together or far apart

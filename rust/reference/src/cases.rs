@@ -1,4 +1,4 @@
-//! Document 01's cases and limits, each market also through its sheet.
+//! Document 01's cases and limits and document 02's of tickets, each market also through its sheet.
 
 use crate::clearing::clear;
 use crate::faults::{ListLengths, clearing_fault, market_fault};
@@ -9,7 +9,7 @@ use crate::{report, samples};
 
 /// A market with one bay at each station.
 fn one_bay(asks: &[u32], amounts: &[u16], bids: &[u32]) -> Market {
-    Market::new(asks, &vec![1; asks.len()], amounts, bids)
+    Market::numbered(asks, &vec![1; asks.len()], amounts, bids)
 }
 
 /// A market is accepted, is what its sheet states, and clears to the given cut, stations, charges, (sold, paid), margin.
@@ -47,8 +47,50 @@ fn a_guest_seated_elsewhere_still_sets_the_floor() {
     clears(&market, 2, &[2, 1], &[2, 5], &[(1, 2), (1, 2), (0, 0), (0, 0)], 3);
 }
 
+/// Four guests with one total for two bays, with these tickets.
+fn tied(tickets: [u32; 4]) -> Market {
+    Market::new(&[2, 6], &[2, 1], &[3; 4], &tickets, &[8, 0, 8, 0, 8, 0, 8, 0])
+}
+
+#[test]
+fn of_equal_totals_the_lower_ticket_stands_first() {
+    let case_e = Market { tickets: vec![9, 4], ..samples::case_e() };
+    clears(&case_e, 6, &[0, 1], &[0, 24], &[(3, 18), (0, 0)], 6);
+    let seats = |tickets, stations: [usize; 4]| {
+        let charges = stations.map(|station| if station == 0 { 0 } else { 24 });
+        clears(&tied(tickets), 6, &stations, &charges, &[(6, 36), (0, 0)], 12);
+    };
+    seats([3, 5, 7, 9], [1, 1, 0, 0]);
+    seats([9, 7, 5, 3], [0, 0, 1, 1]);
+    seats([5, 9, 3, 7], [1, 0, 1, 0]);
+    seats([u32::MAX, 0, u32::MAX - 1, 1], [0, 1, 0, 1]);
+    // the higher total stands first, whatever the tickets
+    clears(&one_bay(&[2, 6], &[3, 3], &[8, 0, 9, 0]), 6, &[0, 1], &[0, 24], &[(3, 18), (0, 0)], 6);
+}
+
+#[test]
+fn no_two_tickets_are_equal() {
+    for tickets in [[9, 7, 5, 9], [9, 9, 5, 3], [9, 7, 5, 5], [0; 4], [u32::MAX, 1, 2, u32::MAX]] {
+        assert_eq!(market_fault(&tied(tickets)), Err(15));
+    }
+    // alike in their low or high bits
+    for bit in 0..32 {
+        assert_eq!(market_fault(&tied([9, 1 << 9, 1 << 19, 9 ^ 1 << bit])), Ok(()));
+    }
+    let many = one_bay(&[1], &[1; 200], &[0; 200]);
+    for (first, second) in [(0, 199), (98, 99), (198, 199)] {
+        let mut market = many.clone();
+        market.tickets[second] = market.tickets[first];
+        assert_eq!(market_fault(&market), Err(15));
+    }
+    for tickets in [vec![9, 7, 5], vec![9, 7, 5, 3, 1], vec![]] {
+        assert_eq!(market_fault(&Market { tickets, ..tied([1, 2, 3, 4]) }), Err(5));
+    }
+}
+
 #[test]
 fn limits() {
+    assert_eq!(market_fault(&Market::new(&[1], &[1], &[1, 1], &[0, 4_294_967_295], &[0, 0])), Ok(()));
     assert_eq!(market_fault(&one_bay(&[1_000_000], &[1], &[0])), Ok(()));
     assert_eq!(market_fault(&one_bay(&[1_000_001], &[1], &[0])), Err(6));
     assert_eq!(market_fault(&one_bay(&[1], &[1; 200], &[0; 200])), Ok(()));
@@ -56,9 +98,9 @@ fn limits() {
     assert_eq!(market_fault(&one_bay(&[1; 40], &[1], &[0; 40])), Ok(()));
     assert_eq!(market_fault(&one_bay(&[1; 41], &[1], &[0; 41])), Err(2));
     assert_eq!(market_fault(&one_bay(&[], &[1], &[])), Err(2));
-    assert_eq!(market_fault(&Market::new(&[1], &[200], &[1], &[0])), Ok(()));
-    assert_eq!(market_fault(&Market::new(&[1], &[201], &[1], &[0])), Err(7));
-    assert_eq!(market_fault(&Market::new(&[1], &[0], &[1], &[0])), Err(7));
+    assert_eq!(market_fault(&Market::numbered(&[1], &[200], &[1], &[0])), Ok(()));
+    assert_eq!(market_fault(&Market::numbered(&[1], &[201], &[1], &[0])), Err(7));
+    assert_eq!(market_fault(&Market::numbered(&[1], &[0], &[1], &[0])), Err(7));
     assert_eq!(market_fault(&one_bay(&[1], &[1_000], &[0])), Ok(()));
     assert_eq!(market_fault(&one_bay(&[1], &[1_001], &[0])), Err(8));
     assert_eq!(market_fault(&one_bay(&[1], &[0], &[0])), Err(8));
@@ -69,12 +111,14 @@ fn limits() {
 #[test]
 fn clearing_refuses_in_the_tables_order() {
     // every fault at once, mended one after the other
-    let mut market = Market { width: 1, ..Market::new(&[1_000_001; 41], &[0; 40], &[0; 2], &[1_000_001; 80]) };
+    let mut market = Market { width: 1, ..Market::new(&[1_000_001; 41], &[0; 40], &[0; 2], &[7; 3], &[1_000_001; 80]) };
     let mut lists = ListLengths { stations: 2, charges: 2, sold: 40, paid: 41 };
     assert_eq!(clearing_fault(&market, lists), Err(2));
     market.asks.pop();
     assert_eq!(clearing_fault(&market, lists), Err(5));
     market.width = 40;
+    assert_eq!(clearing_fault(&market, lists), Err(5));
+    market.tickets.pop();
     assert_eq!(clearing_fault(&market, lists), Err(10));
     lists.paid = 40;
     assert_eq!(clearing_fault(&market, lists), Err(6));
@@ -85,12 +129,15 @@ fn clearing_refuses_in_the_tables_order() {
     market.amounts = vec![1; 2];
     assert_eq!(clearing_fault(&market, lists), Err(9));
     market.bids = vec![1; 80];
+    assert_eq!(clearing_fault(&market, lists), Err(15));
+    market.tickets = vec![7, 6];
     assert_eq!(clearing_fault(&market, lists), Ok(()));
 }
 
-const SHEET_E: [u8; 30] = [
+const SHEET_E: [u8; 38] = [
     0x02, 0x00, 0x02, 0x00, 0x02, 0x00, 0x00, 0x00, 0x01, 0x00, 0x06, 0x00, 0x00, 0x00, 0x01, 0x00, //
-    0x03, 0x00, 0x01, 0x08, 0x00, 0x00, 0x00, 0x03, 0x00, 0x01, 0x08, 0x00, 0x00, 0x00,
+    0x03, 0x00, 0x01, 0x00, 0x00, 0x00, 0x01, 0x08, 0x00, 0x00, 0x00, //
+    0x03, 0x00, 0x02, 0x00, 0x00, 0x00, 0x01, 0x08, 0x00, 0x00, 0x00,
 ];
 
 #[test]
@@ -122,36 +169,40 @@ fn writing_refuses_in_the_tables_order() {
     let case_e = samples::case_e();
     assert_eq!(write(&samples::refused(), 0), Err(6));
     assert_eq!(write(&Market { width: 1, ..case_e.clone() }, 0), Err(5));
-    assert_eq!(write(&Market::new(&[], &[], &[], &[]), 0), Err(2));
-    assert_eq!(write(&case_e, 29), Err(14));
-    assert_eq!(write(&case_e, 30), Ok(SHEET_E.to_vec()));
-    assert_eq!(write(&case_e, 31), Ok(SHEET_E.to_vec()));
+    assert_eq!(write(&Market::numbered(&[], &[], &[], &[]), 0), Err(2));
+    assert_eq!(write(&Market { tickets: vec![7, 7], ..case_e.clone() }, 0), Err(15));
+    assert_eq!(write(&case_e, 37), Err(14));
+    assert_eq!(write(&case_e, 38), Ok(SHEET_E.to_vec()));
+    assert_eq!(write(&case_e, 39), Ok(SHEET_E.to_vec()));
 }
 
 #[test]
 fn reading_refuses_in_the_tables_order() {
     let refusal = |sheet: &[u8]| read(sheet, GREATEST).unwrap_err();
     assert_eq!(read(&[], TableLengths { bids: 7_999, ..GREATEST }), Err(10));
+    assert_eq!(read(&[], TableLengths { tickets: 199, ..GREATEST }), Err(10));
     assert_eq!(refusal(&[201, 0, 0]), 1);
     assert_eq!(refusal(&[201, 0, 1, 0]), 2);
     assert_eq!(refusal(&[0, 0, 0, 0]), 2);
     assert_eq!(refusal(&[0, 0, 41, 0]), 2);
-    // one guest, nine stations: 6 bytes for each station, amount, map
-    let mut sheet = [vec![1, 0, 9, 0], vec![0; 54], vec![0, 0, 1, 2]].concat();
-    assert_eq!(refusal(&sheet[..61]), 1);
+    // one guest, nine stations: 6 bytes for each station, amount, ticket, map
+    let mut sheet = [vec![1, 0, 9, 0], vec![0; 54], vec![0, 0, 1, 2, 3, 4, 1, 2]].concat();
+    for length in 0..65 {
+        assert_eq!(refusal(&sheet[..length]), 1);
+    }
     assert_eq!(refusal(&sheet), 3);
-    sheet[61] = 0;
+    sheet[65] = 0;
     assert_eq!(refusal(&sheet), 1);
     sheet.extend([0; 5]);
     assert_eq!(refusal(&sheet), 4);
     sheet.pop();
-    assert!(read(&sheet, GREATEST).is_ok());
+    assert_eq!(read(&sheet, GREATEST).map(|market| market.tickets), Ok(vec![0x0403_0201]));
 }
 
 #[test]
-fn the_largest_sheet_has_33_644_bytes() {
-    let market = Market::new(&[1; 40], &[1; 40], &[1; 200], &[1; 8_000]);
-    assert_eq!(shortest(&market).len(), 33_644);
+fn the_largest_sheet_has_34_444_bytes() {
+    let market = Market::numbered(&[1; 40], &[1; 40], &[1; 200], &[1; 8_000]);
+    assert_eq!(shortest(&market).len(), 34_444);
 }
 
 #[test]
@@ -175,6 +226,7 @@ fn posting_refuses_in_the_tables_order() {
     let case_e = samples::case_e();
     let over = Ledger { house: MAX_ACCOUNT + 1, ..Ledger::empty(201, 2) };
     assert_eq!(over.clone().post(&samples::refused(), 2), Err(6));
+    assert_eq!(over.clone().post(&Market { tickets: vec![7, 7], ..case_e.clone() }, 2), Err(15));
     assert_eq!(over.clone().post(&case_e, 2), Err(13));
     for (guests, stations, answer) in [(200, 40, Ok(())), (2, 2, Ok(())), (1, 2, Err(13)), (2, 1, Err(13)), (2, 41, Err(13))] {
         assert_eq!(Ledger::empty(guests, stations).post(&case_e, 1), answer);

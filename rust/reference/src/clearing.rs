@@ -1,4 +1,4 @@
-//! Document 01, 'Clearing', by its numbers 1 to 8.
+//! Document 01, 'Clearing', by its numbers 1 to 8, and document 02, 'The longest wait goes first'.
 
 use crate::market::Market;
 use std::cmp::Reverse;
@@ -16,6 +16,7 @@ pub struct Outcome {
 
 struct Candidate {
     guest: usize,
+    ticket: u32,
     total: u128,
 }
 
@@ -49,11 +50,11 @@ pub fn clear(market: &Market) -> Outcome {
         for guest in 1..=n {
             let bid = u128::from(market.bid(guest, station));
             if bid >= cut {
-                candidates.push(Candidate { guest, total: bid * amount(guest) });
+                candidates.push(Candidate { guest, ticket: market.tickets[guest - 1], total: bid * amount(guest) });
             }
         }
-        // 4. their order
-        candidates.sort_by_key(|candidate| (Reverse(candidate.total), candidate.guest));
+        // 4. their order: falling totals, of equal ones the lower ticket first
+        candidates.sort_by_key(|candidate| (Reverse(candidate.total), candidate.ticket));
         let bays = usize::from(market.bays[station - 1]);
         // 5. the floor: the first candidate without a place
         let floor = candidates.get(bays).map_or(0, |candidate| candidate.total);

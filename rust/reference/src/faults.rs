@@ -1,4 +1,5 @@
-//! Document 01, 'Refusals by place': the clearing's rows. The reader's, the writer's and the posting's stand with those.
+//! Document 01, 'Refusals by place', with document 02's: the clearing's rows. The reader's, the writer's and the posting's
+//! stand with those.
 
 use crate::market::Market;
 
@@ -16,6 +17,7 @@ pub const ROUND_OUT_OF_TURN: u8 = 11;
 pub const ACCOUNT_OVER_LIMIT: u8 = 12;
 pub const BOOK_SIZE: u8 = 13;
 pub const OUTPUT_TOO_SHORT: u8 = 14;
+pub const TICKETS_REPEAT: u8 = 15;
 
 pub const MAX_GUESTS: usize = 200;
 pub const MAX_STATIONS: usize = 40;
@@ -50,7 +52,7 @@ pub fn clearing_fault(market: &Market, lists: ListLengths) -> Result<(), u8> {
     if !counts_in_range(n, m) {
         return Err(COUNTS_OUT_OF_RANGE);
     }
-    if market.bays.len() != m || market.bids.len() != n * m || market.width != m {
+    if market.bays.len() != m || market.tickets.len() != n || market.bids.len() != n * m || market.width != m {
         return Err(LENGTHS_DIFFER);
     }
     if lists != ListLengths::of(market) {
@@ -68,7 +70,22 @@ pub fn clearing_fault(market: &Market, lists: ListLengths) -> Result<(), u8> {
     if market.bids.iter().any(|&bid| bid > MAX_PRICE) {
         return Err(BID_OUT_OF_RANGE);
     }
+    if repeats(&market.tickets) {
+        return Err(TICKETS_REPEAT);
+    }
     Ok(())
+}
+
+/// Two of the tickets are equal.
+fn repeats(tickets: &[u32]) -> bool {
+    for later in 0..tickets.len() {
+        for earlier in 0..later {
+            if tickets[earlier] == tickets[later] {
+                return true;
+            }
+        }
+    }
+    false
 }
 
 /// The first fault of a market: the clearing's, the row on result lists aside.

@@ -4,13 +4,27 @@ pub struct Market {
     pub asks: Vec<u32>,
     pub bays: Vec<u16>,
     pub amounts: Vec<u16>,
+    pub tickets: Vec<u32>,
     pub bids: Vec<u32>,
     pub width: usize,
 }
 
 impl Market {
-    pub fn new(asks: &[u32], bays: &[u16], amounts: &[u16], bids: &[u32]) -> Market {
-        Market { asks: asks.to_vec(), bays: bays.to_vec(), amounts: amounts.to_vec(), bids: bids.to_vec(), width: asks.len() }
+    pub fn new(asks: &[u32], bays: &[u16], amounts: &[u16], tickets: &[u32], bids: &[u32]) -> Market {
+        Market {
+            asks: asks.to_vec(),
+            bays: bays.to_vec(),
+            amounts: amounts.to_vec(),
+            tickets: tickets.to_vec(),
+            bids: bids.to_vec(),
+            width: asks.len(),
+        }
+    }
+
+    /// With tickets 1, 2, 3 and so on in guest order.
+    pub fn numbered(asks: &[u32], bays: &[u16], amounts: &[u16], bids: &[u32]) -> Market {
+        let tickets: Vec<u32> = (1..=amounts.len() as u32).collect();
+        Market::new(asks, bays, amounts, &tickets, bids)
     }
 
     /// n

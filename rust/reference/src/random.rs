@@ -37,6 +37,47 @@ impl Random {
     }
 }
 
+/// Tickets 1, 2, 3 and so on for so many guests.
+pub fn numbered(_random: &mut Random, guests: usize) -> Vec<u32> {
+    (1..=guests as u32).collect()
+}
+
+/// Different tickets for so many guests, in no order.
+pub fn mixed(random: &mut Random, guests: usize) -> Vec<u32> {
+    different(random, guests, 0..=u64::from(u32::MAX))
+}
+
+/// Different tickets for so many guests: from anywhere or close together, rising, rising but for two, falling or mixed.
+pub fn any(random: &mut Random, guests: usize) -> Vec<u32> {
+    let width = guests as u64 * random.within(1..=3);
+    let greatest = u64::from(u32::MAX);
+    let first = *random.pick(&[0, 1 << 16, (1 << 31) - width / 2, greatest - width]);
+    let range = if random.chance(50) { first..=first + width } else { 0..=greatest };
+    let mut tickets = different(random, guests, range);
+    match random.below(5) {
+        0 => tickets.sort(),
+        1 => tickets.sort_by(|one, other| other.cmp(one)),
+        2 if guests > 0 => {
+            tickets.sort();
+            tickets.swap(random.below(guests), random.below(guests));
+        }
+        _ => {}
+    }
+    tickets
+}
+
+/// So many different numbers of a range that has more, in no order.
+fn different(random: &mut Random, count: usize, range: RangeInclusive<u64>) -> Vec<u32> {
+    let mut numbers = Vec::new();
+    while numbers.len() < count {
+        let number = random.within(range.clone()) as u32;
+        if !numbers.contains(&number) {
+            numbers.push(number);
+        }
+    }
+    numbers
+}
+
 /// The ranges that a random market's numbers come from.
 #[derive(Clone)]
 pub struct Shape {
@@ -45,6 +86,8 @@ pub struct Shape {
     pub asks: RangeInclusive<u64>,
     pub bays: RangeInclusive<u64>,
     pub amounts: RangeInclusive<u64>,
+    /// The tickets of so many guests.
+    pub tickets: fn(&mut Random, usize) -> Vec<u32>,
     pub bids: RangeInclusive<u64>,
     /// Of a hundred bids, how many are 0.
     pub empty: u64,
@@ -60,6 +103,7 @@ impl Shape {
             asks: price.clone(),
             bays: 1..=u64::from(MAX_BAYS),
             amounts: 1..=u64::from(MAX_AMOUNT),
+            tickets: any,
             bids: price,
             empty: 0,
         }
@@ -76,8 +120,9 @@ impl Shape {
         let asks: Vec<u32> = (0..m).map(|_| random.within(self.asks.clone()) as u32).collect();
         let bays: Vec<u16> = (0..m).map(|_| random.within(self.bays.clone()) as u16).collect();
         let amounts: Vec<u16> = (0..n).map(|_| random.within(self.amounts.clone()) as u16).collect();
+        let tickets = (self.tickets)(random, n as usize);
         let bids: Vec<u32> =
             (0..n * m).map(|_| if random.chance(self.empty) { 0 } else { random.within(self.bids.clone()) as u32 }).collect();
-        Market::new(&asks, &bays, &amounts, &bids)
+        Market::new(&asks, &bays, &amounts, &tickets, &bids)
     }
 }

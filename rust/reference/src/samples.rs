@@ -1,12 +1,12 @@
 //! The sheets of examples/.
 
 use crate::market::Market;
-use crate::random::{Random, Shape};
+use crate::random::{self, Random, Shape};
 use crate::sheet::shortest;
 
 /// Table I of document 000.
 pub fn table_i() -> Market {
-    Market::new(
+    Market::numbered(
         &[4, 1, 3, 2, 5],
         &[1, 2, 4, 2, 3],
         &[5, 2, 6, 4, 3],
@@ -22,13 +22,21 @@ pub fn table_i() -> Market {
 
 /// Case E of document 01.
 pub fn case_e() -> Market {
-    Market::new(&[2, 6], &[1, 1], &[3, 3], &[8, 0, 8, 0])
+    Market::numbered(&[2, 6], &[1, 1], &[3, 3], &[8, 0, 8, 0])
 }
 
 /// 200 guests and 40 stations, in mills as a city might have them.
 pub fn full() -> Market {
-    let shape =
-        Shape { guests: 200..=200, stations: 40..=40, asks: 90..=450, bays: 1..=12, amounts: 5..=80, bids: 100..=900, empty: 60 };
+    let shape = Shape {
+        guests: 200..=200,
+        stations: 40..=40,
+        asks: 90..=450,
+        bays: 1..=12,
+        amounts: 5..=80,
+        tickets: random::numbered,
+        bids: 100..=900,
+        empty: 60,
+    };
     shape.market(&mut Random::new(8))
 }
 

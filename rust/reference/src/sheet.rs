@@ -1,4 +1,4 @@
-//! Document 01, 'The sheet', and document 02, 'Sheets we can send out'.
+//! Document 01, 'The sheet', with document 02's tickets in it, and document 02, 'Sheets we can send out'.
 
 use crate::faults::{self, MAX_GUESTS, MAX_STATIONS};
 use crate::market::Market;
@@ -7,14 +7,20 @@ use crate::market::Market;
 #[derive(Clone, Copy, Debug, PartialEq, Eq)]
 pub struct TableLengths {
     pub amounts: usize,
+    pub tickets: usize,
     pub asks: usize,
     pub bays: usize,
     pub bids: usize,
 }
 
 /// The lengths that the reader accepts.
-pub const GREATEST: TableLengths =
-    TableLengths { amounts: MAX_GUESTS, asks: MAX_STATIONS, bays: MAX_STATIONS, bids: MAX_GUESTS * MAX_STATIONS };
+pub const GREATEST: TableLengths = TableLengths {
+    amounts: MAX_GUESTS,
+    tickets: MAX_GUESTS,
+    asks: MAX_STATIONS,
+    bays: MAX_STATIONS,
+    bids: MAX_GUESTS * MAX_STATIONS,
+};
 
 /// The part of a sheet that is still to be read.
 struct Rest<'a>(&'a [u8]);
@@ -69,7 +75,7 @@ pub fn read(sheet: &[u8], tables: TableLengths) -> Result<Market, u8> {
     if !faults::counts_in_range(n, m) {
         return Err(faults::COUNTS_OUT_OF_RANGE);
     }
-    let mut market = Market::new(&[], &[], &[], &[]);
+    let mut market = Market::new(&[], &[], &[], &[], &[]);
     market.width = m;
     for _station in 1..=m {
         market.asks.push(rest.number32()?);
@@ -77,6 +83,7 @@ pub fn read(sheet: &[u8], tables: TableLengths) -> Result<Market, u8> {
     }
     for _guest in 1..=n {
         market.amounts.push(rest.number16()?);
+        market.tickets.push(rest.number32()?);
         for set in rest.bit_map(m)? {
             market.bids.push(if set { rest.number32()? } else { 0 });
         }
@@ -100,6 +107,7 @@ pub fn stating(market: &Market, mut empty: impl FnMut(usize, usize) -> bool) -> 
     }
     for guest in 1..=n {
         sheet.extend(market.amounts[guest - 1].to_le_bytes());
+        sheet.extend(market.tickets[guest - 1].to_le_bytes());
         let mut map = vec![0; m.div_ceil(8)];
         let mut bids = Vec::new();
         for station in 1..=m {
