@@ -1,12 +1,12 @@
-"""What a market, its results and a book are lent as, at the lifetimes of a function that takes all eight slices."""
+"""What a market, its results and a book are lent as, at the lifetimes of a function that takes all nine slices."""
 import view
 from frame import Cell, each, Lent, Number, projection, Shared
 from layout import pairs
 
-ASKS = [Shared('asks', 'u32', 0), Shared('bays', 'u16', 1), Shared('amounts', 'u16', 2)]
-BIDS, WIDTH = Shared('bids', 'u32', 3), Number('width', 'usize')
+ASKS = [Shared('asks', 'u32', 0), Shared('bays', 'u16', 1), Shared('amounts', 'u16', 2), Shared('tickets', 'u32', 3)]
+BIDS, WIDTH = Shared('bids', 'u32', 4), Number('width', 'usize')
 SLICES = [*ASKS, BIDS]
-RESULTS = [Lent('stations', 'u16', 4), Lent('charges', 'u32', 5), Lent('sold', 'u32', 6), Lent('paid', 'u64', 7)]
+RESULTS = [Lent('stations', 'u16', 5), Lent('charges', 'u32', 6), Lent('sold', 'u32', 7), Lent('paid', 'u64', 8)]
 # the results at exit, that their lengths are as they were, and what is had then, where the answer is r
 LASTS = ' '.join(f'{p.name}′' for p in RESULTS)
 LENGTHS = ' '.join(f'l-{p.name}' for p in RESULTS)
@@ -18,8 +18,8 @@ def had(r):
     return f'tokens ∷ {left} ∷ ‵ (S.the-row .own {r} (u ∷ [])) ∷ ‵ Kept ∷ []'
 
 
-ROUND, GUESTS = Number('round', 'u32'), Lent('guests', 'u64', 4)
-HOUSE, LAST = Cell('house', 'u64', 6), Cell('last', 'u32', 7)
+ROUND, GUESTS = Number('round', 'u32'), Lent('guests', 'u64', 5)
+HOUSE, LAST = Cell('house', 'u64', 7), Cell('last', 'u32', 8)
 
 # what the contract of a clearing through the view cites
 CLEARS = f'''\
@@ -33,8 +33,8 @@ Rattle.model.proofs.answers.Clearing.Laws as S′
 '''
 
 # the lifetimes, their shares, and what a posting is passed before the row of stations
-POSTED = ('(κ₀ κ₁ κ₂ κ₃ κ₄ κ₅ κ₆ κ₇ : Lft) (q₀ q₁ q₂ q₃ q₄ q₅ q₆ q₇ : Share) (asks bays amounts bids : Nums) '
-          '(width : ℕ) (width-fits : width < 2 ^ 64) (round : ℕ) (round-fits : round < 2 ^ 32) (guests : Nums)')
+POSTED = ('(κ₀ κ₁ κ₂ κ₃ κ₄ κ₅ κ₆ κ₇ κ₈ : Lft) (q₀ q₁ q₂ q₃ q₄ q₅ q₆ q₇ q₈ : Share) '
+          '(asks bays amounts tickets bids : Nums) (width : ℕ) (width-fits : width < 2 ^ 64) (round : ℕ) (round-fits : round < 2 ^ 32) (guests : Nums)')
 
 
 # the arguments of the walk of such a function, with the row of stations as it is taken (`row`, of where it stands)
@@ -49,11 +49,11 @@ def posted(f, row):
 
 
 LIFETIMES = f'''
-  abbrev κs : Lfts 8
-  κs = {pairs([each(l)[0] for l in range(8)])}
+  abbrev κs : Lfts 9
+  κs = {pairs([each(l)[0] for l in range(9)])}
 
-  abbrev qs : Shares 8
-  qs = {pairs([each(l)[1] for l in range(8)])}
+  abbrev qs : Shares 9
+  qs = {pairs([each(l)[1] for l in range(9)])}
 '''.lstrip()
 
 BOOK = '''
@@ -67,7 +67,7 @@ abbrev Num : Type 0
 Num = RefT ℕ
 
 abbrev Arg : Type 0
-Arg = Nums × (Nums × (Nums × (Nums × (ℕ × (ℕ × (Nums × (Recs × (Num × (Num × Unit {0})))))))))
+Arg = Nums × (Nums × (Nums × (Nums × (Nums × (ℕ × (ℕ × (Nums × (Recs × (Num × (Num × Unit {0}))))))))))
 
 -- the machine values of a slice and of a `&mut`
 abbrev val : {X : Type 0} → RefT (List X) → Val

@@ -9,6 +9,7 @@ pub extern "C" fn bay_market_clear(
     asks: &[u32],
     bays: &[u16],
     amounts: &[u16],
+    tickets: &[u32],
     bids: &[u32],
     width: usize,
     stations: &mut [u16],
@@ -18,7 +19,7 @@ pub extern "C" fn bay_market_clear(
     cut: &mut u32,
     margin: &mut u64,
 ) -> u8
-    ensures { λ r. ⌜ ClearsOut (tablesIn asks bays amounts bids width)
+    ensures { λ r. ⌜ ClearsOut (tablesIn asks bays amounts tickets bids width)
         (resultsIn stations charges sold paid) (now (cut .entry)) (now (margin .entry)) r
         (resultsOut stations charges sold paid) (now (cut .exit)) (now (margin .exit)) ⌝ }
 {
@@ -26,6 +27,7 @@ pub extern "C" fn bay_market_clear(
         asks,
         bays,
         amounts,
+        tickets,
         bids,
         width,
         stations,

@@ -23,6 +23,7 @@ pub extern "C" fn bay_market_post(
     asks: &[u32],
     bays: &[u16],
     amounts: &[u16],
+    tickets: &[u32],
     bids: &[u32],
     width: usize,
     round: u32,
@@ -32,12 +33,13 @@ pub extern "C" fn bay_market_post(
     last: &mut u32,
 ) -> u8
     ensures { λ k. ⌜ PostsOut (bookIn guests stations house last)
-        (posting (tablesIn asks bays amounts bids width) round) (bookOut guests stations house last) k ⌝ }
+        (posting (tablesIn asks bays amounts tickets bids width) round) (bookOut guests stations house last) k ⌝ }
 {
     let reply = ledger::post(
         asks,
         bays,
         amounts,
+        tickets,
         bids,
         width,
         round,

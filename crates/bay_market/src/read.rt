@@ -7,6 +7,7 @@ ghost use Rattle.model.specs.contracts.ReadsOut.{ReadsOut};
 pub extern "C" fn bay_market_read(
     sheet: &[u8],
     amounts: &mut [u16],
+    tickets: &mut [u32],
     asks: &mut [u32],
     bays: &mut [u16],
     bids: &mut [u32],
@@ -14,10 +15,10 @@ pub extern "C" fn bay_market_read(
     m: &mut u16,
 ) -> u8
     ensures { λ r. ⌜ ReadsOut (now (sheet .entry))
-        (lentTablesIn amounts asks bays bids) (now (n .entry)) (now (m .entry)) r
-        (lentTablesOut amounts asks bays bids) (now (n .exit)) (now (m .exit)) ⌝ }
+        (lentTablesIn amounts tickets asks bays bids) (now (n .entry)) (now (m .entry)) r
+        (lentTablesOut amounts tickets asks bays bids) (now (n .exit)) (now (m .exit)) ⌝ }
 {
-    let reading = sheet::read(sheet, amounts, asks, bays, bids);
+    let reading = sheet::read(sheet, amounts, tickets, asks, bays, bids);
     match reading {
         Reading::Refused(refusal) => refusal.number(),
         Reading::Read { guests, stations } => {

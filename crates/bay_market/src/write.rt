@@ -8,15 +8,16 @@ pub extern "C" fn bay_market_write(
     asks: &[u32],
     bays: &[u16],
     amounts: &[u16],
+    tickets: &[u32],
     bids: &[u32],
     width: usize,
     sheet: &mut [u8],
     length: &mut usize,
 ) -> u8
-    ensures { λ r. ⌜ WritesOut (tablesIn asks bays amounts bids width)
+    ensures { λ r. ⌜ WritesOut (tablesIn asks bays amounts tickets bids width)
         (now (sheet .entry)) (now (length .entry)) r (now (sheet .exit)) (now (length .exit)) ⌝ }
 {
-    match sheet::write(asks, bays, amounts, bids, width, sheet) {
+    match sheet::write(asks, bays, amounts, tickets, bids, width, sheet) {
         Writing::Refused(refusal) => refusal.number(),
         Writing::Written { length: written } => {
             *length = written;

@@ -26,6 +26,7 @@ fn clear_with_room(
     asks: &[u32],
     bays: &[u16],
     amounts: &[u16],
+    tickets: &[u32],
     bids: &[u32],
     least: &mut [u32],
     stations: &mut [u16],
@@ -33,16 +34,16 @@ fn clear_with_room(
     sold: &mut [u32],
     paid: &mut [u64],
 ) -> Clearing
-    requires { ⌜ WithinLimits (regularOf asks bays amounts bids) ⌝ }
-    requires { ⌜ RightLengths (regularOf asks bays amounts bids) (resultsOf stations charges sold paid) ⌝ }
+    requires { ⌜ WithinLimits (regularOf asks bays amounts tickets bids) ⌝ }
+    requires { ⌜ RightLengths (regularOf asks bays amounts tickets bids) (resultsOf stations charges sold paid) ⌝ }
     requires { ⌜ length (now least) ≡ length (now amounts) ⌝ }
-    ensures { λ r. ⌜ (let t = regularIn asks bays amounts bids in
+    ensures { λ r. ⌜ (let t = regularIn asks bays amounts tickets bids in
         ClearsAccepted t r (resultsOut stations charges sold paid)
         × (now (least .exit) ≡ list (length (t .amounts)) (leastAt (t .amounts) (cut (market t))))) ⌝ }
 {
     let cut = cut::cut(asks);
     charges::least_charges(amounts, cut, least);
-    assignment::assign_all(asks, bays, amounts, bids, cut, least, stations, charges);
+    assignment::assign_all(asks, bays, amounts, tickets, bids, cut, least, stations, charges);
     sales::sell(stations, amounts, cut, sold, paid);
     let margin = margin::margin(charges, least);
     Clearing::Cleared { cut, margin }
@@ -52,15 +53,16 @@ fn clear_accepted(
     asks: &[u32],
     bays: &[u16],
     amounts: &[u16],
+    tickets: &[u32],
     bids: &[u32],
     stations: &mut [u16],
     charges: &mut [u32],
     sold: &mut [u32],
     paid: &mut [u64],
 ) -> Clearing
-    requires { ⌜ WithinLimits (regularOf asks bays amounts bids) ⌝ }
-    requires { ⌜ RightLengths (regularOf asks bays amounts bids) (resultsOf stations charges sold paid) ⌝ }
-    ensures { λ r. ⌜ ClearsAccepted (regularIn asks bays amounts bids) r (resultsOut stations charges sold paid) ⌝ }
+    requires { ⌜ WithinLimits (regularOf asks bays amounts tickets bids) ⌝ }
+    requires { ⌜ RightLengths (regularOf asks bays amounts tickets bids) (resultsOf stations charges sold paid) ⌝ }
+    ensures { λ r. ⌜ ClearsAccepted (regularIn asks bays amounts tickets bids) r (resultsOut stations charges sold paid) ⌝ }
 {
     let mut least = [0u32; MAX_GUESTS];
     let n = amounts.len();
@@ -68,6 +70,7 @@ fn clear_accepted(
         asks,
         bays,
         amounts,
+        tickets,
         bids,
         &mut least[..n],
         stations,
@@ -82,6 +85,7 @@ pub fn clear(
     asks: &[u32],
     bays: &[u16],
     amounts: &[u16],
+    tickets: &[u32],
     bids: &[u32],
     width: usize,
     stations: &mut [u16],
@@ -89,13 +93,14 @@ pub fn clear(
     sold: &mut [u32],
     paid: &mut [u64],
 ) -> Clearing
-    ensures { λ r. ⌜ Clears (tablesIn asks bays amounts bids width) (resultsIn stations charges sold paid) r
+    ensures { λ r. ⌜ Clears (tablesIn asks bays amounts tickets bids width) (resultsIn stations charges sold paid) r
         (resultsOut stations charges sold paid) ⌝ }
 {
     let verdict = faults::clearing_fault(
         asks,
         bays,
         amounts,
+        tickets,
         bids,
         width,
         stations,
@@ -109,6 +114,7 @@ pub fn clear(
             asks,
             bays,
             amounts,
+            tickets,
             bids,
             stations,
             charges,

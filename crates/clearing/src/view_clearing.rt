@@ -11,6 +11,7 @@ pub fn clear_table(
     asks: &[u32],
     bays: &[u16],
     amounts: &[u16],
+    tickets: &[u32],
     table: BidTable<'_>,
     stations: &mut [u16],
     charges: &mut [u32],
@@ -18,7 +19,7 @@ pub fn clear_table(
     paid: &mut [u64],
 ) -> Clearing
     ensures { λ r. ⌜ Clears
-        (tables (now (asks .entry)) (now (bays .entry)) (now (amounts .entry))
+        (tables (now (asks .entry)) (now (bays .entry)) (now (amounts .entry)) (now (tickets .entry))
         (now (table .entry .bids)) (table .entry .width))
         (resultsIn stations charges sold paid) r (resultsOut stations charges sold paid) ⌝ }
 {
@@ -26,6 +27,7 @@ pub fn clear_table(
         asks,
         bays,
         amounts,
+        tickets,
         table.bids,
         table.width,
         stations,
@@ -41,6 +43,7 @@ pub fn clear_through_view(
     asks: &[u32],
     bays: &[u16],
     amounts: &[u16],
+    tickets: &[u32],
     bids: &[u32],
     width: usize,
     stations: &mut [u16],
@@ -48,13 +51,14 @@ pub fn clear_through_view(
     sold: &mut [u32],
     paid: &mut [u64],
 ) -> Clearing
-    ensures { λ r. ⌜ Clears (tablesIn asks bays amounts bids width) (resultsIn stations charges sold paid) r
+    ensures { λ r. ⌜ Clears (tablesIn asks bays amounts tickets bids width) (resultsIn stations charges sold paid) r
         (resultsOut stations charges sold paid) ⌝ }
 {
     clear_table(
         asks,
         bays,
         amounts,
+        tickets,
         views::bid_table(bids, width),
         stations,
         charges,

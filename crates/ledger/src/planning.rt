@@ -11,8 +11,15 @@ ghost use Rattle.model.specs.contracts.Lent.{tablesIn};
 ghost use Rattle.ledger.specs.Plans.{Planned};
 
 // The round that the market clears to, or a refused one.
-pub fn plan(asks: &[u32], bays: &[u16], amounts: &[u16], bids: &[u32], width: usize) -> Round
-    ensures { λ r. ⌜ Planned (tablesIn asks bays amounts bids width) r ⌝ }
+pub fn plan(
+    asks: &[u32],
+    bays: &[u16],
+    amounts: &[u16],
+    tickets: &[u32],
+    bids: &[u32],
+    width: usize,
+) -> Round
+    ensures { λ r. ⌜ Planned (tablesIn asks bays amounts tickets bids width) r ⌝ }
 {
     let n = amounts.len();
     let m = asks.len();
@@ -27,6 +34,7 @@ pub fn plan(asks: &[u32], bays: &[u16], amounts: &[u16], bids: &[u32], width: us
         asks,
         bays,
         amounts,
+        tickets,
         bids,
         width,
         &mut seats[..n],

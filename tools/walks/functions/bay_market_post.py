@@ -9,7 +9,7 @@ POST = Callee('ledger', 'post', 'post', 'Post', own=False)
 NUMBER = Callee('bay_market', 'post.reply_number', 'number', 'Number')
 STATIONS = Lent('stations', 'T.the-row', 5)
 LENT = [GUESTS, STATIONS, HOUSE, LAST]
-FUNCTION = Function('bay_market', 'post.bay_market_post', 8, [*SLICES, WIDTH, ROUND, *LENT], [POST, NUMBER],
+FUNCTION = Function('bay_market', 'post.bay_market_post', 9, [*SLICES, WIDTH, ROUND, *LENT], [POST, NUMBER],
                     naming=each, uses='''\
 Rattle.model.specs.Verdicts: numberOf
 Rattle.model.specs.Verdicts as answers
@@ -86,7 +86,7 @@ def proof():
     return f.proof(TEMPLATE, f'{POSTED} (stations : Recs) (house last : Num)', walked, book=BOOK, lifetimes=LIFETIMES,
                    owns=owns(SLICES, each), goes_post=goes_post(), goes_number=goes_number(), exits=exits(),
                    names=f.names(), at=laid([f'{p.value()} ∷ []' for p in f.parameters], 2, 'at = '),
-                   tokens=[tokens(range(8), each)], Owned=[f'‵ (owns ({f.rows()}) a at)'],
+                   tokens=[tokens(range(9), each)], Owned=[f'‵ (owns ({f.rows()}) a at)'],
                    Market=formulas([f'Own-{p.name}' for p in SLICES]), ends=[f.ends('bound', 'v', 'k')])
 
 
@@ -141,7 +141,7 @@ posted-out said e = record { number-is = e ∙ ap numberOf (said .answered); lef
   abbrev Said : Verdict → List ℕ → List StationAccount → ℕ → ℕ → Type 0
   Said r guests′ stations′ house′ last′ =
       Posts (book (now guests) (now stations) (now house) (now last))
-      (posting (tables (now asks) (now bays) (now amounts) (now bids) width) round) (answerOfVerdict r)
+      (posting (tables (now asks) (now bays) (now amounts) (now tickets) (now bids) width) round) (answerOfVerdict r)
       (book guests′ stations′ house′ last′)
 
   -- `reply_number`, on the reply r at the machine value v

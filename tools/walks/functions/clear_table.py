@@ -8,12 +8,12 @@ from layout import laid, pairs
 from market import ASKS, CLEARS, had, KEEPS, LASTS, LENGTHS, RESULTS
 
 CLEAR = Callee('clearing', 'clear', 'g', 'Plain')
-TABLE = View('d', 3, 8)
-FUNCTION = Function('clearing', 'view_clearing.clear_table', 8, [*ASKS, TABLE, *RESULTS], [CLEAR], uses=CLEARS)
+TABLE = View('d', 4, 9)
+FUNCTION = Function('clearing', 'view_clearing.clear_table', 9, [*ASKS, TABLE, *RESULTS], [CLEAR], uses=CLEARS)
 # the callee's parameters: the view's fields in its place
 WIDTH = Number('(d .width)', 'usize', 'fits')
-PASSED = [*ASKS, Shared('(d .bids)', 'u32', 3), WIDTH, *RESULTS]
-LFT = '(namedLft 8 3 tt κs)'
+PASSED = [*ASKS, Shared('(d .bids)', 'u32', 4), WIDTH, *RESULTS]
+LFT = '(namedLft 9 4 tt κs)'
 LISTS = lasts(PASSED, 'ls')
 HAD = had('r')
 KEPT = [f'kept {p.name}' for p in ASKS] + ['kept d']
@@ -43,7 +43,7 @@ def exits():
 
 
 def walk():
-    w = Walk('entry').allocate(19)
+    w = Walk('entry').allocate(20)
     w.passes(*(p.typed(by_place) for p in FUNCTION.parameters))
     table = FUNCTION.local('d')
     fields = [w.copied(w.field(table, 0), 'tt, wt .1 .0'), w.copied(w.field(table, 1), 'tt, wt .1 .1 .0')]
@@ -64,10 +64,10 @@ def proof():
     types = ' '.join(f"({p.name} : {'BidTable' if p is TABLE else 'Nums'})" for p in f.parameters)
     walked = f.walked(walk(), f.arguments('κs qs', 'C Λ fm known-plain'), [p.fact(by_place) for p in f.parameters],
                       ' '.join('wt' if p is TABLE else f'g-{p.name}' for p in f.parameters))
-    return f.proof(TEMPLATE, f'(κs : Lfts 8) (qs : Shares 8) {types}', walked, apart=apart(), exits=exits(),
+    return f.proof(TEMPLATE, f'(κs : Lfts 9) (qs : Shares 9) {types}', walked, apart=apart(), exits=exits(),
                    owns=owns(ASKS, by_place), fields=view.FIELDS, LFT=LFT, LASTS=LASTS, LENGTHS=LENGTHS,
                    names=f.names(), at=laid([f'{p.value()} ∷ []' for p in f.parameters], 2, 'at = '),
-                   tokens=[tokens(range(8), by_place)], Kept=formulas([f'Own-{p.name}' for p in [*ASKS, TABLE]]),
+                   tokens=[tokens(range(9), by_place)], Kept=formulas([f'Own-{p.name}' for p in [*ASKS, TABLE]]),
                    args=pairs([p.name.strip('()') for p in PASSED]),
                    passed=laid([f'{p.value()} ∷ []' for p in PASSED], 2, 'passed = '),
                    given=[f'qed W (tokens ∷ ‵ (owns ({f.rows()}) a at) ∷ []) ∵'],
@@ -79,7 +79,7 @@ def proof():
 
 TEMPLATE = '''
 -- the struct's type, over the signature's lifetimes
-abbrev B : Lfts 8 → RattleType
+abbrev B : Lfts 9 → RattleType
 B κs = T.the-row «LFT»
 
 abbrev Nums : Type 0
@@ -94,7 +94,7 @@ val x = sliceVal (x .ptr) (length (x .now))
   mach = T′.lowered d
 
   abbrev Args : Type 0
-  Args = Nums × (Nums × (Nums × (BidTable × (Nums × (Nums × (Nums × (Nums × Unit {0})))))))
+  Args = Nums × (Nums × (Nums × (Nums × (BidTable × (Nums × (Nums × (Nums × (Nums × Unit {0}))))))))
 
   abbrev a : Args
   a = «names»
@@ -121,7 +121,7 @@ val x = sliceVal (x .ptr) (length (x .now))
   «fields»
   -- what the callee is passed
   abbrev GArgs : Type 0
-  GArgs = Nums × (Nums × (Nums × (Nums × (ℕ × (Nums × (Nums × (Nums × (Nums × Unit {0}))))))))
+  GArgs = Nums × (Nums × (Nums × (Nums × (Nums × (ℕ × (Nums × (Nums × (Nums × (Nums × Unit {0})))))))))
 
   abbrev args : GArgs
   args = «args»
@@ -147,7 +147,7 @@ val x = sliceVal (x .ptr) (length (x .now))
   -- what the callee ensures of its result and its last lists
   abbrev Said : Clearing → List ℕ → List ℕ → List ℕ → List ℕ → Type 0
   Said r «LASTS» =
-      Clears (tables (now asks) (now bays) (now amounts) (now (d .bids)) (d .width))
+      Clears (tables (now asks) (now bays) (now amounts) (now tickets) (now (d .bids)) (d .width))
       (results (now stations) (now charges) (now sold) (now paid)) r (results «LASTS»)
 
   exits :

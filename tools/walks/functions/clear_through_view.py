@@ -9,11 +9,11 @@ from market import ASKS, BIDS, CLEARS, had, KEEPS, LASTS, LENGTHS, RESULTS, SLIC
 MAKE = Callee('clearing', 'views.bid_table', 't', 'Table')
 CLEAR = Callee('clearing', 'view_clearing.clear_table', 'g', 'Clear')
 WIDTH = Number('width', 'usize', 'fits')
-FUNCTION = Function('clearing', 'view_clearing.clear_through_view', 8, [*SLICES, WIDTH, *RESULTS], [MAKE, CLEAR],
+FUNCTION = Function('clearing', 'view_clearing.clear_through_view', 9, [*SLICES, WIDTH, *RESULTS], [MAKE, CLEAR],
                     uses=CLEARS)
-TABLE = View('r', 3, 8)
+TABLE = View('r', 4, 9)
 PASSED = [*ASKS, TABLE, *RESULTS]
-TOKENS = [f'token {l}' for l in range(8)]
+TOKENS = [f'token {l}' for l in range(9)]
 κ, q = by_place(BIDS.lifetime)
 TOKEN = f'(‵ (flft {κ} {q}) ⊛ ‵ ftrue)'
 LISTS = lasts(PASSED, 'ls')
@@ -59,7 +59,7 @@ def exits():
 
 
 def walk():
-    w = Walk('entry').allocate(19).passes(*(p.typed(by_place) for p in FUNCTION.parameters))
+    w = Walk('entry').allocate(20).passes(*(p.typed(by_place) for p in FUNCTION.parameters))
     w.asked(['entry'], MAKE, 'to-table', '(goes-table fits)', 'Rest')
     w.call(MAKE, 'to-table', w.arguments(*FUNCTION.locals([BIDS, WIDTH])), 'v', 'r', 'BidTable', TOKEN, 'B κs',
            f"({κ.strip('()')}, tt)", '(bids, (width, tt))')
@@ -83,7 +83,7 @@ def walk():
 def proof():
     f = FUNCTION
     owning = [p for p in f.parameters if p is not WIDTH]
-    kept = [f'(flft {by_place(l)[0]} {by_place(l)[1]})' for l in range(8) if l != BIDS.lifetime] + [
+    kept = [f'(flft {by_place(l)[0]} {by_place(l)[1]})' for l in range(9) if l != BIDS.lifetime] + [
         f'Own-{p.name}' for p in owning]
     asked = f'tokens ∷ ‵ (owns ({rows(PASSED, by_place)}) (args r) (passed u)) ∷ []'
     made = (f'{TOKEN} ∷ ‵ (owns (ShrSlice (named 0) {κ} u32 ∷ usize ∷ []) (bids, (width, tt)) '
@@ -91,11 +91,11 @@ def proof():
     walked = f.walked(walk(), f.arguments('κs qs', 'C Λ fm known-table known-clear'),
                       [p.fact(by_place) or 'width < 2 ^ 64' for p in f.parameters],
                       ' '.join('fits' if p is WIDTH else f'g-{p.name}' for p in f.parameters))
-    return f.proof(TEMPLATE, '(κs : Lfts 8) (qs : Shares 8) (asks bays amounts bids : Nums) (width : ℕ) '
+    return f.proof(TEMPLATE, '(κs : Lfts 9) (qs : Shares 9) (asks bays amounts tickets bids : Nums) (width : ℕ) '
                    '(stations charges sold paid : Nums)', walked, goes_table=goes_table(), goes_clear=goes_clear(),
                    exits=exits(), owns=owns(owning, by_place), LASTS=LASTS, LENGTHS=LENGTHS, names=f.names(),
                    at=laid([f'{p.value()} ∷ []' for p in f.parameters], 2, 'at = '),
-                   tokens=[tokens(range(8), by_place)], Rest=[formulas(kept)], TOKEN=TOKEN,
+                   tokens=[tokens(range(9), by_place)], Rest=[formulas(kept)], TOKEN=TOKEN,
                    Kept=formulas([f'Own-{p.name}' for p in SLICES]), κ=κ.strip('()'), q=q.strip('()'),
                    passed=laid(['u ∷ []' if p is TABLE else f'{p.value()} ∷ []' for p in PASSED], 2, 'passed u = '),
                    made=[f'ent 𝓤 (⋆ 𝓤 H A ({made})) (Table 𝓤 H A mem run .pre to-table)'],
@@ -109,8 +109,8 @@ def proof():
 
 TEMPLATE = '''
 -- the view's type, over the signature's lifetimes
-abbrev B : Lfts 8 → RattleType
-B κs = T.the-row (namedLft 8 3 tt κs)
+abbrev B : Lfts 9 → RattleType
+B κs = T.the-row (namedLft 9 4 tt κs)
 
 abbrev Nums : Type 0
 Nums = RefT (List ℕ)
@@ -121,7 +121,7 @@ val x = sliceVal (x .ptr) (length (x .now))
 
 «contracts»
 «module»  abbrev Args : Type 0
-  Args = Nums × (Nums × (Nums × (Nums × (ℕ × (Nums × (Nums × (Nums × (Nums × Unit {0}))))))))
+  Args = Nums × (Nums × (Nums × (Nums × (Nums × (ℕ × (Nums × (Nums × (Nums × (Nums × Unit {0})))))))))
 
   abbrev a : Args
   a = «names»
@@ -182,10 +182,10 @@ val x = sliceVal (x .ptr) (length (x .now))
 
   -- the call of `clear_table`, at the view r with the machine value u
   abbrev GArgs : Type 0
-  GArgs = Nums × (Nums × (Nums × (BidTable × (Nums × (Nums × (Nums × (Nums × Unit {0})))))))
+  GArgs = Nums × (Nums × (Nums × (Nums × (BidTable × (Nums × (Nums × (Nums × (Nums × Unit {0}))))))))
 
   abbrev args : BidTable → GArgs
-  args r = (asks, (bays, (amounts, (r, (stations, (charges, (sold, (paid, tt))))))))
+  args r = (asks, (bays, (amounts, (tickets, (r, (stations, (charges, (sold, (paid, tt)))))))))
 
   abbrev passed : Val → Vals g.signature κs
 «passed»
@@ -211,7 +211,7 @@ val x = sliceVal (x .ptr) (length (x .now))
   -- what is ensured of the answer and the last lists, where the bids are x and the row width is w
   abbrev Said : Nums → ℕ → Clearing → List ℕ → List ℕ → List ℕ → List ℕ → Type 0
   Said x w a′ «LASTS» =
-      Clears (tables (now asks) (now bays) (now amounts) (now x) w)
+      Clears (tables (now asks) (now bays) (now amounts) (now tickets) (now x) w)
       (results (now stations) (now charges) (now sold) (now paid)) a′ (results «LASTS»)
 
   of-view :

@@ -12,7 +12,7 @@ SETTLE = Callee('ledger', 'settling.settle', 'settle', 'Settle')
 ADD = Callee('ledger', 'stations.add_sales', 'add', 'Add')
 ROW = Lent('(x γ)', 'T.the-row', 5, value='s')
 ROW.label = 'stations'
-FUNCTION = Function('ledger', 'post', 8, [*SLICES, WIDTH, ROUND, GUESTS, ROW, HOUSE, LAST], [PLAN, EXCEED, SETTLE, ADD],
+FUNCTION = Function('ledger', 'post', 9, [*SLICES, WIDTH, ROUND, GUESTS, ROW, HOUSE, LAST], [PLAN, EXCEED, SETTLE, ADD],
                     naming=each, uses='''\
 Rattle.model.specs.market.Market: tables
 Rattle.ledger.specs.declared.round.Round: Round
@@ -80,9 +80,9 @@ def goes_add():
 
 def exits():
     w = Walk('of plan', 'Market', 'of add', 'stations', 'of settle', 'guests', 'house', 'last')
-    w.step('says ! (posts (posting (tables (now asks) (now bays) (now amounts) (now bids) width) round) entry d '
+    w.step('says ! (posts (posting (tables (now asks) (now bays) (now amounts) (now tickets) (now bids) width) round) entry d '
            '(exceedingTo d n ys) e₀ refl c guests′ stations′ house′ last′ e₂ e₃)')
-    token = [f'token {l}' for l in range(8)]
+    token = [f'token {l}' for l in range(9)]
     w.chain('of plan', *token[:4], 'true 4', how='split')
     w.split('of settle', token[4], 'tokens 6').split('of add', token[5], 'true 5')
     w.join(token[5], 'tokens 6', 'tokens')
@@ -110,7 +110,7 @@ def walk():
     w.note('what the parameters own and their tokens, apart; `plan`')
     w.chain('owns', *(p.name for p in FUNCTION.parameters), 'true').drop('true', 'width', 'round')
     w.unchain('Market', *KEPT)
-    token = [f'token {l}' for l in range(8)]
+    token = [f'token {l}' for l in range(9)]
     w.chain('tokens', *token[:6], 'tokens 6', how='split').join(token[4], 'tokens 6', 'of settle')
     w.nothing('of plan')
     for l in reversed(OF_PLAN):
@@ -185,8 +185,8 @@ def proof():
     f = FUNCTION
     walked = f.walked(walk(), posted(f, lambda row: f'({row} .ptr .0) ({row} .ptr .1) ({row} .name) ({row} .now)'),
                       [*(p.fact(each) for p in [*SLICES, GUESTS]), 'Room T.the-row n'],
-                      'g-asks g-bays g-amounts g-bids gg gn',
-                      entry=f'({tokens(range(8), each)}) ∷ ‵ (owns ({f.rows()}) a at)')
+                      'g-asks g-bays g-amounts g-tickets g-bids gg gn',
+                      entry=f'({tokens(range(9), each)}) ∷ ‵ (owns ({f.rows()}) a at)')
     settled = ['v ∷ []', 'vbool (exceedingTo d n ys) ∷ []', 'vint w64 n ∷ []',
                *(f'{p.value()} ∷ []' for p in (ROUND, GUESTS, HOUSE, LAST))]
     return f.proof(TEMPLATE, f'{POSTED} (b o : ℕ) (γ : GName) (ys : List StationAccount) (house last : Num)', walked,
@@ -232,7 +232,7 @@ valS r = EL.val S.the-type S′.the-laws r
   Post = walkOf 𝓤 H A f.ended stayed (f.clauses 𝓤 H A mem run) .post bound
 
   abbrev Plan₀ : Round → Type 0
-  Plan₀ d = Planned (tables (now asks) (now bays) (now amounts) (now bids) width) d
+  Plan₀ d = Planned (tables (now asks) (now bays) (now amounts) (now tickets) (now bids) width) d
 
 «owns»
   abbrev Market : Fml
@@ -252,10 +252,10 @@ valS r = EL.val S.the-type S′.the-laws r
   PArg = Nums × (Nums × (Nums × (Nums × (ℕ × Unit {0}))))
 
   abbrev plan-args : PArg
-  plan-args = (asks, (bays, (amounts, (bids, (width, tt)))))
+  plan-args = (asks, (bays, (amounts, (tickets, (bids, (width, tt))))))
 
   abbrev plan-vals : Vals plan.signature κs₄
-  plan-vals = (val asks ∷ [], (val bays ∷ [], (val amounts ∷ [], (val bids ∷ [], (vint w64 width ∷ [], tt)))))
+  plan-vals = (val asks ∷ [], (val bays ∷ [], (val amounts ∷ [], (val tickets ∷ [], (val bids ∷ [], (vint w64 width ∷ [], tt))))))
 
   abbrev to-plan : Plan 𝓤 H A mem run .Ghost
   to-plan = ((κs₄, qs₄, tt, plan-args, plan-vals), tt)
