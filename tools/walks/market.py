@@ -34,7 +34,8 @@ Rattle.model.proofs.answers.Clearing.Laws as S′
 
 # the lifetimes, their shares, and what a posting is passed before the row of stations
 POSTED = ('(κ₀ κ₁ κ₂ κ₃ κ₄ κ₅ κ₆ κ₇ κ₈ : Lft) (q₀ q₁ q₂ q₃ q₄ q₅ q₆ q₇ q₈ : Share) '
-          '(asks bays amounts tickets bids : Nums) (width : ℕ) (width-fits : width < 2 ^ 64) (round : ℕ) (round-fits : round < 2 ^ 32) (guests : Nums)')
+          '(asks bays amounts tickets bids : Nums) (width : ℕ) (width-fits : width < 2 ^ 64) '
+          '(round : ℕ) (round-fits : round < 2 ^ 32) (guests : Nums)')
 
 
 # the arguments of the walk of such a function, with the row of stations as it is taken (`row`, of where it stands)

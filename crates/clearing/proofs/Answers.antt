@@ -132,28 +132,31 @@ refused-clears t r x e =
 
 -- the row width is the number of stations
 width-of :
-    (asks bays amounts bids : List ℕ) (width : ℕ) → WithinLimits (tables asks bays amounts bids width)
-    → tables asks bays amounts bids width ≡ regular asks bays amounts bids
-width-of asks bays amounts bids width w = ap (tables asks bays amounts bids) (w .shape .width-is)
+    (asks bays amounts tickets bids : List ℕ) (width : ℕ)
+    → WithinLimits (tables asks bays amounts tickets bids width)
+    → tables asks bays amounts tickets bids width ≡ regular asks bays amounts tickets bids
+width-of asks bays amounts tickets bids width w = ap (tables asks bays amounts tickets bids) (w .shape .width-is)
 
-pub clear-accepts : (asks bays amounts bids : List ℕ) (width : ℕ) (r : Results)
-    → Judged (tables asks bays amounts bids width) r verdicts.Accepted → Accepts (regular asks bays amounts bids) r
-clear-accepts asks bays amounts bids width r e =
+pub clear-accepts : (asks bays amounts tickets bids : List ℕ) (width : ℕ) (r : Results)
+    → Judged (tables asks bays amounts tickets bids width) r verdicts.Accepted
+    → Accepts (regular asks bays amounts tickets bids) r
+clear-accepts asks bays amounts tickets bids width r e =
     let a = accepts _ r (is-accepted _ _ e) in
-    subst (λ t. Accepts t r) (width-of asks bays amounts bids width (a .within)) a
+    subst (λ t. Accepts t r) (width-of asks bays amounts tickets bids width (a .within)) a
 
 -- what the answer carries
 abbrev figures : Outcome → Answer (ℕ × ℕ)
 figures o = accepted (o .cut, o .margin)
 
 pub clear-accepted-clears :
-    (asks bays amounts bids : List ℕ) (width : ℕ) (r : Results) {answer : Clearing} {exit : Results}
-    → let t = tables asks bays amounts bids width in
-    Judged t r verdicts.Accepted → ClearsAccepted (regular asks bays amounts bids) answer exit → Clears t r answer exit
-clear-accepted-clears asks bays amounts bids width r e s =
-    let t = tables asks bays amounts bids width in
+    (asks bays amounts tickets bids : List ℕ) (width : ℕ) (r : Results) {answer : Clearing} {exit : Results}
+    → let t = tables asks bays amounts tickets bids width in
+    Judged t r verdicts.Accepted → ClearsAccepted (regular asks bays amounts tickets bids) answer exit
+    → Clears t r answer exit
+clear-accepted-clears asks bays amounts tickets bids width r e s =
+    let t = tables asks bays amounts tickets bids width in
     let v = is-accepted t r e in
-    let o = ap outcome (sym (width-of asks bays amounts bids width (accepts t r v .within))) in
+    let o = ap outcome (sym (width-of asks bays amounts tickets bids width (accepts t r v .within))) in
     record {
       answered = s .answered ∙ ap figures o ∙ sym (giving-accepted _ v);
       left = s .left ∙ ap (λ o. o .results) o ∙ sym (updated-accepted _ _ v);

@@ -43,7 +43,17 @@ fn clear_with_room(
 {
     let cut = cut::cut(asks);
     charges::least_charges(amounts, cut, least);
-    assignment::assign_all(asks, bays, amounts, tickets, bids, cut, least, stations, charges);
+    assignment::assign_all(
+        asks,
+        bays,
+        amounts,
+        tickets,
+        bids,
+        cut,
+        least,
+        stations,
+        charges,
+    );
     sales::sell(stations, amounts, cut, sold, paid);
     let margin = margin::margin(charges, least);
     Clearing::Cleared { cut, margin }

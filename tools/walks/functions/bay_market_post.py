@@ -7,7 +7,7 @@ from market import BOOK, GUESTS, HOUSE, LAST, LIFETIMES, POSTED, posted, ROUND, 
 
 POST = Callee('ledger', 'post', 'post', 'Post', own=False)
 NUMBER = Callee('bay_market', 'post.reply_number', 'number', 'Number')
-STATIONS = Lent('stations', 'T.the-row', 5)
+STATIONS = Lent('stations', 'T.the-row', 6)
 LENT = [GUESTS, STATIONS, HOUSE, LAST]
 FUNCTION = Function('bay_market', 'post.bay_market_post', 9, [*SLICES, WIDTH, ROUND, *LENT], [POST, NUMBER],
                     naming=each, uses='''\
@@ -58,7 +58,7 @@ def exits():
 
 
 def walk():
-    w = Walk('entry').allocate(18).passes(*(p.typed(each) for p in FUNCTION.parameters))
+    w = Walk('entry').allocate(19).passes(*(p.typed(each) for p in FUNCTION.parameters))
     reply = w.note('`post`').take()
     lent = [w.lend_slice(FUNCTION.local(p.name), f'g-{p.name} .0') for p in (GUESTS, STATIONS)]
     lent += [w.lend_ref(FUNCTION.local(p.name)) for p in (HOUSE, LAST)]

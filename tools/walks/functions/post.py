@@ -10,7 +10,7 @@ PLAN = Callee('ledger', 'planning.plan', 'plan', 'Plan')
 EXCEED = Callee('ledger', 'stations.stations_exceed', 'exceed', 'Exceed')
 SETTLE = Callee('ledger', 'settling.settle', 'settle', 'Settle')
 ADD = Callee('ledger', 'stations.add_sales', 'add', 'Add')
-ROW = Lent('(x γ)', 'T.the-row', 5, value='s')
+ROW = Lent('(x γ)', 'T.the-row', 6, value='s')
 ROW.label = 'stations'
 FUNCTION = Function('ledger', 'post', 9, [*SLICES, WIDTH, ROUND, GUESTS, ROW, HOUSE, LAST], [PLAN, EXCEED, SETTLE, ADD],
                     naming=each, uses='''\
@@ -40,7 +40,7 @@ FULL = ('Boolean', '(bool-makes 𝓤 H A W)', '(exceedingTo d n ys)', '(vbool (e
 SETTLED = ['plain', 'plain', 'plain', 'plain', 'slice', 'ref', 'ref']
 LISTS = ' '.join(f'(ls{projection(i)})' for i, kind in enumerate(SETTLED) if kind != 'plain')
 # the lifetimes whose tokens `plan` and `settle` are given
-OF_PLAN, OF_SETTLE = range(4), (4, 6, 7)
+OF_PLAN, OF_SETTLE = range(len(SLICES)), (5, 7, 8)
 KEPT = [p.name for p in SLICES]
 
 
@@ -80,13 +80,13 @@ def goes_add():
 
 def exits():
     w = Walk('of plan', 'Market', 'of add', 'stations', 'of settle', 'guests', 'house', 'last')
-    w.step('says ! (posts (posting (tables (now asks) (now bays) (now amounts) (now tickets) (now bids) width) round) entry d '
-           '(exceedingTo d n ys) e₀ refl c guests′ stations′ house′ last′ e₂ e₃)')
+    w.step('says ! (posts (posting (tables (now asks) (now bays) (now amounts) (now tickets) (now bids) width) round) '
+           'entry d (exceedingTo d n ys) e₀ refl c guests′ stations′ house′ last′ e₂ e₃)')
     token = [f'token {l}' for l in range(9)]
-    w.chain('of plan', *token[:4], 'true 4', how='split')
-    w.split('of settle', token[4], 'tokens 6').split('of add', token[5], 'true 5')
-    w.join(token[5], 'tokens 6', 'tokens')
-    for l in (4, 3, 2, 1, 0):
+    w.chain('of plan', *token[:5], 'true of plan', how='split')
+    w.split('of settle', token[5], 'the last').split('of add', token[6], 'true of add')
+    w.join(token[6], 'the last', 'tokens')
+    for l in (5, 4, 3, 2, 1, 0):
         w.join(token[l], 'tokens', 'tokens')
     w.frame().nothing('owns')
     for p, name in ((LAST, 'last'), (HOUSE, 'house'), (ROW, 'stations'), (GUESTS, 'guests')):
@@ -96,14 +96,14 @@ def exits():
     w.chain('Market', *KEPT)
     for p in reversed(SLICES):
         w.add(p.name)
-    w.frame().drop('true 5', 'true 4')
+    w.frame().drop('true of add', 'true of plan')
     w.owned('reply', 'S.the-row', '(EL.makes S.the-type S′.the-plain 𝓤 H A)', '(c .reply)', '(valS (c .reply) ∷ [])',
             '(LL.owed Q.the-type Q′.the-laws c _ is .0)')
     return w.end('done !')
 
 
 def walk():
-    w = Walk('tokens', 'owns').allocate(24)
+    w = Walk('tokens', 'owns').allocate(25)
     w.passes(*(p.typed(each, 'gg') if p is GUESTS else p.typed(each, 'gn') if p is ROW else p.typed(each)
                for p in FUNCTION.parameters))
     made, full, ruling = w.take(), w.take(), w.take()
@@ -111,13 +111,13 @@ def walk():
     w.chain('owns', *(p.name for p in FUNCTION.parameters), 'true').drop('true', 'width', 'round')
     w.unchain('Market', *KEPT)
     token = [f'token {l}' for l in range(9)]
-    w.chain('tokens', *token[:6], 'tokens 6', how='split').join(token[4], 'tokens 6', 'of settle')
+    w.chain('tokens', *token[:7], 'the last', how='split').join(token[5], 'the last', 'of settle')
     w.nothing('of plan')
     for l in reversed(OF_PLAN):
         w.join(token[l], 'of plan', 'of plan')
     w.asked(['Market', 'of plan'], PLAN, 'to-plan', 'goes-plan', 'Market')
-    w.call(PLAN, 'to-plan', w.arguments(*FUNCTION.locals([*SLICES, WIDTH])), 'u₀', 'd', 'Round', 'tokens₄', 'R.the-row',
-           'κs₄', 'plan-args')
+    w.call(PLAN, 'to-plan', w.arguments(*FUNCTION.locals([*SLICES, WIDTH])), 'u₀', 'd', 'Round', 'tokens₅', 'R.the-row',
+           'κs₅', 'plan-args')
     w.hear('Plan₀ d', 'plan-said d', 'e₀').given('of plan', 'result')
     w.learn('facts', 'R.the-row', 'd', 'u₀', 'gd')
     w.land(made, 'LL.lawful R.the-type R′.the-laws 𝓤 H A W .typed d _ gd .0')
@@ -125,7 +125,7 @@ def walk():
     w.note('`stations_exceed`, on a `&` of the row')
     stations = FUNCTION.local('stations')
     row = w.lend_slice(stations, 'gn .0')
-    w.fsplit('(x γ)', 'place', 'row').drop('place').fsplit('row', 'obs', 'bor').move('obs', 'bor', token[5])
+    w.fsplit('(x γ)', 'place', 'row').drop('place').fsplit('row', 'obs', 'bor').move('obs', 'bor', token[6])
     w.step('opens-slice ! tt T.the-row ys b o', 3, ('row', 'open', 'obs', 'auth'))
     w.step('feqI ! ℕ (length ys) (length ys) refl', 0, ('length',)).fjoin('length', 'row', 'parts')
     w.step('lft-new ! tt', 0, ('token ν',), binds='ν').move('parts')
@@ -142,7 +142,7 @@ def walk():
     w.split('tokens ν', 'token ν', 'true').step('lft-end ! tt', 1, ('dead',)).move('dead', 'lent')
     w.step('lent-back ! tt', 2, ('parts',)).fsplit('parts', 'length', 'row').drop('length')
     w.move('row', 'open', 'obs', 'auth')
-    w.step('closes-slice ! tt T.the-row ys ys refl b o', 4, ('obs', 'bor', token[5])).show()
+    w.step('closes-slice ! tt T.the-row ys ys refl b o', 4, ('obs', 'bor', token[6])).show()
 
     w.note('`settle`')
     length = w.copied(w.field(stations, 1), 'tt, record { fits = gn .0 }')
@@ -163,12 +163,12 @@ def walk():
     unit, row = w.take(), w.lend_slice(stations, 'gn .0')
     w.fjoin('obs', 'bor', 'row')
     w.step('pureI ! (at-slice T.the-row (x γ) (s ∷ [])) (tt, (tt, tt)) (refl, gn)', 0, ('place',))
-    w.fjoin('place', 'row', 'row').join(token[5], 'true', 'of add')
+    w.fjoin('place', 'row', 'row').join(token[6], 'true', 'of add')
     w.asked(['of add', 'row'], ADD, '(to-add d u₀ c)',
             '(goes-add d u₀ gd c (LL.owed Q.the-type Q′.the-laws c _ is₂ .1 .0 .1))')
-    at = ('(κ₅, tt)', '(x γ, (d, (c .credits, tt)))')
+    at = ('(κ₆, tt)', '(x γ, (d, (c .credits, tt)))')
     w.call(ADD, '(to-add d u₀ c)', w.operands(w.load(row), w.load(made), w.field(ruling, 1)), 'u₃', 'r', 'Unit {0}',
-           '(‵ (flft κ₅ q₅) ⊛ ‵ ftrue)', 'Nothing', *at)
+           '(‵ (flft κ₆ q₆) ⊛ ‵ ftrue)', 'Nothing', *at)
     w.hear_lasts(ADD, *at, 'zs', 'zs .0 ≡ creditedTo d (min n (c .credits)) ys', 'e₃')
     w.take_lasts([('slice', 'stations', 'l-stations')]).given('of add', 'result')
     w.learn('facts', 'Nothing', 'r', 'u₃', 'is₃').land(unit, 'nothing-lawful 𝓤 H A W .typed r _ is₃ .0')
@@ -196,7 +196,8 @@ def proof():
                    at=laid([f'{p.value()} ∷ []' for p in f.parameters], 2, 'at = '),
                    Market=formulas([f'Own-{p.name}' for p in SLICES]), of_plan=tokens(OF_PLAN, each),
                    of_settle=tokens(OF_SETTLE, each), settled=laid(settled, 2, 'settle-vals d v = '),
-                   planned=[f'qed W (tokens₄ ∷ ‵ (owns ({rows([*SLICES, WIDTH], each)}) plan-args plan-vals) ∷ []) ∵ '
+                   plan_vals=laid([f'{p.value()} ∷ []' for p in [*SLICES, WIDTH]], 2, 'plan-vals = '),
+                   planned=[f'qed W (tokens₅ ∷ ‵ (owns ({rows([*SLICES, WIDTH], each)}) plan-args plan-vals) ∷ []) ∵ '
                             'join ! $ frame ! $ done !'],
                    ends=[f.ends('bound', '(valS (c .reply))', '(c .reply)')])
 
@@ -239,41 +240,41 @@ valS r = EL.val S.the-type S′.the-laws r
   Market = «Market»
 
   -- `plan`
-  abbrev κs₄ : Lfts 4
-  κs₄ = (κ₀, (κ₁, (κ₂, (κ₃, tt))))
+  abbrev κs₅ : Lfts 5
+  κs₅ = (κ₀, (κ₁, (κ₂, (κ₃, (κ₄, tt)))))
 
-  abbrev qs₄ : Shares 4
-  qs₄ = (q₀, (q₁, (q₂, (q₃, tt))))
+  abbrev qs₅ : Shares 5
+  qs₅ = (q₀, (q₁, (q₂, (q₃, (q₄, tt)))))
 
-  abbrev tokens₄ : Item 𝓤
-  tokens₄ = («of_plan»)
+  abbrev tokens₅ : Item 𝓤
+  tokens₅ = («of_plan»)
 
   abbrev PArg : Type 0
-  PArg = Nums × (Nums × (Nums × (Nums × (ℕ × Unit {0}))))
+  PArg = Nums × (Nums × (Nums × (Nums × (Nums × (ℕ × Unit {0})))))
 
   abbrev plan-args : PArg
   plan-args = (asks, (bays, (amounts, (tickets, (bids, (width, tt))))))
 
-  abbrev plan-vals : Vals plan.signature κs₄
-  plan-vals = (val asks ∷ [], (val bays ∷ [], (val amounts ∷ [], (val tickets ∷ [], (val bids ∷ [], (vint w64 width ∷ [], tt))))))
+  abbrev plan-vals : Vals plan.signature κs₅
+«plan_vals»
 
   abbrev to-plan : Plan 𝓤 H A mem run .Ghost
-  to-plan = ((κs₄, qs₄, tt, plan-args, plan-vals), tt)
+  to-plan = ((κs₅, qs₅, tt, plan-args, plan-vals), tt)
 
-  plan-asked : ent 𝓤 (onEntry 𝓤 H A plan.signature κs₄ qs₄ plan-args plan-vals) (Plan 𝓤 H A mem run .pre to-plan)
+  plan-asked : ent 𝓤 (onEntry 𝓤 H A plan.signature κs₅ qs₅ plan-args plan-vals) (Plan 𝓤 H A mem run .pre to-plan)
   plan-asked =
 «planned»
 
   -- the market's slices are had twice: one goes to `plan`, and the other is kept
   goes-plan :
-      ent 𝓤 (⋆ 𝓤 H A (‵ Market ∷ tokens₄ ∷ [])) (sep 𝓤 (Plan 𝓤 H A mem run .pre to-plan) (sem 𝓤 H A Market))
+      ent 𝓤 (⋆ 𝓤 H A (‵ Market ∷ tokens₅ ∷ [])) (sep 𝓤 (Plan 𝓤 H A mem run .pre to-plan) (sem 𝓤 H A Market))
   goes-plan =
-      qed W (‵ Market ∷ tokens₄ ∷ []) ∵
+      qed W (‵ Market ∷ tokens₅ ∷ []) ∵
 «goes_plan»
 
   plan-said :
-      (d : Round) → ent 𝓤 (ensured 𝓤 H A plan.ended (plan.clauses 𝓤 H A mem run) κs₄ plan-args tt d) (fact 𝓤 (Plan₀ d))
-  plan-said d = exE 𝓤 _ (λ ws. snd∗ 𝓤 (sem 𝓤 H A (lasts plan.ended κs₄ plan-args ws)) (fact 𝓤 (Plan₀ d)))
+      (d : Round) → ent 𝓤 (ensured 𝓤 H A plan.ended (plan.clauses 𝓤 H A mem run) κs₅ plan-args tt d) (fact 𝓤 (Plan₀ d))
+  plan-said d = exE 𝓤 _ (λ ws. snd∗ 𝓤 (sem 𝓤 H A (lasts plan.ended κs₅ plan-args ws)) (fact 𝓤 (Plan₀ d)))
 
   -- `stations_exceed`, on the row lent as a `&` for ν under the name δ
   abbrev OwnS : ℕ → GName → Fml
@@ -302,10 +303,10 @@ valS r = EL.val S.the-type S′.the-laws r
 
   -- `settle`, on the guests, the house and the last round at their own lifetimes
   abbrev κs₃ : Lfts 3
-  κs₃ = (κ₄, (κ₆, (κ₇, tt)))
+  κs₃ = (κ₅, (κ₇, (κ₈, tt)))
 
   abbrev qs₃ : Shares 3
-  qs₃ = (q₄, (q₆, (q₇, tt)))
+  qs₃ = (q₅, (q₇, (q₈, tt)))
 
   abbrev tokens₃ : Item 𝓤
   tokens₃ = («of_settle»)
@@ -334,8 +335,8 @@ valS r = EL.val S.the-type S′.the-laws r
   abbrev to-add : Round → Val → Ruling → Add 𝓤 H A mem run .Ghost
   to-add d v c = (
     (
-      (κ₅, tt),
-      (q₅, tt),
+      (κ₆, tt),
+      (q₆, tt),
       tt,
       (x γ, (d, (c .credits, tt))),
       (s ∷ [], (v ∷ [], (vint w64 (c .credits) ∷ [], tt))),
@@ -345,10 +346,10 @@ valS r = EL.val S.the-type S′.the-laws r
 
   goes-add :
       (d : Round) (v : Val) → Is R.the-row d (v ∷ []) → (c : Ruling) → c .credits < 2 ^ 64
-      → ent 𝓤 (sep 𝓤 (sep 𝓤 (A .lft κ₅ q₅) (sem 𝓤 H A ftrue)) (sem 𝓤 H A Own-stations))
+      → ent 𝓤 (sep 𝓤 (sep 𝓤 (A .lft κ₆ q₆) (sem 𝓤 H A ftrue)) (sem 𝓤 H A Own-stations))
       (Add 𝓤 H A mem run .pre (to-add d v c))
   goes-add d v gd c fits =
-      qed W ((‵ (flft κ₅ q₅) ⊛ ‵ ftrue) ∷ ‵ Own-stations ∷ []) ∵
+      qed W ((‵ (flft κ₆ q₆) ⊛ ‵ ftrue) ∷ ‵ Own-stations ∷ []) ∵
 «goes_add»
 
   -- what the calls leave
@@ -362,7 +363,7 @@ valS r = EL.val S.the-type S′.the-laws r
 
   abbrev Had : List ℕ → List StationAccount → ℕ → ℕ → List (Item 𝓤)
   Had guests′ stations′ house′ last′ =
-      tokens₄ ∷ ‵ Market ∷ (‵ (flft κ₅ q₅) ⊛ ‵ ftrue) ∷ ‵ (finally T.the-row γ stations′) ∷ tokens₃
+      tokens₅ ∷ ‵ Market ∷ (‵ (flft κ₆ q₆) ⊛ ‵ ftrue) ∷ ‵ (finally T.the-row γ stations′) ∷ tokens₃
       ∷ ‵ (finally u64 (guests .name) guests′) ∷ ‵ (fres (house .name) (u64 .coded .code house′))
       ∷ ‵ (fres (last .name) (u32 .coded .code last′)) ∷ []
 

@@ -8,7 +8,7 @@ clear-accepted-requires : tie.Need-clear-accepted-requires
 clear-accepted-requires c κs =
     let at-enum-told = c .before .before .before .before in
     let at-clearing-fault = at-enum-told .before .before in
-    let a = clear-accepts _ _ _ _ _ _
+    let a = clear-accepts _ _ _ _ _ _ _
     (told (at-enum-told .enum-told .given .1) (at-clearing-fault .clearing-fault .ensures)) in
     (a .within, a .fits)
 
@@ -23,7 +23,7 @@ returns-2 c =
     let at-call = at-clear-accepted .before in
     let at-enum-told = at-call .before .before .before .before in
     let at-clearing-fault = at-enum-told .before .before in
-    clear-accepted-clears _ _ _ _ _ _
+    clear-accepted-clears _ _ _ _ _ _ _
     (told (at-enum-told .enum-told .given .1) (at-clearing-fault .clearing-fault .ensures))
     (at-clear-accepted .clear-accepted .ensures)
 

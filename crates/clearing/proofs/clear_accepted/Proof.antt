@@ -7,7 +7,7 @@ use Rattle.clearing.proofs.clear_accepted.Statement.{statement}
 use Rattle.clearing.proofs.clear_accepted.Tie as tie
 
 abbrev entry-before-least : tie.After-slice-known4 → tie.Start
-entry-before-least p = p .before .before .before .before .before .before .before .before
+entry-before-least p = p .before .before .before .before .before .before .before .before .before
 
 array-borrow-prefix-least : tie.Need-array-borrow-prefix-least
 array-borrow-prefix-least c =

@@ -9,7 +9,7 @@ use Rattle.clearing.proofs.clear_with_room.Statement.{statement}
 use Rattle.clearing.proofs.clear_with_room.Tie as tie
 
 abbrev entry-before-cut : tie.After-cut → tie.Start
-entry-before-cut p = p .before .before .before .before .before .before .before .before .before .before
+entry-before-cut p = p .before .before .before .before .before .before .before .before .before .before .before
 
 abbrev least-before-assign : tie.After-assign-all-arg3 → tie.After-least-charges
 least-before-assign p = p .before .before .before .before .before
@@ -23,7 +23,7 @@ sell-before-margin p = p .before .before .before .before .before .before
 least-charges-requires : tie.Need-least-charges-requires
 least-charges-requires c κs =
     let entry = entry-before-cut (c .before) in (
-      (entry .pre .1 .1, cut-low (regular _ _ _ _) _ (entry .pre .0) (c .before .cut .ensures)),
+      (entry .pre .1 .1, cut-low (regular _ _ _ _ _) _ (entry .pre .0) (c .before .cut .ensures)),
       entry .pre .0 .amount-most,
     )
 
@@ -32,7 +32,7 @@ assign-all-requires c κs =
     let at-least = least-before-assign c in
     let after-cut = at-least .before .before in
     let entry = entry-before-cut after-cut in (
-      at-cut (regular _ _ _ _) (entry .pre .0) (after-cut .cut .ensures) (at-least .least-charges .ensures),
+      at-cut (regular _ _ _ _ _) (entry .pre .0) (after-cut .cut .ensures) (at-least .least-charges .ensures),
       (entry .pre .1 .0 .stations-long, entry .pre .1 .0 .charges-long),
     )
 
@@ -42,11 +42,11 @@ sell-requires c κs =
     let at-least = least-before-assign (at-assign .before) in
     let entry = entry-before-cut (at-least .before .before) in
     let done = at-assign .assign-all .ensures in (
-      (stations-count (regular _ _ _ _) done, entry .pre .0 .shape .guests-most),
+      (stations-count (regular _ _ _ _ _) done, entry .pre .0 .shape .guests-most),
       (
         entry .pre .0 .amount-most,
         (
-          stations-low (regular _ _ _ _) done (entry .pre .0),
+          stations-low (regular _ _ _ _ _) done (entry .pre .0),
           (
             omega (arith, entry .pre .1 .0 .sold-long, entry .pre .0 .shape .stations-most),
             entry .pre .1 .0 .paid-long ∙ sym (entry .pre .1 .0 .sold-long),
@@ -61,7 +61,7 @@ margin-requires c κs =
     let at-assign = assign-before-sell (at-sell .before) in
     let at-least = least-before-assign (at-assign .before) in
     let entry = entry-before-cut (at-least .before .before) in
-    let many = charges-count (regular _ _ _ _) (at-assign .assign-all .ensures) in (
+    let many = charges-count (regular _ _ _ _ _) (at-assign .assign-all .ensures) in (
       long _ _ (at-least .least-charges .ensures) ∙ sym many,
       omega (arith, many, entry .pre .0 .shape .guests-most),
     )
@@ -73,9 +73,9 @@ returns c =
     let at-least = least-before-assign (at-assign .before) in
     let after-cut = at-least .before .before in
     let entry = entry-before-cut after-cut in
-    let A = at-cut (regular _ _ _ _) (entry .pre .0) (after-cut .cut .ensures) (at-least .least-charges .ensures)
+    let A = at-cut (regular _ _ _ _ _) (entry .pre .0) (after-cut .cut .ensures) (at-least .least-charges .ensures)
     in (
-      clears-accepted (regular _ _ _ _) (at-assign .assign-all .ensures) A
+      clears-accepted (regular _ _ _ _ _) (at-assign .assign-all .ensures) A
           _ _ refl (entry .pre .1 .0 .sold-long) (at-sell .sell .ensures) (c .margin .ensures),
       least-at-cut _ A,
     )
