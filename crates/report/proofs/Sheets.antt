@@ -38,12 +38,13 @@ pub part-fits : (xs ys : List ℕ) (n : ℕ) → take n xs ≡ ys → length ys 
 part-fits xs ys n e h = omega (arith, length-take n xs, read-part-long xs ys n e h)
 
 pub same-tables :
-    {s a b c d : List ℕ} {n m : ℕ} → ReadTables s n m (lentTables a b c d)
-    → tables (take m b) (take m c) (take n a) (take (n * m) d) (length (take m b)) ≡ tablesOf s
+    {s a k b c d : List ℕ} {n m : ℕ} → ReadTables s n m (lentTables a k b c d)
+    → tables (take m b) (take m c) (take n a) (take n k) (take (n * m) d) (length (take m b)) ≡ tablesOf s
 same-tables r = λ i. record {
   asks = r .asks-are i;
   bays = r .bays-are i;
   amounts = r .amounts-are i;
+  tickets = r .tickets-are i;
   bids = r .bids-are i;
   width = (ap length (r .asks-are) ∙ sym (r .shape .width-is)) i;
 }

@@ -19,16 +19,25 @@ pub fn print_page(asked: Page, sheet: &[u8], out: &mut [u8]) -> usize
         (now (out .entry)) r (now (out .exit)) ⌝ }
 {
     let mut amounts = [0u16; MAX_GUESTS];
+    let mut tickets = [0u32; MAX_GUESTS];
     let mut asks = [0u32; MAX_STATIONS];
     let mut bays = [0u16; MAX_STATIONS];
     let mut bids = [0u32; MAX_BIDS];
-    match sheet::read(sheet, &mut amounts, &mut asks, &mut bays, &mut bids) {
+    match sheet::read(
+        sheet,
+        &mut amounts,
+        &mut tickets,
+        &mut asks,
+        &mut bays,
+        &mut bids,
+    ) {
         Reading::Refused(refusal) => page::refusal_text(refusal, out),
         Reading::Read { guests, stations } => printing::print_market(
             asked,
             &asks[..stations],
             &bays[..stations],
             &amounts[..guests],
+            &tickets[..guests],
             &bids[..guests * stations],
             out,
         ),

@@ -18,6 +18,7 @@ fn print_cleared(
     asks: &[u32],
     bays: &[u16],
     amounts: &[u16],
+    tickets: &[u32],
     bids: &[u32],
     stations: &mut [u16],
     charges: &mut [u32],
@@ -28,12 +29,14 @@ fn print_cleared(
     requires { ⌜ (length (now amounts) ≤ maxGuests) × (length (now asks) ≤ maxStations) ⌝ }
     requires { ⌜ (length (now stations) ≡ length (now amounts)) × (length (now charges) ≡ length (now amounts))
         × (length (now sold) ≡ length (now asks)) × (length (now paid) ≡ length (now asks)) ⌝ }
-    ensures { λ r. ⌜ Prints (marketTextOf (regularIn asks bays amounts bids)) (now (out .entry)) r (now (out .exit)) ⌝ }
+    ensures { λ r. ⌜ Prints (marketTextOf (regularIn asks bays amounts tickets bids)) (now (out .entry)) r
+        (now (out .exit)) ⌝ }
 {
     let answer = clearing::clear(
         asks,
         bays,
         amounts,
+        tickets,
         bids,
         asks.len(),
         stations,
@@ -59,11 +62,13 @@ fn print_clearing(
     asks: &[u32],
     bays: &[u16],
     amounts: &[u16],
+    tickets: &[u32],
     bids: &[u32],
     out: &mut [u8],
 ) -> usize
     requires { ⌜ (length (now amounts) ≤ maxGuests) × (length (now asks) ≤ maxStations) ⌝ }
-    ensures { λ r. ⌜ Prints (marketTextOf (regularIn asks bays amounts bids)) (now (out .entry)) r (now (out .exit)) ⌝ }
+    ensures { λ r. ⌜ Prints (marketTextOf (regularIn asks bays amounts tickets bids)) (now (out .entry)) r
+        (now (out .exit)) ⌝ }
 {
     let n = amounts.len();
     let m = asks.len();
@@ -75,6 +80,7 @@ fn print_clearing(
         asks,
         bays,
         amounts,
+        tickets,
         bids,
         &mut stations[..n],
         &mut charges[..n],
@@ -84,11 +90,18 @@ fn print_clearing(
     )
 }
 
-fn print_sheet(asks: &[u32], bays: &[u16], amounts: &[u16], bids: &[u32], out: &mut [u8]) -> usize
-    ensures { λ r. ⌜ Prints (sheetPageOf (length (now (out .entry))) (regularIn asks bays amounts bids))
+fn print_sheet(
+    asks: &[u32],
+    bays: &[u16],
+    amounts: &[u16],
+    tickets: &[u32],
+    bids: &[u32],
+    out: &mut [u8],
+) -> usize
+    ensures { λ r. ⌜ Prints (sheetPageOf (length (now (out .entry))) (regularIn asks bays amounts tickets bids))
         (now (out .entry)) r (now (out .exit)) ⌝ }
 {
-    match sheet::write(asks, bays, amounts, bids, asks.len(), out) {
+    match sheet::write(asks, bays, amounts, tickets, bids, asks.len(), out) {
         Writing::Refused(refusal) => page::refusal_text(refusal, out),
         Writing::Written { length } => length,
     }
@@ -100,15 +113,16 @@ pub fn print_market(
     asks: &[u32],
     bays: &[u16],
     amounts: &[u16],
+    tickets: &[u32],
     bids: &[u32],
     out: &mut [u8],
 ) -> usize
     requires { ⌜ (length (now amounts) ≤ maxGuests) × (length (now asks) ≤ maxStations) ⌝ }
-    ensures { λ r. ⌜ Prints (pageOf asked (length (now (out .entry))) (regularIn asks bays amounts bids))
+    ensures { λ r. ⌜ Prints (pageOf asked (length (now (out .entry))) (regularIn asks bays amounts tickets bids))
         (now (out .entry)) r (now (out .exit)) ⌝ }
 {
     match asked {
-        Page::Clearing => print_clearing(asks, bays, amounts, bids, out),
-        Page::Sheet => print_sheet(asks, bays, amounts, bids, out),
+        Page::Clearing => print_clearing(asks, bays, amounts, tickets, bids, out),
+        Page::Sheet => print_sheet(asks, bays, amounts, tickets, bids, out),
     }
 }

@@ -63,9 +63,9 @@ filled size n f h = is-list size _ _ long at
         ∙ sym (only-no _ _ (not-lt k n c)))
         (lt-or-le k n)
 
-module _ (asks bays amounts bids : List ℕ) (width : ℕ) where
+module _ (asks bays amounts tickets bids : List ℕ) (width : ℕ) where
   abbrev t : Tables
-  t = tables asks bays amounts bids width
+  t = tables asks bays amounts tickets bids width
 
   -- a refused round
   refused-plan : (x : Refusal) (r : Round) → r ≡ refusing x → verdict t ≡ refused (number x) → Planned t r

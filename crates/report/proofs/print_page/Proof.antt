@@ -2,26 +2,30 @@ use mathlib.Core.Path.{refl}
 use native.Mathlib.Omega.{arith}
 use borrow.Author.Needs.{needs}
 use Rattle.model.specs.contracts.Reads.{lentTables}
-use Rattle.model.proofs.contracts.Reads.{ReadTables, read-tables, read-fault, bays-long, bids-long, room}
+use Rattle.model.proofs.contracts.Reads.{ReadTables, read-tables, read-fault, tickets-long, bays-long, bids-long}
+use Rattle.model.proofs.contracts.Reads.{room}
 use Rattle.report.proofs.Sheets.{read-part-long, part-fits, same-tables, prints-fault, prints-sheet}
 use Rattle.report.proofs.print_page.Statement.{statement}
 use Rattle.report.proofs.print_page.Tie as tie
 
 abbrev entry-before-read : tie.After-read → tie.Start
-entry-before-read p = p .before .before .before .before .before .before .before
+entry-before-read p = p .before .before .before .before .before .before .before .before
 
 abbrev read-before-match : tie.After-bids2 → tie.After-read
-read-before-match p = p .before .before .before .before
+read-before-match p = p .before .before .before .before .before
+
+abbrev guests-before-tickets : tie.After-tickets3 → tie.After-guests
+guests-before-tickets p = p .before .before .before .before .before
 
 abbrev guests-before-bids : tie.After-bids3 → tie.After-guests
-guests-before-bids p = p .before .before .before .before .before
+guests-before-bids p = guests-before-tickets (p .before)
 
 -- where the sheet was read as a market, the tables hold it
 held : (p : tie.After-guests) →
     let at-read = read-before-match (p .before .before) in
     let exit = at-read .read .last .1 in
     ReadTables (entry-before-read at-read .args .sheet .now) (p .guests .given .0 .0) (p .guests .given .0 .1 .0)
-    (lentTables (exit .0) (exit .1 .0) (exit .1 .1 .0) (exit .1 .1 .1 .0))
+    (lentTables (exit .0) (exit .1 .0) (exit .1 .1 .0) (exit .1 .1 .1 .0) (exit .1 .1 .1 .1 .0))
 held p = read-tables _ _ _ _ (read-before-match (p .before .before) .read .ensures) _ _ (p .guests .given .1)
 
 array-share-prefix-asks : tie.Need-array-share-prefix-asks
@@ -54,16 +58,26 @@ slice-aggregate-print-market-3 c =
     let t = held (c .before .before .before .before) in
     read-part-long _ _ _ (t .amounts-are) (t .n-is)
 
-mul-bids : tie.Need-mul-bids
-mul-bids c = omega (arith, room (held (c .before .before .before .before)))
-
-array-share-prefix-bids : tie.Need-array-share-prefix-bids
-array-share-prefix-bids c =
+array-share-prefix-tickets : tie.Need-array-share-prefix-tickets
+array-share-prefix-tickets c =
     let t = held (c .before .before .before .before) in
-    part-fits _ _ _ (t .bids-are) (bids-long t)
+    part-fits _ _ _ (t .tickets-are) (tickets-long t)
 
 slice-aggregate-print-market-4 : tie.Need-slice-aggregate-print-market-4
 slice-aggregate-print-market-4 c =
+    let t = held (guests-before-tickets c) in
+    read-part-long _ _ _ (t .tickets-are) (tickets-long t)
+
+mul-bids : tie.Need-mul-bids
+mul-bids c = omega (arith, room (held (guests-before-tickets c)))
+
+array-share-prefix-bids : tie.Need-array-share-prefix-bids
+array-share-prefix-bids c =
+    let t = held (guests-before-tickets c) in
+    part-fits _ _ _ (t .bids-are) (bids-long t)
+
+slice-aggregate-print-market-5 : tie.Need-slice-aggregate-print-market-5
+slice-aggregate-print-market-5 c =
     let t = held (guests-before-bids c) in
     read-part-long _ _ _ (t .bids-are) (bids-long t)
 
@@ -80,7 +94,7 @@ returns c =
     let at-refusal = at-refusal-text .before .before .before in
     let at-read = read-before-match (at-refusal .before .before) in
     prints-fault _ _ _
-    (read-fault _ _ _ _ (at-read .read .ensures) _ refl refl refl refl (at-refusal .refusal .given .1))
+    (read-fault _ _ _ _ (at-read .read .ensures) _ refl refl refl refl refl (at-refusal .refusal .given .1))
     (at-refusal-text .refusal-text .ensures)
 
 returns-2 : tie.Need-returns-2
@@ -93,17 +107,19 @@ pub print-page-spec : {M : Type 1} → statement M
 print-page-spec =
     tie.close
     (tie.spec
-    (λ c. search needs) (λ c. search needs) (λ c. search needs) (λ c. search needs) (λ c κs. search needs)
-    (λ c. search needs) (λ c κs. search needs) (λ c. search needs)
+    (λ c. search needs) (λ c. search needs) (λ c. search needs) (λ c. search needs) (λ c. search needs)
+    (λ c κs. search needs) (λ c. search needs) (λ c κs. search needs) (λ c. search needs)
     array-share-prefix-asks
     slice-aggregate-print-market
     array-share-prefix-bays
     slice-aggregate-print-market-2
     array-share-prefix-amounts
     slice-aggregate-print-market-3
+    array-share-prefix-tickets
+    slice-aggregate-print-market-4
     mul-bids
     array-share-prefix-bids
-    slice-aggregate-print-market-4
+    slice-aggregate-print-market-5
     print-market-requires
     (λ c. search needs)
     returns

@@ -5,8 +5,8 @@ use Rattle.model.proofs.contracts.ReadsOut.{reads-refused, reads-market}
 use Rattle.bay_market.proofs.read.bay_market_read.Statement.{statement}
 use Rattle.bay_market.proofs.read.bay_market_read.Tie as tie
 
-abbrev read-before-match : tie.After-slice-known8 → tie.After-read
-read-before-match p = p .before .before .before .before .before .before .before .before
+abbrev read-before-match : tie.After-slice-known10 → tie.After-read
+read-before-match p = p .before .before .before .before .before .before .before .before .before .before
 
 cast-n : tie.Need-cast-n
 cast-n c =
@@ -38,7 +38,7 @@ bay-market-read-spec =
     (λ c κs. search needs) (λ c. search needs) (λ c κs. search needs) (λ c. search needs)
     cast-n
     cast-m
-    (λ c. search needs) (λ c. search needs) (λ c. search needs) (λ c. search needs)
+    (λ c. search needs) (λ c. search needs) (λ c. search needs) (λ c. search needs) (λ c. search needs)
     returns
-    (λ c. search needs) (λ c. search needs) (λ c. search needs) (λ c. search needs)
+    (λ c. search needs) (λ c. search needs) (λ c. search needs) (λ c. search needs) (λ c. search needs)
     returns-2)

@@ -13,7 +13,7 @@ use Rattle.ledger.proofs.planning.plan.Statement.{statement}
 use Rattle.ledger.proofs.planning.plan.Tie as tie
 
 abbrev entry-before-counts : tie.After-counts-out-of-range → tie.Start
-entry-before-counts p = p .before .before .before .before .before
+entry-before-counts p = p .before .before .before .before .before .before
 
 abbrev counted-before-clear : tie.After-clear → tie.Else1
 counted-before-clear p = p .before .before .before .before .before
@@ -27,7 +27,7 @@ within c =
 
 returns : tie.Need-returns
 returns c =
-    miscounted _ _ _ _ _ _ _ (c .before .before .counts-out-of-range .ensures) (c .before .if1 .taken)
+    miscounted _ _ _ _ _ _ _ _ (c .before .before .counts-out-of-range .ensures) (c .before .if1 .taken)
     (c .refusing .ensures)
 
 array-borrow-prefix-seats : tie.Need-array-borrow-prefix-seats
@@ -59,7 +59,7 @@ returns-2 c =
     let at-match = c .before .before .before .before in
     let at-clear = at-match .before .before .before .before in
     let w = within (counted-before-clear at-clear) in
-    clear-refuses _ _ _ _ _ _ _ _ (at-clear .clear .ensures) (lengths _ (w .0) (w .1)) _ _
+    clear-refuses _ _ _ _ _ _ _ _ _ (at-clear .clear .ensures) (lengths _ (w .0) (w .1)) _ _
     (c .before .before .answer .given .1) (c .refusing2 .ensures)
 
 returns-3 : tie.Need-returns-3
@@ -68,7 +68,7 @@ returns-3 c =
     let at-match = c .before .before .before in
     let at-clear = at-match .before .before .before .before in
     let w = within (counted-before-clear at-clear) in
-    clear-posts _ _ _ _ _ _ _ _ (at-clear .clear .ensures) (lengths _ (w .0) (w .1)) _ _ _ (w .0) (w .1)
+    clear-posts _ _ _ _ _ _ _ _ _ (at-clear .clear .ensures) (lengths _ (w .0) (w .1)) _ _ _ (w .0) (w .1)
     (c .before .answer2 .given .1) refl
 
 pub plan-spec : {M : Type 1} → statement M

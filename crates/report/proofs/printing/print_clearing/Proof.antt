@@ -6,7 +6,7 @@ use Rattle.report.proofs.printing.print_clearing.Statement.{statement}
 use Rattle.report.proofs.printing.print_clearing.Tie as tie
 
 abbrev entry-before-stations : tie.After-stations → tie.Start
-entry-before-stations p = p .before .before .before .before .before .before
+entry-before-stations p = p .before .before .before .before .before .before .before
 
 slice-aggregate-print-cleared : tie.Need-slice-aggregate-print-cleared
 slice-aggregate-print-cleared c =
