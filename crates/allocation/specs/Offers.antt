@@ -49,4 +49,6 @@ pub record Offerable (totals tickets least : List ℕ) (t e : ℕ) (chosen gains
 -- the lists after one station's offers: critical total t, bound e, station number s
 pub record Offered (totals tickets least : List ℕ) (t e s : ℕ) (chosen₀ gains₀ chosen gains : List ℕ) : Type 0 where
   pub chosen-are : chosen ≡ list (length totals) (taken gains₀ (gainAt totals tickets least t e) (λ _. s) chosen₀)
-  pub gains-are : gains ≡ list (length totals) (taken gains₀ (gainAt totals tickets least t e) (gainAt totals tickets least t e) gains₀)
+  pub gains-are :
+      gains
+      ≡ list (length totals) (taken gains₀ (gainAt totals tickets least t e) (gainAt totals tickets least t e) gains₀)

@@ -1,6 +1,6 @@
 -- Who wins a tie at the critical total.
 use Prim.Native.Nat.{ℕ, _+_, _<_, _≤_}
-use mathlib.Core.Bool.{Bool, true}
+use mathlib.Core.Bool.{Bool}
 use mathlib.Core.List.{List}
 use mathlib.Core.Path.{_≡_}
 use lib.ListN.{getD, length}
@@ -29,7 +29,8 @@ pub record Tied (l tickets : List ℕ) (t places : ℕ) : Type 0 where
   pub low : t ≤ maxTotal
   pub crowded : places < ties l t (length l)
 
--- what is asked of a station's totals l, the guests' tickets, its critical total t, the a totals above it and its b bays
+-- what is asked of a station's totals l, the guests' tickets, its critical total t, the a totals
+-- above it and its b bays
 pub record Tying (l tickets : List ℕ) (rising : Bool) (t a b : ℕ) : Type 0 where
   pub few : length l ≤ maxGuests
   pub as-long : length tickets ≡ length l

@@ -72,7 +72,8 @@ fn clear_accepted(
 ) -> Clearing
     requires { ⌜ WithinLimits (regularOf asks bays amounts tickets bids) ⌝ }
     requires { ⌜ RightLengths (regularOf asks bays amounts tickets bids) (resultsOf stations charges sold paid) ⌝ }
-    ensures { λ r. ⌜ ClearsAccepted (regularIn asks bays amounts tickets bids) r (resultsOut stations charges sold paid) ⌝ }
+    ensures { λ r. ⌜ ClearsAccepted (regularIn asks bays amounts tickets bids) r
+        (resultsOut stations charges sold paid) ⌝ }
 {
     let mut least = [0u32; MAX_GUESTS];
     let n = amounts.len();

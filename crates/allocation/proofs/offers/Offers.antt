@@ -76,7 +76,8 @@ pub record Offering (totals tickets least : List ℕ) (t e s : ℕ) (chosen₀ g
   pub chosen-are :
       Filling (length totals) (taken gains₀ (gainAt totals tickets least t e) (λ _. s) chosen₀) chosen₀ chosen i
   pub gains-are :
-      Filling (length totals) (taken gains₀ (gainAt totals tickets least t e) (gainAt totals tickets least t e) gains₀) gains₀ gains i
+      Filling (length totals)
+      (taken gains₀ (gainAt totals tickets least t e) (gainAt totals tickets least t e) gains₀) gains₀ gains i
 
 pub offers-none :
     {totals tickets least : List ℕ} {t e s : ℕ} {chosen gains : List ℕ}
@@ -87,7 +88,8 @@ offers-none o = record { chosen-are = filling-none (o .chosen-long); gains-are =
 pub gain-left :
     {totals tickets least : List ℕ} {t e s : ℕ} {chosen₀ gains₀ : List ℕ} {i : ℕ} {chosen gains : List ℕ}
     → Offerable totals tickets least t e chosen₀ gains₀
-    → Offering totals tickets least t e s chosen₀ gains₀ i chosen gains → i < length totals → getD gains i 0 ≤ maxTotal + 1
+    → Offering totals tickets least t e s chosen₀ gains₀ i chosen gains → i < length totals
+    → getD gains i 0 ≤ maxTotal + 1
 gain-left {i = i} o h l = rw (h .gains-are .filled .left i (le-refl i)) (o .gains-low i (omega (arith, o .gains-long)))
 
 picked-max : (a b : ℕ) → max a b ≡ picked (a <? b) b a

@@ -10,7 +10,7 @@ use Rattle.model.specs.Counting.{_<?_, _≤?_, _and_, only, greatest, list}
 use Rattle.model.proofs.Tests.{first, second, both, clash, only-le, le-only, is-lt, not-lt, is-le, lt-yes, le-yes}
 use Rattle.model.proofs.Tests.{lt-or-le}
 use Rattle.model.proofs.Counting.{count-mono, count-strict, count-none, length-list, getD-list, le-greatest}
-use Rattle.model.proofs.Counting.{greatest-le, search-below, count-most}
+use Rattle.model.proofs.Counting.{greatest-le, search-below}
 use Rattle.allocation.specs.Selection.{above, greatestUpTo, Selected}
 
 pub above-falls : (l : List ℕ) (s t : ℕ) → s ≤ t → above l t ≤ above l s
@@ -20,10 +20,6 @@ above-falls l s t h = count-mono (length l) _ _ (λ k _ p. is-lt _ _ (omega (ari
 -- a bisection's step: what holds at mid holds below it. n is the count that the code took at mid
 pub many-below : (l : List ℕ) (b mid n : ℕ) → n ≡ above l mid → b < n → (u : ℕ) → u < mid + 1 → b < above l u
 many-below l b mid n e h u a = omega (arith, above-falls l u mid (omega arith))
-
-pub above-most : (l : List ℕ) (t : ℕ) → above l t ≤ length l
-unfolding above
-above-most l t = count-most (length l) _
 
 le-up-to : (l : List ℕ) (t k : ℕ) → k < length l → getD l k 0 ≤ t → getD l k 0 ≤ greatestUpTo l t
 unfolding greatestUpTo

@@ -76,7 +76,8 @@ ties-below-strict :
     → tiesBelow l tickets t (getD tickets i 0) < tiesBelow l tickets t x
 unfolding tiesBelow
 ties-below-strict l tickets t x i li e h = count-strict (length l) _ _
-    (λ k _ p. both (first _ _ p) (is-lt _ _ (omega (arith, lt-yes (getD tickets k 0) (getD tickets i 0) (second _ _ p)))))
+    (λ k _ p. both (first _ _ p)
+    (is-lt _ _ (omega (arith, lt-yes (getD tickets k 0) (getD tickets i 0) (second _ _ p)))))
     i li (ap (λ b. getD l i 0 =? t and b) (not-lt _ _ (le-refl _)) ∙ and-false _) (both (is-eq _ _ e) (is-lt _ _ h))
 
 -- one ticket more is one guest more at most
@@ -92,7 +93,8 @@ ties-below-next l tickets t x n d =
           (λ (e : getD tickets k 0 ≡ x). inr (is-eq _ _ e))
           (λ (q : getD tickets k 0 < x). inl (both (first _ _ p) (is-lt _ _ q)))
           (eq-or-lt-of-le
-          (let z : getD tickets k 0 < x + 1 = lt-yes _ _ (second _ _ p) in let y : getD tickets k 0 ≤ x = omega arith in y))),
+          (let z : getD tickets k 0 < x + 1 = lt-yes _ _ (second _ _ p) in
+          let y : getD tickets k 0 ≤ x = omega arith in y))),
       count-one (length l) (λ k. getD tickets k 0 =? x) (λ k i lk li p q.
           same-place tickets d k i (omega arith) (omega arith) (eq-yes _ _ p ∙ sym (eq-yes _ _ q))),
     )

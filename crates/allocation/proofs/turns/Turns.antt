@@ -102,10 +102,12 @@ picked-le false x y m p q = q
 
 module _ (S : Screened) (n j : ℕ) (totals tickets least : List ℕ) (t e s : ℕ) (chosen₀ gains₀ criticals : List ℕ)
     (as-long : length totals ≡ n) (es : s ≡ j + 1) (few : j < maxStations)
-    (gain-is : (k : ℕ) → k < n → gainAt totals tickets least t e k ≡ only (provisional (queue S j) k) (surplus S k j + 1))
+    (gain-is : (k : ℕ) → k < n
+    → gainAt totals tickets least t e k ≡ only (provisional (queue S j) k) (surplus S k j + 1))
     (critical-is : t ≡ critical (queue S j)) (totals-low : Totals totals)
     (h : After S n j chosen₀ gains₀ criticals) where
-  chosen-step : (k : ℕ) → k < n → taken gains₀ (gainAt totals tickets least t e) (λ _. s) chosen₀ k ≡ stationBy S (j + 1) k
+  chosen-step :
+      (k : ℕ) → k < n → taken gains₀ (gainAt totals tickets least t e) (λ _. s) chosen₀ k ≡ stationBy S (j + 1) k
   unfolding taken gainBy
   chosen-step k lk =
       rw (
@@ -118,7 +120,9 @@ module _ (S : Screened) (n j : ℕ) (totals tickets least : List ℕ) (t e s : �
       (take-at suc (provisional (queue S j) k) (surplus S k) j (stationBy S j k) ∙ at-suc _)
 
   gain-step :
-      (k : ℕ) → k < n → taken gains₀ (gainAt totals tickets least t e) (gainAt totals tickets least t e) gains₀ k ≡ gainBy S (j + 1) k
+      (k : ℕ) → k < n
+      → taken gains₀ (gainAt totals tickets least t e) (gainAt totals tickets least t e)
+      gains₀ k ≡ gainBy S (j + 1) k
   unfolding taken gainBy
   gain-step k lk =
       rw (gain-is k lk, element n (gainBy S j) (h .gains-are) k lk, station-step S j k)
@@ -126,7 +130,8 @@ module _ (S : Screened) (n j : ℕ) (totals tickets least : List ℕ) (t e s : �
 
   -- a gain is the new one or the old one
   gain-stays-low :
-      (k : ℕ) → k < n → taken gains₀ (gainAt totals tickets least t e) (gainAt totals tickets least t e) gains₀ k ≤ maxTotal + 1
+      (k : ℕ) → k < n
+      → taken gains₀ (gainAt totals tickets least t e) (gainAt totals tickets least t e) gains₀ k ≤ maxTotal + 1
   unfolding taken gainAt
   gain-stays-low k lk = picked-le _ _ _ _ (gain-low _ _ _ (totals-low k (omega arith)) refl) (h .gains-low k lk)
 
@@ -221,7 +226,8 @@ module _ (t : Tables) (c : ℕ) (least : List ℕ) (A : AtCut t c least) (j : �
       critical-here : f ≡ critical Q
       critical-here = critical-is Q totals (t .tickets) shows f (rw capacity-is few)
 
-      won-here : (k : ℕ) → k < length (t .amounts) → wonBy (getD totals k 0) f (getD (t .tickets) k 0) e ≡ provisional Q k
+      won-here :
+          (k : ℕ) → k < length (t .amounts) → wonBy (getD totals k 0) f (getD (t .tickets) k 0) e ≡ provisional Q k
       unfolding queue screened screen market marketBy
       won-here k lk = provisional-is Q totals (t .tickets) shows k f e lk (rw capacity-is few) (rw capacity-is tied)
 
@@ -277,7 +283,8 @@ pub offerable :
     (A : AtCut t c least) → j < length (t .asks)
     → totals ≡ list (length (t .amounts)) (totalAt (t .bids) (t .amounts) (length (t .asks)) j c) → Totals totals
     → f ≤ maxTotal → TieBound totals (t .tickets) f a b e
-    → After (screened t) (length (t .amounts)) j chosen gains criticals → Offerable totals (t .tickets) least f e chosen gains
+    → After (screened t) (length (t .amounts)) j chosen gains criticals
+    → Offerable totals (t .tickets) least f e chosen gains
 offerable t c j {least = least} {totals} A lj g low fl tied a =
     let n : length totals ≡ length (t .amounts) = long _ _ g in
     let m : length least ≡ length (t .amounts) = long _ _ (A .least-are) in

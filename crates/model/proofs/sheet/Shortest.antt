@@ -8,7 +8,6 @@ use native.Mathlib.Omega.{arith}
 use lib.ListN.{length, getD, List·getD-eq-default}
 use Rattle.model.specs.Counting.{sum, count, joined}
 use Rattle.model.specs.market.Market.{Tables, bidAt}
-use Rattle.model.specs.market.Faults.{Accepted}
 use Rattle.model.specs.Verdicts.{accepted}
 use Rattle.model.specs.claims.Meaning.{WithinLimits}
 use Rattle.model.specs.sheet.Fields.{mapWidth}

@@ -87,10 +87,11 @@ expected (t is v) = verdicts v
 expected (called t stations charges sold paid v) = verdicts v
 expected (posts t round guests sold paid house last v) = verdicts v
 
--- A to J, and in A guest 1's other place; E with other tickets, and ties split by tickets that fall, rise and do neither,
--- 0 and the greatest among them; the limits, and the order of two faults; tickets that repeat, or are too few or many; each result list too short and too
--- long, with the lengths of the market before and its values after; the postings of document 01's example, then the
--- book's size, the round after the last, and the limit of each kind of account
+-- A to J, and in A guest 1's other place; E with other tickets, and ties split by tickets that fall, rise and do
+-- neither, 0 and the greatest among them; the limits, and the order of two faults; tickets that repeat, or are too few
+-- or too many; each result list too short and too long, with the lengths of the market before and its values after; the
+-- postings of document 01's example, then the book's size, the round after the last, and the limit of each kind of
+-- account
 unfoldable pub cases : List Case
 cases =
     clears tableI (outcomeOf 3 0 (4 ∷ 0 ∷ 2 ∷ 0 ∷ 0 ∷ []) (15 ∷ 0 ∷ 18 ∷ 0 ∷ 0 ∷ []) (0 ∷ 6 ∷ 0 ∷ 5 ∷ 0 ∷ [])

@@ -42,6 +42,7 @@ returns c =
 
 pub assign-all-spec : {M : Type 1} → statement M
 assign-all-spec =
-    tie.close (tie.spec (λ c κs. search needs) (λ c. search needs) slice-aggregate-assign (λ c. search needs) slice-aggregate-assign-2
+    tie.close (tie.spec (λ c κs. search needs) (λ c. search needs) slice-aggregate-assign (λ c. search needs)
+    slice-aggregate-assign-2
     (λ c. search needs) slice-aggregate-assign-3 (λ c. search needs) assign-requires (λ c. search needs)
     (λ c. search needs) returns)

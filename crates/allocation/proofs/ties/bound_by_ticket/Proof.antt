@@ -1,5 +1,5 @@
 use Prim.Native.Nat.{_+_, _-_, _/_, _≤_}
-use mathlib.Core.Path.{_≡_, sym, _∙_}
+use mathlib.Core.Path.{sym, _∙_}
 use native.Mathlib.Nat.{le-antisymm}
 use native.Mathlib.Omega.{arith}
 use borrow.Author.Needs.{needs}
@@ -50,7 +50,8 @@ loop-again c =
         c .if2 .taken,
         at-count .count-ties .ensures,
         ties-below-next (entry .args .totals .now) (entry .args .tickets .now) (entry .args .t .0)
-            (at-loop .loop .low + (at-loop .loop .high - at-loop .loop .low) / 2) (entry .pre .0 .as-long) (entry .pre .1),
+            (at-loop .loop .low + (at-loop .loop .high - at-loop .loop .low) / 2)
+            (entry .pre .0 .as-long) (entry .pre .1),
       ),
       at-loop .loop .inv .3,
     )

@@ -7,12 +7,15 @@ use Rattle.allocation.proofs.ties.Ties.{no-tie, no-place, bounds}
 use Rattle.allocation.proofs.ties.tie_bound.Statement.{statement}
 use Rattle.allocation.proofs.ties.tie_bound.Tie as tie
 
+abbrev entry-before-places : tie.Else2 → tie.Start
+entry-before-places p = p .before .before .before .before .before
+
 -- some of those at t have a place, and not all
 tied : (c : tie.Else2) →
-    let entry = c .before .before .before .before .before in
+    let entry = entry-before-places c in
     Tied (entry .args .totals .now) (entry .args .tickets .now) (entry .args .t .0) (entry .args .b - entry .args .a)
 tied c =
-    let pre = c .before .before .before .before .before .pre in
+    let pre = entry-before-places c .pre in
     record {
       few = pre .few;
       as-long = pre .as-long;
@@ -23,8 +26,7 @@ tied c =
 bound-by-order-requires : tie.Need-bound-by-order-requires
 bound-by-order-requires c κs =
     let past-places = c .before in
-    let entry = past-places .before .before .before .before in
-    (tied past-places, sym (entry .before .pre .rise) ∙ c .if3 .taken)
+    (tied past-places, sym (entry-before-places past-places .pre .rise) ∙ c .if3 .taken)
 
 returns-3 : tie.Need-returns-3
 returns-3 c =
@@ -35,8 +37,7 @@ returns-3 c =
 bound-by-ticket-requires : tie.Need-bound-by-ticket-requires
 bound-by-ticket-requires c κs =
     let past-places = c .before in
-    let entry = past-places .before .before .before .before in
-    (tied past-places, entry .before .pre .differ)
+    (tied past-places, entry-before-places past-places .pre .differ)
 
 returns-4 : tie.Need-returns-4
 returns-4 c =

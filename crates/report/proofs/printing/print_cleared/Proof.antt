@@ -7,7 +7,8 @@ use Rattle.report.proofs.printing.print_cleared.Tie as tie
 
 abbrev entry-before-clear : tie.After-clear → tie.Start
 entry-before-clear p =
-    p .before .before .before .before .before .before .before .before .before .before .before .before .before .before .before
+    p .before .before .before .before .before .before .before .before .before .before .before
+    .before .before .before .before
 
 abbrev clear-before-match : tie.After-slice-known9 → tie.After-clear
 clear-before-match p = p .before .before .before .before .before .before .before .before
