@@ -175,8 +175,10 @@ def fill(steps, indent):
 
 
 def hang(text, indent):
-    """The text from that column on, and its further lines four columns deeper."""
-    return fill(text, indent + 4).replace(' ' * (indent + 4), ' ' * indent, 1)
+    """The text from that column on, and its further lines four columns deeper; `where` at its end is never alone on a
+    line, where `rt fmt` would lay out otherwise all that follows."""
+    filled = fill(re.sub(' where$', '\u00a0where', text), indent + 4)
+    return filled.replace(' ' * (indent + 4), ' ' * indent, 1).replace('\u00a0', ' ')
 
 
 def note(text, room):
