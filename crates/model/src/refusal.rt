@@ -18,6 +18,8 @@ pub enum Refusal {
     AccountOverLimit,
     BookSize,
     OutputTooShort,
+    CellOffGrid,
+    PriceOrFallOutOfRange,
 }
 
 impl Refusal {
@@ -40,6 +42,8 @@ impl Refusal {
             Refusal::AccountOverLimit => 12,
             Refusal::BookSize => 13,
             Refusal::OutputTooShort => 14,
+            Refusal::CellOffGrid => 16,
+            Refusal::PriceOrFallOutOfRange => 17,
         }
     }
 }

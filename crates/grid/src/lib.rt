@@ -1,0 +1,2 @@
+// Bids from parking places.
+mod walk_table;
