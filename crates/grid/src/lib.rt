@@ -1,2 +1,3 @@
 // Bids from parking places.
+mod rows;
 mod walk_table;

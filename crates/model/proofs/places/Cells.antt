@@ -1,10 +1,11 @@
 -- Laws of the squared distance.
 use Prim.Native.Nat.{ℕ, _+_, _*_, _-_, _≤_, _<_}
-use mathlib.Core.Path.{_≡_, ap}
+use mathlib.Core.Path.{_≡_, refl, ap₂}
 use native.Mathlib.Nat.{mul-le-mul}
 use native.Mathlib.Omega.{arith}
 use Rattle.model.specs.Limits.{maxCell, maxSquaredDistance}
-use Rattle.model.specs.places.Bids.{Cell, difference, squaredDistance}
+use Rattle.model.specs.places.Bids.{difference, squaredDistance}
+use Rattle.model.specs.declared.cell.Cell.{Cell}
 use Rattle.model.specs.claims.Places.{OnGrid}
 
 pub difference-below : (x y : ℕ) → x < y → y - x ≡ difference x y
@@ -15,13 +16,22 @@ pub difference-above : (x y : ℕ) → y ≤ x → x - y ≡ difference x y
 unfolding difference
 difference-above x y l = omega arith
 
-pub difference-most : (x y : ℕ) → x ≤ maxCell → y ≤ maxCell → difference x y ≤ maxCell
+-- the square of a difference on the grid
+pub square-most : (x y : ℕ) {r : ℕ} → r ≡ difference x y → x ≤ maxCell → y ≤ maxCell → r * r ≤ maxCell * maxCell
 unfolding difference
-difference-most x y l h = omega arith
+square-most x y {r} e l h = let low : r ≤ maxCell = omega arith in mul-le-mul low low
+
+pub distance-is :
+    (a b : Cell) {first second : ℕ} → first ≡ difference (a .first) (b .first)
+    → second ≡ difference (a .second) (b .second) → first * first + second * second ≡ squaredDistance a b
+unfolding squaredDistance
+distance-is a b e f = ap₂ (λ first second. first * first + second * second) e f
 
 pub distance-most : (a b : Cell) → OnGrid a → OnGrid b → squaredDistance a b ≤ maxSquaredDistance
 unfolding squaredDistance
 distance-most a b g h =
-    let first = difference-most _ _ (g .first-most) (h .first-most) in
-    let second = difference-most _ _ (g .second-most) (h .second-most) in
-    omega (arith, mul-le-mul first first, mul-le-mul second second)
+    omega (
+      arith,
+      square-most (a .first) (b .first) refl (g .first-most) (h .first-most),
+      square-most (a .second) (b .second) refl (g .second-most) (h .second-most),
+    )

@@ -11,11 +11,12 @@ use Rattle.model.specs.Numbers.{answerOfVerdict}
 use Rattle.model.specs.Verdicts.{accepted, firstFault}
 use Rattle.model.specs.market.Market.{Tables, tables, bidAt}
 use Rattle.model.specs.market.Faults.{Accepted}
-use Rattle.model.specs.places.Bids.{Cell, squaredDistance, walk, bidBetween, Places, guestsPlaced, stationsPlaced}
+use Rattle.model.specs.places.Bids.{squaredDistance, walk, bidBetween, Places, guestsPlaced, stationsPlaced}
 use Rattle.model.specs.places.Bids.{guestCell, stationCell, placedBid}
 use Rattle.model.specs.places.Faults.{placingFaults}
 use Rattle.model.specs.contracts.PlacesBids.{PlacesBids}
 use Rattle.model.specs.declared.answers.Verdict.{Verdict}
+use Rattle.model.specs.declared.cell.Cell.{Cell}
 
 -- 'the greatest whole d with d times d at most 100 times q'
 abbrev pub WalkIsGreatest : Type 0

@@ -4,12 +4,9 @@ use Prim.Native.Nat.{ℕ, _+_, _*_, _-_}
 use mathlib.Core.List.{List}
 use lib.ListN.{getD, length}
 use Rattle.model.specs.Counting.{_≤?_, only, greatest, list, joined}
+use Rattle.model.specs.declared.cell.Cell.{Cell}
 
--- a cell of the grid
-pub record Cell : Type 0 where
-  pub first : ℕ
-  pub second : ℕ
-
+-- a cell of the grid, by its coordinates
 abbrev pub cell : (first second : ℕ) → Cell
 cell first second = record { first = first; second = second }
 

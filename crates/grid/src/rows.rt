@@ -1,0 +1,104 @@
+// The bids of accepted places, a row for each guest.
+use crate::walk_table;
+use model::cell::Cell;
+use model::limits::MAX_SQUARED_DISTANCE;
+ghost use Prim.Native.Nat.{ℕ, _+_, _*_, _-_, _^_, _<_, _≤_};
+ghost use mathlib.Core.Path.{_≡_};
+ghost use lib.ListN.{getD, length};
+ghost use lib.Seq.{paste};
+ghost use Rattle.model.specs.Limits.{maxPrice, maxSquaredDistance};
+ghost use Rattle.model.specs.Counting.{list};
+ghost use Rattle.model.specs.places.Bids.{cell, difference as differenceOf, squaredDistance, walk as walkOf, placedBids};
+ghost use Rattle.model.specs.claims.Places.{OnGrid, PlacesWithinLimits};
+ghost use Rattle.model.specs.contracts.Lent.{placesOf, placesIn};
+ghost use Rattle.grid.specs.Rows.{rowBids};
+
+struct Guest {
+    price: u32,
+    fall: u32,
+    cell: Cell,
+}
+
+fn difference(x: u16, y: u16) -> u16
+    ensures { λ r. ⌜ r ≡ differenceOf x y ⌝ }
+{
+    if x < y { y - x } else { x - y }
+}
+
+fn squared_distance(a: Cell, b: Cell) -> usize
+    requires { ⌜ OnGrid a × OnGrid b ⌝ }
+    ensures { λ r. ⌜ r ≡ squaredDistance a b ⌝ }
+{
+    let first = difference(a.first, b.first) as usize;
+    let second = difference(a.second, b.second) as usize;
+    first * first + second * second
+}
+
+// The price less the fall times the walk, 0 where that is negative.
+fn bid(price: u32, fall: u32, walk: u16) -> u32
+    requires { ⌜ fall * walk < 2 ^ 32 ⌝ }
+    ensures { λ r. ⌜ r ≡ price - fall * walk ⌝ }
+{
+    let lost = fall * (walk as u32);
+    if lost < price { price - lost } else { 0 }
+}
+
+// A guest's bids at all stations, to the places from base on.
+fn place_row(
+    walks: &[u16; MAX_SQUARED_DISTANCE + 1],
+    guest: Guest,
+    firsts: &[u16],
+    seconds: &[u16],
+    base: usize,
+    bids: &mut [u32],
+)
+    requires { ⌜ now walks ≡ list (maxSquaredDistance + 1) walkOf ⌝ }
+    requires { ⌜ (guest .fall ≤ maxPrice) × OnGrid (guest .cell) ⌝ }
+    requires { ⌜ (length (now seconds) ≡ length (now firsts)) × (base + length (now firsts) ≤ length (now bids)) ⌝ }
+    requires { ⌜ ((j : ℕ) → j < length (now firsts) → OnGrid (cell (getD (now firsts) j 0) (getD (now seconds) j 0))) ⌝ }
+    ensures { λ _. ⌜ now (bids .exit) ≡ paste (now (bids .entry)) base
+        (rowBids guest (now (firsts .entry)) (now (seconds .entry))) (length (now (firsts .entry))) ⌝ }
+{
+    let mut j = 0;
+    while j < firsts.len() {
+        let station = Cell {
+            first: firsts[j],
+            second: seconds[j],
+        };
+        let q = squared_distance(guest.cell, station);
+        bids[base + j] = bid(guest.price, guest.fall, walks[q]);
+        j += 1;
+    }
+}
+
+// All rows.
+pub fn place_rows(
+    prices: &[u32],
+    falls: &[u32],
+    guest_first: &[u16],
+    guest_second: &[u16],
+    station_first: &[u16],
+    station_second: &[u16],
+    bids: &mut [u32],
+)
+    requires { ⌜ PlacesWithinLimits
+        (placesOf prices falls «guest_first» «guest_second» «station_first» «station_second») (length (now bids)) ⌝ }
+    ensures { λ _. ⌜ now (bids .exit)
+        ≡ placedBids (placesIn prices falls «guest_first» «guest_second» «station_first» «station_second») ⌝ }
+{
+    let walks = walk_table::walks();
+    let m = station_first.len();
+    let mut i = 0;
+    while i < guest_first.len() {
+        let guest = Guest {
+            price: prices[i],
+            fall: falls[i],
+            cell: Cell {
+                first: guest_first[i],
+                second: guest_second[i],
+            },
+        };
+        place_row(&walks, guest, station_first, station_second, i * m, bids);
+        i += 1;
+    }
+}
