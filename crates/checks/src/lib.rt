@@ -1,3 +1,3 @@
 // The checks of a market that every call on one makes first.
 pub mod faults;
-mod scans;
+pub mod scans;

@@ -2,16 +2,14 @@
 use crate::walk_table;
 use model::cell::Cell;
 use model::limits::MAX_SQUARED_DISTANCE;
-ghost use Prim.Native.Nat.{ℕ, _+_, _*_, _-_, _^_, _<_, _≤_};
+ghost use Prim.Native.Nat.{_*_, _-_, _^_, _<_};
 ghost use mathlib.Core.Path.{_≡_};
-ghost use lib.ListN.{getD, length};
+ghost use lib.ListN.{length};
 ghost use lib.Seq.{paste};
-ghost use Rattle.model.specs.Limits.{maxPrice, maxSquaredDistance};
-ghost use Rattle.model.specs.Counting.{list};
-ghost use Rattle.model.specs.places.Bids.{cell, difference as differenceOf, squaredDistance, walk as walkOf, placedBids};
+ghost use Rattle.model.specs.places.Bids.{difference as differenceOf, squaredDistance, placedBids};
 ghost use Rattle.model.specs.claims.Places.{OnGrid, PlacesWithinLimits};
 ghost use Rattle.model.specs.contracts.Lent.{placesOf, placesIn};
-ghost use Rattle.grid.specs.Rows.{rowBids};
+ghost use Rattle.grid.specs.Rows.{rowBids, RowReady};
 
 struct Guest {
     price: u32,
@@ -52,10 +50,7 @@ fn place_row(
     base: usize,
     bids: &mut [u32],
 )
-    requires { ⌜ now walks ≡ list (maxSquaredDistance + 1) walkOf ⌝ }
-    requires { ⌜ (guest .fall ≤ maxPrice) × OnGrid (guest .cell) ⌝ }
-    requires { ⌜ (length (now seconds) ≡ length (now firsts)) × (base + length (now firsts) ≤ length (now bids)) ⌝ }
-    requires { ⌜ ((j : ℕ) → j < length (now firsts) → OnGrid (cell (getD (now firsts) j 0) (getD (now seconds) j 0))) ⌝ }
+    requires { ⌜ RowReady (now walks) guest (now firsts) (now seconds) base (now bids) ⌝ }
     ensures { λ _. ⌜ now (bids .exit) ≡ paste (now (bids .entry)) base
         (rowBids guest (now (firsts .entry)) (now (seconds .entry))) (length (now (firsts .entry))) ⌝ }
 {

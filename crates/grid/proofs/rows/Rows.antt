@@ -7,39 +7,40 @@ use native.Mathlib.Numerals.{add-one}
 use native.Mathlib.Omega.{arith}
 use lib.ListN.{getD, length, set, take, drop, length-append, length-drop}
 use lib.Seq.{paste, paste-zero, paste-suc, length-paste, take-at, take-all, drop-at, drop-drop, drop-length}
-use Rattle.model.specs.Limits.{maxGuests, maxStations, maxPrice, maxSquaredDistance}
+use Rattle.model.specs.Limits.{maxGuests, maxStations, maxSquaredDistance}
 use Rattle.model.specs.Counting.{list, joined}
 use Rattle.model.specs.places.Bids.{cell, squaredDistance, walk, bidBetween, Places, guestsPlaced}
 use Rattle.model.specs.places.Bids.{stationsPlaced, guestCell, stationCell, placedBid, placedBids}
-use Rattle.model.specs.claims.Places.{OnGrid}
-use Rattle.model.specs.declared.cell.Cell.{Cell}
 use Rattle.model.proofs.Counting.{length-list, getD-list}
 use Rattle.model.proofs.Loops.{element}
 use Rattle.model.proofs.market.Acceptance.{product-fits}
 use Rattle.model.proofs.sheet.Joined.{joined-length}
 use Rattle.model.proofs.places.Cells.{distance-most}
 use Rattle.model.proofs.places.Walks.{walk-most}
-use Rattle.grid.specs.Rows.{rowBids}
+use Rattle.grid.specs.Rows.{rowBids, RowReady}
 use Rattle.grid.specs.declared.rows.Guest.{Guest}
 
--- ---- one bid, by the table of walks
+-- ---- one bid: the walk is read from the table
 
-module _ (walks : List ℕ) (are : walks ≡ list (maxSquaredDistance + 1) walk) (a b : Cell) (g : OnGrid a)
-    (h : OnGrid b) (q : ℕ) (e : q ≡ squaredDistance a b) where
+module _ {walks : List ℕ} {guest : Guest} {firsts seconds : List ℕ} {base : ℕ} {bids : List ℕ}
+    (s : RowReady walks guest firsts seconds base bids) (j : ℕ) (l : j < length firsts) {q : ℕ}
+    (e : q ≡ squaredDistance (guest .cell) (cell (getD firsts j 0) (getD seconds j 0))) where
   pub in-table : q < maxSquaredDistance + 1
-  in-table = omega (arith, distance-most a b g h)
+  in-table = omega (arith, distance-most _ _ (s .guest-on-grid) (s .station-on-grid j l))
 
   walked : getD walks q 0 ≡ walk q
-  walked = element (maxSquaredDistance + 1) walk are q in-table
+  walked = element (maxSquaredDistance + 1) walk (s .walks-are) q in-table
 
-  pub loss-fits : (fall : ℕ) → fall ≤ maxPrice → fall * getD walks q 0 < 2 ^ 32
-  loss-fits fall l =
+  pub loss-fits : guest .fall * getD walks q 0 < 2 ^ 32
+  loss-fits =
       let low : q ≤ maxSquaredDistance = omega (arith, in-table) in
-      rw walked (omega (arith, mul-le-mul l (walk-most q low)))
+      rw walked (omega (arith, mul-le-mul (s .fall-most) (walk-most q low)))
 
-  pub bid-is : (price fall v : ℕ) → v ≡ price - fall * getD walks q 0 → v ≡ bidBetween price fall a b
+  pub bid-is :
+      {v : ℕ} → v ≡ guest .price - guest .fall * getD walks q 0
+      → v ≡ bidBetween (guest .price) (guest .fall) (guest .cell) (cell (getD firsts j 0) (getD seconds j 0))
   unfolding bidBetween
-  bid-is price fall v f = f ∙ ap (λ w. price - fall * w) (walked ∙ ap walk e)
+  bid-is f = f ∙ ap (λ w. guest .price - guest .fall * w) (walked ∙ ap walk e)
 
 -- ---- one row
 
@@ -144,7 +145,8 @@ module _ {p : Places} {bids₀ bids : List ℕ} {i : ℕ} (s : RowsSoFar p bids�
   pub rows-turn :
       {bids′ : List ℕ} → i < guestsPlaced p
       → bids′
-      ≡ paste bids (i * stationsPlaced p) (rowBids (guestOf p i) (p .stationFirst) (p .stationSecond)) (stationsPlaced p)
+      ≡ paste bids (i * stationsPlaced p) (rowBids (guestOf p i) (p .stationFirst) (p .stationSecond))
+      (stationsPlaced p)
       → RowsSoFar p bids₀ bids′ (i + 1)
   unfolding joined rowBids placedBid guestOf guestCell stationCell
   rows-turn l e =

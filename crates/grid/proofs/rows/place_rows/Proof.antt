@@ -3,14 +3,11 @@ use Prim.Native.Nat.{_-_}
 use native.Mathlib.Omega.{arith}
 use lib.ListN.{length}
 use borrow.Author.Needs.{needs}
-use Rattle.model.specs.places.Bids.{Places, places, guestCell, stationCell}
-use Rattle.grid.proofs.rows.Rows.{RowsSoFar, guestOf, rows-none, rows-same, rows-fit, row-room, rows-turn, rows-end}
+use Rattle.model.specs.places.Bids.{places, guestCell, stationCell}
+use Rattle.grid.proofs.rows.Rows.{RowsSoFar, guestOf, rows-none, rows-same, rows-fit, row-room, rows-turn}
+use Rattle.grid.proofs.rows.Rows.{rows-end}
 use Rattle.grid.proofs.rows.place_rows.Statement.{statement}
 use Rattle.grid.proofs.rows.place_rows.Tie as tie
-use Rattle.grid.proofs.rows.place_rows.Reads as reads
-use Rattle.grid.proofs.rows.place_rows.Lts as lts
-use Rattle.grid.proofs.rows.place_row.Reads as place-row-reads
-use Rattle.grid.proofs.walk_table.walks.Reads as walks-reads
 
 abbrev Inv-loop : tie.InvT-loop
 Inv-loop prices falls guest-first guest-second station-first station-second bids₀ walks m i₀ bids i =
@@ -51,12 +48,15 @@ place-row-requires : tie.Need-place-row-requires Inv-loop μ-loop
 unfolding guestCell stationCell
 place-row-requires c κs =
     let at-test = test-before-guest (c .before .before) in
-    let entry = entry-before-test at-test in (
-      at-test .before .before .walks .ensures,
-      ((entry .pre .fall-most _ (at-test .loop-test .taken), entry .pre .guest-on-grid _ (at-test .loop-test .taken)),
-      ((entry .pre .station-second-length, row-room (at-test .before .loop .inv) (at-test .loop-test .taken)),
-      entry .pre .station-on-grid)),
-    )
+    let within = entry-before-test at-test .pre in
+    record {
+      walks-are = at-test .before .before .walks .ensures;
+      fall-most = within .fall-most _ (at-test .loop-test .taken);
+      guest-on-grid = within .guest-on-grid _ (at-test .loop-test .taken);
+      seconds-long = within .station-second-length;
+      station-on-grid = within .station-on-grid;
+      room = row-room (at-test .before .loop .inv) (at-test .loop-test .taken);
+    }
 
 loop-again : tie.Need-loop-again Inv-loop μ-loop
 unfolding guestOf guestCell
