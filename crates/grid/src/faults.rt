@@ -7,14 +7,13 @@ use model::limits::MAX_PRICE;
 use model::refusal::Refusal;
 ghost use Prim.Native.Nat.{_*_, _≤_};
 ghost use mathlib.Core.Bool.{not};
-ghost use mathlib.Core.List.{[], _∷_};
 ghost use mathlib.Core.Path.{_≡_};
 ghost use Rattle.model.specs.Limits.{maxGuests, maxStations, maxCell, maxPrice};
 ghost use Rattle.model.specs.Counting.{_=?_, _or_, any};
 ghost use Rattle.model.specs.Numbers.{answerOfVerdict};
 ghost use Rattle.model.specs.Verdicts.{firstFault};
-ghost use Rattle.model.specs.market.Faults.{outside, counts};
-ghost use Rattle.model.specs.places.Faults.{placeLengths, placeValues, placingFaults};
+ghost use Rattle.model.specs.market.Faults.{outside};
+ghost use Rattle.model.specs.places.Faults.{placingFaults};
 ghost use Rattle.model.specs.contracts.Lent.{placesIn};
 
 fn lengths_differ(
@@ -31,28 +30,6 @@ fn lengths_differ(
         or not («station_second» =? m) or not (bids =? n * m)) ⌝ }
 {
     (prices != n) | (falls != n) | (guest_second != n) | (station_second != m) | (bids != n * m)
-}
-
-// The counts, then the lengths. The counts come first, so that n times m cannot wrap.
-fn size_fault(
-    n: usize,
-    m: usize,
-    prices: usize,
-    falls: usize,
-    guest_second: usize,
-    station_second: usize,
-    bids: usize,
-) -> Verdict
-    ensures { λ r. ⌜ answerOfVerdict r
-        ≡ firstFault (counts n m ∷ placeLengths n m prices falls «guest_second» «station_second» bids ∷ []) ⌝ }
-{
-    if limits::counts_out_of_range(n, m) {
-        return Verdict::Refused(Refusal::CountsOutOfRange);
-    }
-    if lengths_differ(n, m, prices, falls, guest_second, station_second, bids) {
-        return Verdict::Refused(Refusal::LengthsDiffer);
-    }
-    Verdict::Accepted
 }
 
 fn cells_off_grid(
@@ -80,28 +57,7 @@ fn prices_out_of_range(prices: &[u32], falls: &[u32]) -> bool
     scans::any_outside32(prices, 0, MAX_PRICE) | scans::any_outside32(falls, 0, MAX_PRICE)
 }
 
-// All cells, then all prices and falls.
-fn value_fault(
-    prices: &[u32],
-    falls: &[u32],
-    guest_first: &[u16],
-    guest_second: &[u16],
-    station_first: &[u16],
-    station_second: &[u16],
-) -> Verdict
-    ensures { λ r. ⌜ answerOfVerdict r ≡ firstFault (placeValues
-        (placesIn prices falls «guest_first» «guest_second» «station_first» «station_second»)) ⌝ }
-{
-    if cells_off_grid(guest_first, guest_second, station_first, station_second) {
-        return Verdict::Refused(Refusal::CellOffGrid);
-    }
-    if prices_out_of_range(prices, falls) {
-        return Verdict::Refused(Refusal::PriceOrFallOutOfRange);
-    }
-    Verdict::Accepted
-}
-
-// Of a call with a bid table of so many places.
+// Of a call with a bid table of so many places. The counts come first, so that n times m cannot wrap.
 pub fn placing_fault(
     prices: &[u32],
     falls: &[u32],
@@ -116,7 +72,10 @@ pub fn placing_fault(
 {
     let n = guest_first.len();
     let m = station_first.len();
-    match size_fault(
+    if limits::counts_out_of_range(n, m) {
+        return Verdict::Refused(Refusal::CountsOutOfRange);
+    }
+    if lengths_differ(
         n,
         m,
         prices.len(),
@@ -125,14 +84,13 @@ pub fn placing_fault(
         station_second.len(),
         bids,
     ) {
-        Verdict::Refused(refusal) => Verdict::Refused(refusal),
-        Verdict::Accepted => value_fault(
-            prices,
-            falls,
-            guest_first,
-            guest_second,
-            station_first,
-            station_second,
-        ),
+        return Verdict::Refused(Refusal::LengthsDiffer);
     }
+    if cells_off_grid(guest_first, guest_second, station_first, station_second) {
+        return Verdict::Refused(Refusal::CellOffGrid);
+    }
+    if prices_out_of_range(prices, falls) {
+        return Verdict::Refused(Refusal::PriceOrFallOutOfRange);
+    }
+    Verdict::Accepted
 }

@@ -12,7 +12,7 @@ use Rattle.grid.proofs.place_bids.Statement.{statement}
 use Rattle.grid.proofs.place_bids.Tie as tie
 
 abbrev entry-before-fault : tie.After-placing-fault → tie.Start
-entry-before-fault c = let halfway = c .before .before .before .before in halfway .before .before .before .before
+entry-before-fault p = p .before .before .before .before .before .before .before .before
 
 abbrev placesAt : tie.Start → Places
 placesAt c =

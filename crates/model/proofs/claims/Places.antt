@@ -6,10 +6,10 @@ use native.Mathlib.Nat.{mul-le-mul-left, div-add-mod', div-lt-iff-lt-mul, mod-lt
 use native.Mathlib.Omega.{arith}
 use lib.ListN.{getD, length, replicate, length-replicate, getD-replicate}
 use Rattle.model.specs.Limits.{maxPrice}
-use Rattle.model.specs.Verdicts.{accepted, firstFault}
+use Rattle.model.specs.Verdicts.{accepted}
 use Rattle.model.specs.market.Market.{Tables, tables, bidAt}
 use Rattle.model.specs.market.Faults.{Accepted}
-use Rattle.model.specs.places.Bids.{squaredDistance, walk, bidBetween, Places, guestsPlaced, stationsPlaced}
+use Rattle.model.specs.places.Bids.{squaredDistance, bidBetween, Places, guestsPlaced, stationsPlaced}
 use Rattle.model.specs.places.Bids.{placedBid, placedBids}
 use Rattle.model.specs.contracts.PlacesBids.{placingVerdict}
 use Rattle.model.specs.claims.Places.{NearerNeverLowers, PlacesWithinLimits, Placed, PlacedBidsAreRead}

@@ -1,15 +1,16 @@
 -- Cases of document 02, request 3: walks, bids, a market made of them, and the faults of calls, as one fact over each
 -- table.
-use Prim.Native.Nat.{ℕ}
-use mathlib.Core.List.{List, [], _∷_, map}
+use Prim.Native.Nat.{ℕ, _≤_}
+use mathlib.Core.List.{[], _∷_, map}
 use mathlib.Core.Path.{_≡_}
 use lib.ListN.{replicate}
-use Rattle.model.specs.Verdicts.{Answer, accepted, refused, firstFault, giving}
+use Rattle.model.specs.Verdicts.{accepted, refused, firstFault, giving}
 use Rattle.model.specs.market.Market.{Tables, regular}
-use Rattle.model.specs.market.Faults.{verdict}
-use Rattle.model.specs.market.Outcome.{Outcome, outcomeOf, outcome}
+use Rattle.model.specs.market.Faults.{verdict, Accepted}
+use Rattle.model.specs.market.Outcome.{outcomeOf, outcome}
 use Rattle.model.specs.places.Bids.{cell, squaredDistance, walk, bidBetween, Places, places, placedBids}
 use Rattle.model.specs.places.Faults.{placingFaults}
+use Rattle.model.specs.claims.Places.{Placed, withoutBids}
 
 -- the page's cells, and the grid's corners, either way round
 abbrev pub DistancesHold : Type 0
@@ -18,8 +19,11 @@ DistancesHold =
     ∷ squaredDistance (cell 0 31) (cell 31 0) ∷ squaredDistance (cell 7 7) (cell 7 7) ∷ [])
     ≡ (25 ∷ 25 ∷ 1_922 ∷ 0 ∷ [])
 
+-- the page's walks, then one below a whole
 abbrev pub WalksHold : Type 0
-WalksHold = map walk (25 ∷ 2 ∷ 1_922 ∷ 0 ∷ 1 ∷ 24 ∷ []) ≡ (50 ∷ 14 ∷ 438 ∷ 0 ∷ 10 ∷ 48 ∷ [])
+WalksHold =
+    (walk (squaredDistance (cell 0 0) (cell 3 4)) ∷ walk 2 ∷ walk 1_922 ∷ walk 0 ∷ walk 24 ∷ [])
+    ≡ (50 ∷ 14 ∷ 438 ∷ 0 ∷ 48 ∷ [])
 
 -- a fall of 2 over 50 tenths: to spare, just used up, and more than the price
 abbrev pub BidsHold : Type 0
@@ -41,6 +45,13 @@ abbrev pub PlacedMarketClears : Type 0
 PlacedMarketClears =
     giving (verdict placedMarket) (outcome placedMarket)
     ≡ accepted (outcomeOf 30 0 (2 ∷ 0 ∷ []) (90 ∷ 0 ∷ []) (0 ∷ 3 ∷ []) (0 ∷ 90 ∷ []))
+
+-- an accepted call left these bids; so the market is accepted, and guest 1's bid at the nearer station is no lower
+pub record PlacedInstance : Type 0 where
+  pub placed : Placed twoByTwo (placedMarket .bids)
+  pub other-tables : Accepted (withoutBids placedMarket)
+  pub market : Accepted placedMarket
+  pub nearer : 50 ≤ 100
 
 -- one guest and one station: price, fall, and the four coordinates
 abbrev one : (price fall guestFirst guestSecond stationFirst stationSecond : ℕ) → Places

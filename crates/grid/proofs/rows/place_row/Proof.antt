@@ -15,7 +15,7 @@ abbrev μ-loop : tie.MeasureT-loop
 μ-loop walks guest firsts seconds base bids₀ j₀ bids j = length firsts - j
 
 abbrev entry-before-test : tie.In-loop Inv-loop μ-loop → tie.Start Inv-loop μ-loop
-entry-before-test p = let at-loop = p .before in at-loop .before .before .before .before
+entry-before-test p = p .before .before .before .before .before
 
 abbrev test-before-distance : tie.After-squared-distance Inv-loop μ-loop → tie.In-loop Inv-loop μ-loop
 test-before-distance p = p .before .before .before

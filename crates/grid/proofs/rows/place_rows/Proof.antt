@@ -18,7 +18,7 @@ abbrev μ-loop : tie.MeasureT-loop
     length guest-first - i
 
 abbrev entry-before-walks : tie.After-walks Inv-loop μ-loop → tie.Start Inv-loop μ-loop
-entry-before-walks p = let halfway = p .before .before .before .before in halfway .before .before .before .before
+entry-before-walks p = p .before .before .before .before .before .before .before .before
 
 abbrev entry-before-test : tie.In-loop Inv-loop μ-loop → tie.Start Inv-loop μ-loop
 entry-before-test p = entry-before-walks (p .before .before)

@@ -1,18 +1,17 @@
 -- The rule is tested once over the whole table, and carried to each entry.
-use Prim.Native.Nat.{ℕ, _+_, _*_, _≤_, _<_}
+use Prim.Native.Nat.{ℕ, _+_, _*_}
 use mathlib.Core.Bool.{Bool, true}
 use mathlib.Core.List.{List}
 use mathlib.Core.Path.{_≡_, refl, sym}
 use native.Mathlib.Omega.{arith}
 use lib.ListN.{length}
-use borrow.Author.Needs.{needs}
 use Rattle.model.specs.Limits.{maxSquaredDistance}
 use Rattle.model.specs.Counting.{_<?_, _≤?_, _and_, list}
 use Rattle.model.specs.places.Bids.{walk}
 use Rattle.model.proofs.Tests.{first, second, le-yes, lt-yes}
 use Rattle.model.proofs.Loops.{is-list}
 use Rattle.model.proofs.places.Walks.{walk-is}
-use Rattle.grid.proofs.Tables.{every, at-each}
+use Rattle.grid.proofs.TableRule.{every, at-each}
 use Rattle.grid.proofs.walk_table.walks.Statement.{statement}
 use Rattle.grid.proofs.walk_table.walks.Tie as tie
 
