@@ -9,7 +9,7 @@ maxGuests = 200
 abbrev pub maxStations : ℕ
 maxStations = 40
 
--- of an ask, a bid, a stated price and its fall
+-- of an ask, a bid and a stated price, in mills per kWh, and of a fall, in mills per tenth of a cell
 abbrev pub maxPrice : ℕ
 maxPrice = 1_000_000
 

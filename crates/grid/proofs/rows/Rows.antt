@@ -15,7 +15,7 @@ use Rattle.model.proofs.Counting.{length-list, getD-list}
 use Rattle.model.proofs.Loops.{element}
 use Rattle.model.proofs.market.Acceptance.{product-fits}
 use Rattle.model.proofs.sheet.Joined.{joined-length}
-use Rattle.model.proofs.places.Cells.{distance-most}
+use Rattle.model.proofs.places.Cells.{grid-distances}
 use Rattle.model.proofs.places.Walks.{walk-most}
 use Rattle.grid.specs.Rows.{rowBids, RowReady}
 use Rattle.grid.specs.declared.rows.Guest.{Guest}
@@ -26,7 +26,7 @@ module _ {walks : List ℕ} {guest : Guest} {firsts seconds : List ℕ} {base : 
     (s : RowReady walks guest firsts seconds base bids) (j : ℕ) (l : j < length firsts) {q : ℕ}
     (e : q ≡ squaredDistance (guest .cell) (cell (getD firsts j 0) (getD seconds j 0))) where
   pub in-table : q < maxSquaredDistance + 1
-  in-table = omega (arith, distance-most _ _ (s .guest-on-grid) (s .station-on-grid j l))
+  in-table = omega (arith, grid-distances _ _ (s .guest-on-grid) (s .station-on-grid j l))
 
   walked : getD walks q 0 ≡ walk q
   walked = element (maxSquaredDistance + 1) walk (s .walks-are) q in-table

@@ -3,10 +3,10 @@ use Prim.Native.Nat.{ℕ, _+_, _*_, _-_, _≤_, _<_}
 use mathlib.Core.Path.{_≡_, refl, ap₂}
 use native.Mathlib.Nat.{mul-le-mul}
 use native.Mathlib.Omega.{arith}
-use Rattle.model.specs.Limits.{maxCell, maxSquaredDistance}
+use Rattle.model.specs.Limits.{maxCell}
 use Rattle.model.specs.places.Bids.{difference, squaredDistance}
 use Rattle.model.specs.declared.cell.Cell.{Cell}
-use Rattle.model.specs.claims.Places.{OnGrid}
+use Rattle.model.specs.claims.Places.{GridDistances}
 
 pub difference-below : (x y : ℕ) → x < y → y - x ≡ difference x y
 unfolding difference
@@ -27,9 +27,9 @@ pub distance-is :
 unfolding squaredDistance
 distance-is a b e f = ap₂ (λ first second. first * first + second * second) e f
 
-pub distance-most : (a b : Cell) → OnGrid a → OnGrid b → squaredDistance a b ≤ maxSquaredDistance
+pub grid-distances : GridDistances
 unfolding squaredDistance
-distance-most a b g h =
+grid-distances a b g h =
     omega (
       arith,
       square-most (a .first) (b .first) refl (g .first-most) (h .first-most),

@@ -6,7 +6,7 @@ use mathlib.Core.List.{List}
 use mathlib.Core.Logic.{_↔_}
 use mathlib.Core.Path.{_≡_}
 use lib.ListN.{getD, length, replicate}
-use Rattle.model.specs.Limits.{maxGuests, maxStations, maxCell, maxPrice}
+use Rattle.model.specs.Limits.{maxGuests, maxStations, maxCell, maxSquaredDistance, maxPrice}
 use Rattle.model.specs.Numbers.{answerOfVerdict}
 use Rattle.model.specs.Verdicts.{accepted, firstFault}
 use Rattle.model.specs.market.Market.{Tables, tables, bidAt}
@@ -29,11 +29,15 @@ NearerNeverLowers =
     → squaredDistance guest′ station′ ≤ squaredDistance guest station
     → bidBetween price fall guest station ≤ bidBetween price fall guest′ station′
 
--- a call is accepted exactly within these limits
+-- 'Cells lie on a grid, 0 to 31 each way', so that q is never above the table's last
 pub record OnGrid (c : Cell) : Type 0 where
   pub first-most : c .first ≤ maxCell
   pub second-most : c .second ≤ maxCell
 
+abbrev pub GridDistances : Type 0
+GridDistances = (a b : Cell) → OnGrid a → OnGrid b → squaredDistance a b ≤ maxSquaredDistance
+
+-- a call is accepted exactly within these limits
 pub record PlacesWithinLimits (p : Places) (bids : ℕ) : Type 0 where
   pub guests-most : guestsPlaced p ≤ maxGuests
   pub stations-least : 1 ≤ stationsPlaced p
