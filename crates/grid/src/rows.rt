@@ -2,6 +2,7 @@
 use crate::walk_table;
 use model::cell::Cell;
 use model::limits::MAX_SQUARED_DISTANCE;
+use model::money::UnitPrice;
 ghost use Prim.Native.Nat.{_*_, _-_, _^_, _<_};
 ghost use mathlib.Core.Path.{_≡_};
 ghost use lib.ListN.{length};
@@ -11,9 +12,12 @@ ghost use Rattle.model.specs.claims.Places.{OnGrid, PlacesWithinLimits};
 ghost use Rattle.model.specs.contracts.Lent.{placesOf, placesIn};
 ghost use Rattle.grid.specs.Rows.{rowBids, RowReady};
 
+// How fast a unit price falls: mills per kWh for each tenth of a cell.
+struct Fall(u32);
+
 struct Guest {
-    price: u32,
-    fall: u32,
+    price: UnitPrice,
+    fall: Fall,
     cell: Cell,
 }
 
@@ -33,12 +37,16 @@ fn squared_distance(a: Cell, b: Cell) -> usize
 }
 
 // The price less the fall times the walk, 0 where that is negative.
-fn bid(price: u32, fall: u32, walk: u16) -> u32
-    requires { ⌜ fall * walk < 2 ^ 32 ⌝ }
-    ensures { λ r. ⌜ r ≡ price - fall * walk ⌝ }
+fn bid(price: UnitPrice, fall: Fall, walk: u16) -> UnitPrice
+    requires { ⌜ fall .0 * walk < 2 ^ 32 ⌝ }
+    ensures { λ r. ⌜ r .0 ≡ price .0 - fall .0 * walk ⌝ }
 {
-    let lost = fall * (walk as u32);
-    if lost < price { price - lost } else { 0 }
+    let lost = fall.0 * (walk as u32);
+    if lost < price.0 {
+        UnitPrice(price.0 - lost)
+    } else {
+        UnitPrice(0)
+    }
 }
 
 // A guest's bids at all stations, to the places from base on.
@@ -61,7 +69,8 @@ fn place_row(
             second: seconds[j],
         };
         let q = squared_distance(guest.cell, station);
-        bids[base + j] = bid(guest.price, guest.fall, walks[q]);
+        let bid = bid(guest.price, guest.fall, walks[q]);
+        bids[base + j] = bid.0;
         j += 1;
     }
 }
@@ -86,8 +95,8 @@ pub fn place_rows(
     let mut i = 0;
     while i < guest_first.len() {
         let guest = Guest {
-            price: prices[i],
-            fall: falls[i],
+            price: UnitPrice(prices[i]),
+            fall: Fall(falls[i]),
             cell: Cell {
                 first: guest_first[i],
                 second: guest_second[i],

@@ -31,16 +31,16 @@ module _ {walks : List ℕ} {guest : Guest} {firsts seconds : List ℕ} {base : 
   walked : getD walks q 0 ≡ walk q
   walked = element (maxSquaredDistance + 1) walk (s .walks-are) q in-table
 
-  pub loss-fits : guest .fall * getD walks q 0 < 2 ^ 32
+  pub loss-fits : guest .fall .0 * getD walks q 0 < 2 ^ 32
   loss-fits =
       let low : q ≤ maxSquaredDistance = omega (arith, in-table) in
       rw walked (omega (arith, mul-le-mul (s .fall-most) (walk-most q low)))
 
   pub bid-is :
-      {v : ℕ} → v ≡ guest .price - guest .fall * getD walks q 0
-      → v ≡ bidBetween (guest .price) (guest .fall) (guest .cell) (cell (getD firsts j 0) (getD seconds j 0))
+      {v : ℕ} → v ≡ guest .price .0 - guest .fall .0 * getD walks q 0
+      → v ≡ bidBetween (guest .price .0) (guest .fall .0) (guest .cell) (cell (getD firsts j 0) (getD seconds j 0))
   unfolding bidBetween
-  bid-is f = f ∙ ap (λ w. guest .price - guest .fall * w) (walked ∙ ap walk e)
+  bid-is f = f ∙ ap (λ w. guest .price .0 - guest .fall .0 * w) (walked ∙ ap walk e)
 
 -- ---- one row
 
@@ -57,7 +57,7 @@ row-long guest firsts seconds = length-list (length firsts) _
 row-at :
     (guest : Guest) (firsts seconds : List ℕ) (j : ℕ) → j < length firsts
     → getD (rowBids guest firsts seconds) j 0
-    ≡ bidBetween (guest .price) (guest .fall) (guest .cell) (cell (getD firsts j 0) (getD seconds j 0))
+    ≡ bidBetween (guest .price .0) (guest .fall .0) (guest .cell) (cell (getD firsts j 0) (getD seconds j 0))
 unfolding rowBids
 row-at guest firsts seconds j l = getD-list (length firsts) _ j l
 
@@ -80,7 +80,7 @@ module _ {guest : Guest} {firsts seconds bids₀ bids : List ℕ} {base j : ℕ}
 
   pub row-turn :
       {v : ℕ} → j < length firsts
-      → v ≡ bidBetween (guest .price) (guest .fall) (guest .cell) (cell (getD firsts j 0) (getD seconds j 0))
+      → v ≡ bidBetween (guest .price .0) (guest .fall .0) (guest .cell) (cell (getD firsts j 0) (getD seconds j 0))
       → RowSoFar guest firsts seconds bids₀ (set bids (base + j) v) base (j + 1)
   row-turn {v} l e = record {
     within = omega arith;
@@ -102,7 +102,11 @@ pub record RowsSoFar (p : Places) (bids₀ bids : List ℕ) (i : ℕ) : Type 0 w
   pub is : bids ≡ joined i (λ k. list (stationsPlaced p) (placedBid p k)) ++ drop (i * stationsPlaced p) bids₀
 
 unfoldable pub guestOf : Places → ℕ → Guest
-guestOf p i = record { price = getD (p .prices) i 0; fall = getD (p .falls) i 0; cell = guestCell p i }
+guestOf p i = record {
+  price = record { 0 = getD (p .prices) i 0 };
+  fall = record { 0 = getD (p .falls) i 0 };
+  cell = guestCell p i;
+}
 
 pub rows-none :
     {p : Places} {bids : List ℕ} → length bids ≡ guestsPlaced p * stationsPlaced p → RowsSoFar p bids bids 0

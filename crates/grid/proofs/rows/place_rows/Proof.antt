@@ -29,15 +29,6 @@ test-before-guest p = p .before .before .before .before
 loop-holds : tie.Need-loop-holds Inv-loop μ-loop
 loop-holds c = rows-none (entry-before-walks c .pre .bids-length)
 
-shared-slice-read-t16 : tie.Need-shared-slice-read-t16 Inv-loop μ-loop
-shared-slice-read-t16 c = omega (arith, entry-before-test (c .before) .pre .prices-length)
-
-shared-slice-read-t19 : tie.Need-shared-slice-read-t19 Inv-loop μ-loop
-shared-slice-read-t19 c = omega (arith, entry-before-test (c .before .before) .pre .falls-length)
-
-shared-slice-read-t25 : tie.Need-shared-slice-read-t25 Inv-loop μ-loop
-shared-slice-read-t25 c = omega (arith, entry-before-test (test-before-guest c) .pre .guest-second-length)
-
 mul-place-row : tie.Need-mul-place-row Inv-loop μ-loop
 mul-place-row c =
     let at-test = test-before-guest (c .before) in
@@ -67,7 +58,10 @@ loop-again c =
 
 pub place-rows-spec : {M : Type 1} → statement M
 place-rows-spec =
-    tie.close (tie.spec Inv-loop μ-loop (λ c κs. search needs) loop-holds (λ c. search needs) shared-slice-read-t16
-    (λ c. search needs) shared-slice-read-t19 (λ c. search needs) (λ c. search needs) (λ c. search needs)
-    shared-slice-read-t25 mul-place-row place-row-requires (λ c. search needs) (λ c. search needs) loop-again
+    tie.close (tie.spec Inv-loop μ-loop (λ c κs. search needs) loop-holds
+    (λ c. search needs) (λ c. omega (arith, entry-before-test (c .before) .pre .prices-length))
+    (λ c. search needs) (λ c. omega (arith, entry-before-test (c .before .before) .pre .falls-length))
+    (λ c. search needs) (λ c. search needs)
+    (λ c. search needs) (λ c. omega (arith, entry-before-test (test-before-guest c) .pre .guest-second-length))
+    mul-place-row place-row-requires (λ c. search needs) (λ c. search needs) loop-again
     (λ c. rows-same (c .before .loop .inv)) (λ c. rows-end (c .before .loop .inv) (c .loop-test .left)))
