@@ -3,7 +3,7 @@
 use Prim.Native.Nat.{ℕ, _≤_}
 use mathlib.Core.List.{[], _∷_, map}
 use mathlib.Core.Path.{_≡_}
-use lib.ListN.{replicate}
+use lib.ListN.{getD, replicate}
 use Rattle.model.specs.Verdicts.{accepted, refused, firstFault, giving}
 use Rattle.model.specs.market.Market.{Tables, regular}
 use Rattle.model.specs.market.Faults.{verdict, Accepted}
@@ -51,7 +51,7 @@ pub record PlacedInstance : Type 0 where
   pub placed : Placed twoByTwo (placedMarket .bids)
   pub other-tables : Accepted (withoutBids placedMarket)
   pub market : Accepted placedMarket
-  pub nearer : 50 ≤ 100
+  pub nearer : getD (placedMarket .bids) 0 0 ≤ getD (placedMarket .bids) 1 0
 
 -- one guest and one station: price, fall, and the four coordinates
 abbrev one : (price fall guestFirst guestSecond stationFirst stationSecond : ℕ) → Places
