@@ -22,6 +22,8 @@ scripts/refusals --check
 tests/lines.py
 # the proofs that are generated are as their descriptions have them
 tools/walks/walks.py --check
+# and so is the table of walks
+tools/walk_table.py --check
 cargo fmt --all --check --manifest-path rust/Cargo.toml
 if command -v shellcheck >/dev/null; then
     shellcheck clear test bench scripts/* tests/*.sh tests/wrong_program .ci/run

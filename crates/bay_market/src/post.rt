@@ -8,7 +8,7 @@ ghost use Rattle.model.specs.book.Posting.{posting};
 ghost use Rattle.model.specs.contracts.Lent.{tablesIn, bookIn, bookOut};
 ghost use Rattle.model.specs.contracts.PostsOut.{PostsOut};
 
-fn reply_number(reply: Verdict) -> u8
+pub fn reply_number(reply: Verdict) -> u8
     ensures { λ k. ⌜ k ≡ numberOf (answerOfVerdict reply) ⌝ }
 {
     match reply {

@@ -1,4 +1,4 @@
 // The checks of a market that every call on one makes first.
 pub mod faults;
-mod scans;
+pub mod scans;
 pub mod tickets;

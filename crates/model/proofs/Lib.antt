@@ -7,4 +7,5 @@ pub mod cases
 pub mod claims
 pub mod contracts
 pub mod market
+pub mod places
 pub mod sheet

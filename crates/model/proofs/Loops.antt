@@ -3,7 +3,7 @@ use Prim.Native.Nat.{ℕ, _+_, _*_, _≤_, _<_, max}
 use mathlib.Core.Bool.{Bool, true, false, _||_}
 use mathlib.Core.List.{List}
 use mathlib.Core.Logic.{_⊎_, ⊎-elim}
-use mathlib.Core.Path.{_≡_, refl, sym, ap, _∙_}
+use mathlib.Core.Path.{_≡_, refl, sym, ap, ap₂, _∙_}
 use native.Mathlib.Nat.{le-antisymm, mul-le-mul-right}
 use native.Mathlib.Numerals.{add-one}
 use native.Mathlib.Omega.{arith}
@@ -83,6 +83,9 @@ pub or-is : (a b : Bool) → (a || b) ≡ (a or b)
 unfolding _or_
 or-is true b = refl
 or-is false b = refl
+
+pub either-is : {a b x y : Bool} → a ≡ x → b ≡ y → (a || b) ≡ (x or y)
+either-is e f = or-is _ _ ∙ ap₂ _or_ e f
 
 pub scan-none : (f : ℕ → Bool) → false ≡ some 0 f
 unfolding some

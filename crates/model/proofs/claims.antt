@@ -1,5 +1,6 @@
 pub mod Calls
 pub mod Existence
+pub mod Places
 pub mod Postings
 pub mod Sheets
 pub mod Truth

@@ -1,6 +1,7 @@
 pub mod Accepts
 pub mod Clears
 pub mod ClearsOut
+pub mod PlacesBids
 pub mod Reads
 pub mod ReadsOut
 pub mod Rows

@@ -7,5 +7,6 @@ pub mod cases
 pub mod claims
 pub mod contracts
 pub mod market
+pub mod places
 pub mod sheet
 pub mod text

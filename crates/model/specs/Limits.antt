@@ -9,7 +9,7 @@ maxGuests = 200
 abbrev pub maxStations : ℕ
 maxStations = 40
 
--- of an ask and of a bid, in mills per kWh
+-- of an ask, a bid and a stated price, in mills per kWh, and of a fall, in mills per tenth of a cell
 abbrev pub maxPrice : ℕ
 maxPrice = 1_000_000
 
@@ -42,6 +42,13 @@ maxSheet = 34_444
 abbrev pub maxPage : ℕ
 maxPage = maxSheet
 
+-- of a cell's coordinates, and of the squared distance of two cells
+abbrev pub maxCell : ℕ
+maxCell = 31
+
+abbrev pub maxSquaredDistance : ℕ
+maxSquaredDistance = 1_922
+
 abbrev pub limits : Limits
 limits = record {
   guests = maxGuests;
@@ -54,4 +61,6 @@ limits = record {
   bids = maxBids;
   sheet = maxSheet;
   page = maxPage;
+  cell = maxCell;
+  square = maxSquaredDistance;
 }

@@ -15,6 +15,7 @@ use Rattle.model.specs.declared.refusal.Refusal.the-variants.{TrailingBy
 use Rattle.model.specs.declared.refusal.Refusal.the-variants.{BaysOutOfRange, AmountOutOfRange, BidOutOfRange}
 use Rattle.model.specs.declared.refusal.Refusal.the-variants.{LentLengths, RoundOutOfTurn, AccountOverLimit}
 use Rattle.model.specs.declared.refusal.Refusal.the-variants.{BookSize, OutputTooShort, TicketsRepeat}
+use Rattle.model.specs.declared.refusal.Refusal.the-variants.{CellOffGrid, PriceOrFallOutOfRange}
 
 abbrev pub number : Refusal → ℕ
 number SheetEnds = 1
@@ -32,6 +33,8 @@ number AccountOverLimit = 12
 number BookSize = 13
 number OutputTooShort = 14
 number TicketsRepeat = 15
+number CellOffGrid = 16
+number PriceOrFallOutOfRange = 17
 
 -- of the reader: n and m
 unfoldable pub answerOfReading : Reading → Answer (ℕ × ℕ)

@@ -1,4 +1,5 @@
 pub mod Cases
 pub mod Instances
+pub mod Places
 pub mod Sheets
 pub mod Texts

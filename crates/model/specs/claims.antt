@@ -1,5 +1,6 @@
 pub mod Calls
 pub mod Meaning
+pub mod Places
 pub mod Postings
 pub mod Sheets
 pub mod Truth

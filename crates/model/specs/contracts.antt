@@ -1,6 +1,8 @@
 pub mod Clears
 pub mod ClearsOut
 pub mod Lent
+pub mod PlacesBids
+pub mod PlacesBidsOut
 pub mod Posts
 pub mod PostsOut
 pub mod Prints

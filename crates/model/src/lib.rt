@@ -2,6 +2,7 @@
 // proofs/. Here stand the types that they cite.
 pub mod account;
 pub mod answers;
+pub mod cell;
 pub mod limits;
 pub mod money;
 pub mod page;

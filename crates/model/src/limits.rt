@@ -24,6 +24,11 @@ pub const MAX_SHEET: usize = 34_444;
 
 pub const MAX_PAGE: usize = MAX_SHEET;
 
+// A coordinate of a cell, and the squared distance of two cells.
+pub const MAX_CELL: u16 = 31;
+
+pub const MAX_SQUARED_DISTANCE: usize = 1_922;
+
 pub struct Limits {
     pub guests: usize,
     pub stations: usize,
@@ -35,6 +40,8 @@ pub struct Limits {
     pub bids: usize,
     pub sheet: usize,
     pub page: usize,
+    pub cell: u16,
+    pub square: usize,
 }
 
 // The constants, proved to be the limits that specs/ has.
@@ -52,6 +59,8 @@ pub fn stated_limits() -> Limits
         bids: MAX_BIDS,
         sheet: MAX_SHEET,
         page: MAX_PAGE,
+        cell: MAX_CELL,
+        square: MAX_SQUARED_DISTANCE,
     }
 }
 

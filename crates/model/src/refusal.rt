@@ -19,6 +19,8 @@ pub enum Refusal {
     BookSize,
     OutputTooShort,
     TicketsRepeat,
+    CellOffGrid,
+    PriceOrFallOutOfRange,
 }
 
 impl Refusal {
@@ -42,6 +44,8 @@ impl Refusal {
             Refusal::BookSize => 13,
             Refusal::OutputTooShort => 14,
             Refusal::TicketsRepeat => 15,
+            Refusal::CellOffGrid => 16,
+            Refusal::PriceOrFallOutOfRange => 17,
         }
     }
 }

@@ -20,6 +20,9 @@ use Rattle.model.specs.sheet.Rows.{rowFaults, rowsFaults}
 use Rattle.model.specs.sheet.Content.{guests, stations, tablesOf, sheetFaults, readSheet}
 use Rattle.model.specs.sheet.Layout.{bytesOf, pack, station, stated, row, layout}
 use Rattle.model.specs.sheet.Shortest.{bidden, shortest, writingFaults}
+use Rattle.model.specs.places.Bids.{difference, squaredDistance, walk, bidBetween, guestCell, stationCell}
+use Rattle.model.specs.places.Bids.{placedBid, placedBids}
+use Rattle.model.specs.places.Faults.{placeLengths, placeValues, placingFaults}
 use Rattle.model.specs.contracts.Reads.{tableLengths, readVerdict}
 use Rattle.model.specs.text.Decimal.{higher, digits, decimal, field}
 use Rattle.model.specs.text.Lines.{guestLine, stationLine, guestLines, stationLines}
@@ -52,6 +55,11 @@ unfoldable pub writing-computes : Unit {0}
 unfolding counting-computes outside repeats counts lengths values marketFaults bidAt mapWidth bytesOf pack station
     stated row layout bidden shortest writingFaults
 writing-computes = tt
+
+unfoldable pub placing-computes : Unit {0}
+unfolding counting-computes outside counts difference squaredDistance walk bidBetween guestCell stationCell placedBid
+    placedBids placeLengths placeValues placingFaults
+placing-computes = tt
 
 unfoldable pub printing-computes : Unit {0}
 unfolding clearing-computes reading-computes writing-computes higher digits decimal field guestLine stationLine

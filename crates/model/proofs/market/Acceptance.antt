@@ -42,15 +42,15 @@ pub not-outside : (low high x : ℕ) → low ≤ x → x ≤ high → outside lo
 unfolding outside
 not-outside low high x l h = neither (not-lt _ _ l) (not-lt _ _ h)
 
-all-inside :
+pub all-inside :
     (low high : ℕ) (xs : List ℕ) → any xs (outside low high) ≡ false → (k : ℕ) → k < length xs
     → (low ≤ getD xs k 0) × (getD xs k 0 ≤ high)
 all-inside low high xs e k l = inside low high _ (any-no xs _ e k l)
 
-equal : (a b : ℕ) → not (a =? b) ≡ false → a ≡ b
+pub equal : (a b : ℕ) → not (a =? b) ≡ false → a ≡ b
 equal a b e = eq-yes a b (not-false _ e)
 
-not-unequal : (a b : ℕ) → a ≡ b → not (a =? b) ≡ false
+pub not-unequal : (a b : ℕ) → a ≡ b → not (a =? b) ≡ false
 not-unequal a b e = ap not (is-eq a b e)
 
 pub repeats-no : (xs : List ℕ) → repeats xs ≡ false → Differ xs

@@ -1,18 +1,32 @@
 -- Laws of lists that stand one after the other.
-use Prim.Native.Nat.{ℕ, zero, suc, _*_, _≤_, _<_}
+use Prim.Native.Nat.{ℕ, zero, suc, _+_, _*_, _≤_, _<_}
 use mathlib.Core.List.{List, [], _++_, append-nil}
 use mathlib.Core.Logic.{⊎-elim}
-use mathlib.Core.Path.{_≡_, refl, ap₂, _∙_}
-use native.Mathlib.Nat.{eq-or-lt-of-le, le-of-suc-le-suc}
+use mathlib.Core.Path.{_≡_, refl, sym, ap, ap₂, _∙_}
+use native.Mathlib.Nat.{eq-or-lt-of-le, le-of-suc-le-suc, not-suc-le-zero, mul-le-mul-right}
 use native.Mathlib.Omega.{arith}
-use lib.ListN.{length, length-append}
+use lib.ListN.{length, getD, length-append, List·getD-append}
+use lib.Seq.{getD-append-add}
 use Rattle.model.specs.Counting.{list, joined}
-use Rattle.model.proofs.Counting.{up, here, length-list}
+use Rattle.model.proofs.Counting.{up, here, length-list, getD-list}
 
 pub joined-length : (n m : ℕ) (f : ℕ → ℕ → ℕ) → length (joined n (λ i. list m (f i))) ≡ n * m
 unfolding joined
 joined-length zero m f = omega arith
 joined-length (suc n) m f = simp (length-append, length-list) (omega (arith, joined-length n m f))
+
+-- what stands in row i at place j
+pub getD-joined :
+    (n m : ℕ) (f : ℕ → ℕ → ℕ) (i j : ℕ) → i < n → j < m → getD (joined n (λ i. list m (f i))) (i * m + j) 0 ≡ f i j
+unfolding joined
+getD-joined zero m f i j l k = absurd (not-suc-le-zero l)
+getD-joined (suc n) m f i j l k = ⊎-elim
+    (λ (e : i ≡ n). rw e (ap (λ z. getD (joined n (λ i. list m (f i)) ++ list m (f n)) (z + j) 0)
+    (sym (joined-length n m f))
+    ∙ getD-append-add (joined n (λ i. list m (f i))) (list m (f n)) j 0 ∙ getD-list m (f n) j k))
+    (λ (h : i < n). List·getD-append (joined n (λ i. list m (f i))) _ 0 (i * m + j)
+    (omega (arith, joined-length n m f, mul-le-mul-right m h)) ∙ getD-joined n m f i j h k)
+    (eq-or-lt-of-le (le-of-suc-le-suc l))
 
 pub joined-cong : (n : ℕ) (f g : ℕ → List ℕ) → ((i : ℕ) → i < n → f i ≡ g i) → joined n f ≡ joined n g
 unfolding joined

@@ -1,14 +1,14 @@
 -- A sheet is read as a market exactly where it states that market.
 use Prim.Native.Nat.{ℕ, zero, suc, _+_, _*_, _/_, _%_, _<_, _≤_}
 use mathlib.Core.Bool.{Bool, true, false}
-use mathlib.Core.List.{List, _++_}
+use mathlib.Core.List.{List}
 use mathlib.Core.Logic.{⊎-elim}
 use mathlib.Core.Path.{_≡_, refl, sym, ap, _∙_, subst}
-use native.Mathlib.Nat.{not-suc-le-zero, eq-or-lt-of-le, le-of-suc-le-suc, le-antisymm, div-add-mod', div-lt-iff-lt-mul}
-use native.Mathlib.Nat.{mod-lt, mul-le-mul-right}
+use native.Mathlib.Nat.{eq-or-lt-of-le, le-of-suc-le-suc, le-antisymm, div-add-mod', div-lt-iff-lt-mul}
+use native.Mathlib.Nat.{mod-lt}
 use native.Mathlib.Omega.{arith}
-use lib.ListN.{length, getD, List·getD-append}
-use lib.Seq.{ext-getD, getD-append-add}
+use lib.ListN.{length, getD}
+use lib.Seq.{ext-getD}
 use Rattle.model.specs.Counting.{only, list, joined}
 use Rattle.model.specs.market.Market.{Tables, bidAt}
 use Rattle.model.specs.Verdicts.{accepted, firstFault}
@@ -20,7 +20,7 @@ use Rattle.model.specs.sheet.Rows.{mapAt, bidsAt, nextAt, rowAt, askOf, 
 use Rattle.model.specs.sheet.Rows.{bidOf, rowsFaults}
 use Rattle.model.proofs.sheet.Rows.{bids-at, RowSound, sound-row, sound-at, rows-none, rows-suc, first-row}
 use Rattle.model.proofs.sheet.Fields.{number-low}
-use Rattle.model.proofs.sheet.Joined.{joined-length}
+use Rattle.model.proofs.sheet.Joined.{joined-length, getD-joined}
 use Rattle.model.specs.sheet.Content.{guests, stations, tablesOf, sheetFaults, readSheet}
 use Rattle.model.proofs.sheet.Faults.{counts-good, whole, Sound, sheet-sound}
 use Rattle.model.specs.sheet.Layout.{Fitting, States, Bytes, ReadsExactlyWhatIsStated, StatesOneMarket}
@@ -33,18 +33,6 @@ list-is : (n : ℕ) (f : ℕ → ℕ) (l : List ℕ) → length l ≡ n → ((k 
 list-is n f l e h =
     ext-getD 0 (list n f) l (length-list n f ∙ sym e)
     (λ k b. let c : k < n = omega (arith, length-list n f) in getD-list n f k c ∙ h k c)
-
-getD-joined :
-    (n m : ℕ) (f : ℕ → ℕ → ℕ) (i j : ℕ) → i < n → j < m → getD (joined n (λ i. list m (f i))) (i * m + j) 0 ≡ f i j
-unfolding joined
-getD-joined zero m f i j l k = absurd (not-suc-le-zero l)
-getD-joined (suc n) m f i j l k = ⊎-elim
-    (λ (e : i ≡ n). rw e (ap (λ z. getD (joined n (λ i. list m (f i)) ++ list m (f n)) (z + j) 0)
-    (sym (joined-length n m f))
-    ∙ getD-append-add (joined n (λ i. list m (f i))) (list m (f n)) j 0 ∙ getD-list m (f n) j k))
-    (λ (h : i < n). List·getD-append (joined n (λ i. list m (f i))) _ 0 (i * m + j)
-    (omega (arith, joined-length n m f, mul-le-mul-right m h)) ∙ getD-joined n m f i j h k)
-    (eq-or-lt-of-le (le-of-suc-le-suc l))
 
 joined-is :
     (n m : ℕ) (f : ℕ → ℕ → ℕ) (l : List ℕ) → 0 < m → length l ≡ n * m

@@ -8,6 +8,7 @@ use Rattle.model.specs.market.Market.{Tables, tables, regular}
 use Rattle.model.specs.market.Outcome.{Results, results}
 use Rattle.model.specs.book.Book.{Book, book}
 use Rattle.model.specs.contracts.Reads.{LentTables, lentTables}
+use Rattle.model.specs.places.Bids.{Places, places}
 use Rattle.model.specs.declared.account.StationAccount.{StationAccount}
 
 -- a lent value, as an `ensures` names it
@@ -55,3 +56,13 @@ lentTablesIn amounts tickets asks bays bids =
 abbrev pub lentTablesOut : (amounts tickets asks bays bids : Lent (List ℕ)) → LentTables
 lentTablesOut amounts tickets asks bays bids =
     lentTables (now (amounts .exit)) (now (tickets .exit)) (now (asks .exit)) (now (bays .exit)) (now (bids .exit))
+
+-- prices, falls and cells
+abbrev pub placesOf : (prices falls guestFirst guestSecond stationFirst stationSecond : RefT (List ℕ)) → Places
+placesOf prices falls guestFirst guestSecond stationFirst stationSecond =
+    places (now prices) (now falls) (now guestFirst) (now guestSecond) (now stationFirst) (now stationSecond)
+
+abbrev pub placesIn : (prices falls guestFirst guestSecond stationFirst stationSecond : Lent (List ℕ)) → Places
+placesIn prices falls guestFirst guestSecond stationFirst stationSecond =
+    placesOf (prices .entry) (falls .entry) (guestFirst .entry) (guestSecond .entry) (stationFirst .entry)
+    (stationSecond .entry)

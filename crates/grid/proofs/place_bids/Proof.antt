@@ -1,0 +1,46 @@
+-- Nothing is written before the last check.
+use mathlib.Core.Path.{_≡_, sym}
+use borrow.Author.Needs.{needs}
+use Rattle.model.specs.Numbers.{answerOfVerdict}
+use Rattle.model.specs.Verdicts.{accepted}
+use Rattle.model.specs.places.Bids.{Places, places}
+use Rattle.model.specs.contracts.PlacesBids.{placingVerdict}
+use Rattle.model.proofs.Verdicts.{told}
+use Rattle.model.proofs.contracts.PlacesBids.{refuses-places, places-bids}
+use Rattle.model.proofs.places.Acceptance.{placing-accepted-iff-within-limits}
+use Rattle.grid.proofs.place_bids.Statement.{statement}
+use Rattle.grid.proofs.place_bids.Tie as tie
+
+abbrev entry-before-fault : tie.After-placing-fault → tie.Start
+entry-before-fault p = p .before .before .before .before .before .before .before .before
+
+abbrev placesAt : tie.Start → Places
+placesAt c =
+    places (c .args .prices .now) (c .args .falls .now) (c .args .guest-first .now) (c .args .guest-second .now)
+    (c .args .station-first .now) (c .args .station-second .now)
+
+is-accepted : (c : tie.After-enum-told) →
+    let entry = entry-before-fault (c .before .before) in
+    placingVerdict (placesAt entry) (entry .args .bids .now) ≡ accepted tt
+unfolding placingVerdict answerOfVerdict
+is-accepted c = sym (told (c .enum-told .given .1) (c .before .before .placing-fault .ensures))
+
+place-rows-requires : tie.Need-place-rows-requires
+unfolding placingVerdict
+place-rows-requires c κs = placing-accepted-iff-within-limits _ _ .0 (is-accepted (c .before))
+
+returns : tie.Need-returns
+unfolding placingVerdict answerOfVerdict
+returns c =
+    let at-fault = c .before .before .before in
+    refuses-places _ _ _ (sym (told (c .before .refusal .given .1) (at-fault .placing-fault .ensures)))
+
+returns-2 : tie.Need-returns-2
+returns-2 c =
+    let at-rows = c .before .before in
+    places-bids _ _ _ (is-accepted (at-rows .before .before)) (at-rows .place-rows .ensures)
+
+pub place-bids-spec : {M : Type 1} → statement M
+place-bids-spec =
+    tie.close (tie.spec (λ c κs. search needs) (λ c. search needs) (λ c. search needs) place-rows-requires returns
+    (λ c. search needs) returns-2)

@@ -1,0 +1,118 @@
+-- Request 3, proved: what an accepted call left are the placed bids, and each is within its guest's price.
+use Prim.Native.Nat.{ℕ, _+_, _*_, _≤_, _<_}
+use mathlib.Core.List.{List}
+use mathlib.Core.Path.{_≡_, sym, ap, _∙_}
+use native.Mathlib.Nat.{mul-le-mul-left, div-add-mod', div-lt-iff-lt-mul, mod-lt, le-trans}
+use native.Mathlib.Omega.{arith}
+use lib.ListN.{getD, length, replicate, length-replicate, getD-replicate}
+use Rattle.model.specs.Limits.{maxPrice}
+use Rattle.model.specs.Verdicts.{accepted}
+use Rattle.model.specs.market.Market.{Tables, tables, bidAt}
+use Rattle.model.specs.market.Faults.{Accepted}
+use Rattle.model.specs.places.Bids.{squaredDistance, bidBetween, Places, guestsPlaced, stationsPlaced}
+use Rattle.model.specs.places.Bids.{placedBid, placedBids}
+use Rattle.model.specs.contracts.PlacesBids.{placingVerdict}
+use Rattle.model.specs.claims.Places.{NearerNeverLowers, PlacesWithinLimits, Placed, PlacedBidsAreRead}
+use Rattle.model.specs.claims.Places.{PlacedWithinPrice, PlacedNearerNeverLowers, withoutBids}
+use Rattle.model.specs.claims.Places.{PlacedMarketAccepted}
+use Rattle.model.proofs.Verdicts.{updated-accepted}
+use Rattle.model.proofs.market.Acceptance.{accepted-iff-within-limits}
+use Rattle.model.proofs.sheet.Joined.{joined-length, getD-joined}
+use Rattle.model.proofs.places.Acceptance.{placing-accepted-iff-within-limits}
+use Rattle.model.proofs.places.Walks.{walk-mono}
+
+pub nearer-never-lowers : NearerNeverLowers
+unfolding bidBetween
+nearer-never-lowers price fall guest station guest′ station′ l =
+    omega (arith, mul-le-mul-left fall (walk-mono (squaredDistance guest station) (squaredDistance guest′ station′) l))
+
+-- an accepted market with other bids, as many and within the limit, is accepted
+exchanged :
+    (t : Tables) (bids : List ℕ) → length bids ≡ length (t .bids)
+    → ((k : ℕ) → k < length bids → getD bids k 0 ≤ maxPrice) → Accepted t
+    → Accepted (tables (t .asks) (t .bays) (t .amounts) (t .tickets) bids (t .width))
+exchanged t bids long low a =
+    let w = accepted-iff-within-limits t .0 a in
+    accepted-iff-within-limits (tables (t .asks) (t .bays) (t .amounts) (t .tickets) bids (t .width)) .1 record {
+      shape = record {
+        guests-most = w .shape .guests-most;
+        stations-least = w .shape .stations-least;
+        stations-most = w .shape .stations-most;
+        bays-length = w .shape .bays-length;
+        tickets-length = w .shape .tickets-length;
+        bids-length = long ∙ w .shape .bids-length;
+        width-is = w .shape .width-is;
+      };
+      ask-most = w .ask-most;
+      bays-least = w .bays-least;
+      bays-most = w .bays-most;
+      amount-least = w .amount-least;
+      amount-most = w .amount-most;
+      tickets-differ = w .tickets-differ;
+      bid-most = low;
+    }
+
+-- ---- what an accepted call left
+
+module _ (p : Places) (bids : List ℕ) (c : Placed p bids) where
+  found : placingVerdict p (c .entry) ≡ accepted tt
+  found = sym (c .called .answered) ∙ c .accepts
+
+  limits : PlacesWithinLimits p (length (c .entry))
+  unfolding placingVerdict
+  limits = placing-accepted-iff-within-limits p (length (c .entry)) .0 found
+
+  bids-are : bids ≡ placedBids p
+  bids-are = c .called .left ∙ updated-accepted _ _ found
+
+  bids-long : length bids ≡ guestsPlaced p * stationsPlaced p
+  unfolding placedBids
+  bids-long = ap length bids-are ∙ joined-length (guestsPlaced p) (stationsPlaced p) (placedBid p)
+
+  bid-is :
+      (i j : ℕ) → i < guestsPlaced p → j < stationsPlaced p
+      → getD bids (i * stationsPlaced p + j) 0 ≡ placedBid p i j
+  unfolding placedBids
+  bid-is i j li lj =
+      ap (λ l. getD l (i * stationsPlaced p + j) 0) bids-are
+      ∙ getD-joined (guestsPlaced p) (stationsPlaced p) (placedBid p) i j li lj
+
+  within-price :
+      (i j : ℕ) → i < guestsPlaced p → j < stationsPlaced p
+      → getD bids (i * stationsPlaced p + j) 0 ≤ getD (p .prices) i 0
+  unfolding placedBid bidBetween
+  within-price i j li lj = rw (bid-is i j li lj) (omega arith)
+
+  -- every place of the table is some guest's at some station
+  bid-most : (k : ℕ) → k < length bids → getD bids k 0 ≤ maxPrice
+  bid-most k l =
+      let some : 0 < stationsPlaced p = limits .stations-least in
+      let inside : k < guestsPlaced p * stationsPlaced p = omega (arith, bids-long) in
+      let i = div-lt-iff-lt-mul some .1 inside in
+      rw (div-add-mod' k (stationsPlaced p)) at (le-trans (within-price _ _ i (mod-lt k some)) (limits .price-most _ i))
+
+-- ---- the statements
+
+pub placed-bids-are-read : PlacedBidsAreRead
+unfolding bidAt
+placed-bids-are-read p t c e i j li lj = rw e (bid-is p (t .bids) c i j li lj)
+
+pub placed-within-price : PlacedWithinPrice
+placed-within-price = within-price
+
+pub placed-nearer-never-lowers : PlacedNearerNeverLowers
+unfolding placedBid
+placed-nearer-never-lowers p p′ bids bids′ c c′ i j i′ j′ li lj li′ lj′ price fall near =
+    rw (bid-is p bids c i j li lj, bid-is p′ bids′ c′ i′ j′ li′ lj′, price, fall)
+    (nearer-never-lowers _ _ _ _ _ _ near)
+
+pub placed-market-accepted : PlacedMarketAccepted
+unfolding withoutBids
+placed-market-accepted p t c = (
+  (λ a. exchanged t (replicate (length (t .bids)) 0) as-long
+      (λ k l. omega (arith, getD-replicate {A = ℕ} (length (t .bids)) k 0 0 (omega (arith, as-long)))) a),
+  exchanged (withoutBids t) (t .bids) (sym as-long) (bid-most p (t .bids) c),
+)
+  where
+    as-long : length (replicate {A = ℕ} (length (t .bids)) 0) ≡ length (t .bids)
+    as-long = length-replicate {A = ℕ} (length (t .bids)) 0

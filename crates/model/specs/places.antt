@@ -1,0 +1,2 @@
+pub mod Bids
+pub mod Faults
