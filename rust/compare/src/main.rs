@@ -51,7 +51,7 @@ const PARTS: [Part; 8] = [
     Part { name: "read", run: reading::run, cases: 6_000 },
     Part { name: "write", run: writing::run, cases: 12_000 },
     Part { name: "trip", run: reading::run_trips, cases: 6_000 },
-    Part { name: "place_bids", run: placing::run, cases: 6_000 },
+    Part { name: "place_bids", run: placing::run, cases: 12_000 },
     Part { name: "clear", run: clearing::run, cases: 20_000 },
     Part { name: "post", run: posting::run, cases: 4_000 },
     Part { name: "truth", run: truth::run, cases: 3_000 },

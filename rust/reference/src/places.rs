@@ -49,12 +49,12 @@ pub fn walk(q: u128) -> u128 {
     (100 * q).isqrt()
 }
 
-/// The bid of a guest at a station, both numbered from 1.
+/// The bid of a guest at a station, both numbered from 1: price less fall times walk, or 0 where that is negative.
 fn bid(places: &Places, guest: usize, station: usize) -> u128 {
     let price = u128::from(places.prices[guest - 1]);
     let fall = u128::from(places.falls[guest - 1]);
     let lost = fall * walk(squared_distance(places.guest(guest), places.station(station)));
-    if lost > price { 0 } else { price - lost }
+    price.saturating_sub(lost)
 }
 
 /// The first fault of a call with a bid table of so many places, by its number.
