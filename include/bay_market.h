@@ -1,5 +1,6 @@
 /*
- * The bay market: reading and writing market sheets, clearing a market, posting it to a ledger.
+ * The bay market: reading and writing market sheets, placing bids from parking places, clearing a market, posting it
+ * to a ledger.
  *
  * For x86-64 Linux: link libbay_market.a, or libbay_market.so. Both need memcpy and memset of the C library and
  * nothing else. Nothing is allocated; a call takes at most BAY_MARKET_MAX_STACK bytes of stack.
@@ -14,7 +15,8 @@
  *
  * MIND THE ORDER OF ARGUMENTS. bay_market_read takes amounts, tickets, asks, bays, bids, as the sheet's reader fills
  * them; bay_market_write, bay_market_clear and bay_market_post take asks, bays, amounts, tickets, bids. Amounts and
- * bays have one type, tickets, asks and bids another, so a compiler cannot see a swap.
+ * bays have one type, tickets, asks and bids another, so a compiler cannot see a swap. bay_market_place_bids takes
+ * prices, falls, then the guests' first and second coordinates, then the stations'.
  *
  * Prices are in mills (thousandths of the currency unit) per kWh, charges and payments in mills,
  * amounts in whole kWh. Guests and stations are numbered from 1; element 0 of a table is number 1. A ticket is any
@@ -36,9 +38,10 @@ extern "C" {
 #define BAY_MARKET_MAX_GUESTS 200
 #define BAY_MARKET_MAX_STATIONS 40
 #define BAY_MARKET_MAX_BIDS 8000                      /* guests times stations */
-#define BAY_MARKET_MAX_PRICE 1000000                  /* of an ask and of a bid */
+#define BAY_MARKET_MAX_PRICE 1000000                  /* of an ask, a bid, a price and a fall */
 #define BAY_MARKET_MAX_AMOUNT 1000
 #define BAY_MARKET_MAX_BAYS 200
+#define BAY_MARKET_MAX_CELL 31                        /* of a cell's coordinate; the least is 0 */
 #define BAY_MARKET_MAX_SHEET 34444                    /* bytes of the largest sheet */
 #define BAY_MARKET_MAX_ACCOUNT UINT64_C(1000000000000000)
 #define BAY_MARKET_MAX_ROUND UINT32_C(4294967295)
@@ -46,22 +49,24 @@ extern "C" {
 
 /* scripts/refusals writes what follows from refusals.txt */
 enum bay_market_refusal {
-    BAY_MARKET_ACCEPTED = 0,            /* accepted */
-    BAY_MARKET_SHEET_ENDS = 1,          /* the sheet ends inside a field */
-    BAY_MARKET_COUNTS_OUT_OF_RANGE = 2, /* more than 200 guests, no station, or more than 40 */
-    BAY_MARKET_STRAY_BIT = 3,           /* a bit map has a bit beyond the last station */
-    BAY_MARKET_TRAILING_BYTES = 4,      /* bytes follow the last row */
-    BAY_MARKET_LENGTHS_DIFFER = 5,      /* bays, tickets, bids or row width do not fit the counts */
-    BAY_MARKET_ASK_OUT_OF_RANGE = 6,    /* an ask is above 1,000,000 */
-    BAY_MARKET_BAYS_OUT_OF_RANGE = 7,   /* a station has no bays or more than 200 */
-    BAY_MARKET_AMOUNT_OUT_OF_RANGE = 8, /* an amount is 0 or above 1,000 */
-    BAY_MARKET_BID_OUT_OF_RANGE = 9,    /* a bid is above 1,000,000 */
-    BAY_MARKET_LENT_LENGTHS = 10,       /* the reader's tables or a result list have another length */
-    BAY_MARKET_ROUND_OUT_OF_TURN = 11,  /* the round is not the last one plus 1, or no round is left */
-    BAY_MARKET_ACCOUNT_OVER_LIMIT = 12, /* an account is above 10^15, or would be */
-    BAY_MARKET_BOOK_SIZE = 13,          /* the ledger has accounts beyond the limits, or fewer than the market needs */
-    BAY_MARKET_OUTPUT_TOO_SHORT = 14,   /* the output is shorter than the sheet */
-    BAY_MARKET_TICKETS_REPEAT = 15      /* two guests have the same ticket */
+    BAY_MARKET_ACCEPTED = 0,                    /* accepted */
+    BAY_MARKET_SHEET_ENDS = 1,                  /* the sheet ends inside a field */
+    BAY_MARKET_COUNTS_OUT_OF_RANGE = 2,         /* more than 200 guests, no station, or more than 40 */
+    BAY_MARKET_STRAY_BIT = 3,                   /* a bit map has a bit beyond the last station */
+    BAY_MARKET_TRAILING_BYTES = 4,              /* bytes follow the last row */
+    BAY_MARKET_LENGTHS_DIFFER = 5,              /* a list, the bid table or the row width does not fit the counts */
+    BAY_MARKET_ASK_OUT_OF_RANGE = 6,            /* an ask is above 1,000,000 */
+    BAY_MARKET_BAYS_OUT_OF_RANGE = 7,           /* a station has no bays or more than 200 */
+    BAY_MARKET_AMOUNT_OUT_OF_RANGE = 8,         /* an amount is 0 or above 1,000 */
+    BAY_MARKET_BID_OUT_OF_RANGE = 9,            /* a bid is above 1,000,000 */
+    BAY_MARKET_LENT_LENGTHS = 10,               /* the reader's tables or a result list have another length */
+    BAY_MARKET_ROUND_OUT_OF_TURN = 11,          /* the round is not the last one plus 1, or no round is left */
+    BAY_MARKET_ACCOUNT_OVER_LIMIT = 12,         /* an account is above 10^15, or would be */
+    BAY_MARKET_BOOK_SIZE = 13,                  /* the ledger is beyond the limits, or smaller than the market */
+    BAY_MARKET_OUTPUT_TOO_SHORT = 14,           /* the output is shorter than the sheet */
+    BAY_MARKET_TICKETS_REPEAT = 15,             /* two guests have the same ticket */
+    BAY_MARKET_CELL_OFF_GRID = 16,              /* a cell is off the grid: a coordinate is above 31 */
+    BAY_MARKET_PRICE_OR_FALL_OUT_OF_RANGE = 17  /* a price or fall is above 1,000,000 */
 };
 
 /* What an answer says. */
@@ -73,7 +78,7 @@ static inline const char *bay_market_refusal_text(uint8_t answer)
     case BAY_MARKET_COUNTS_OUT_OF_RANGE: return "more than 200 guests, no station, or more than 40";
     case BAY_MARKET_STRAY_BIT: return "a bit map has a bit beyond the last station";
     case BAY_MARKET_TRAILING_BYTES: return "bytes follow the last row";
-    case BAY_MARKET_LENGTHS_DIFFER: return "bays, tickets, bids or row width do not fit the counts";
+    case BAY_MARKET_LENGTHS_DIFFER: return "a list, the bid table or the row width does not fit the counts";
     case BAY_MARKET_ASK_OUT_OF_RANGE: return "an ask is above 1,000,000";
     case BAY_MARKET_BAYS_OUT_OF_RANGE: return "a station has no bays or more than 200";
     case BAY_MARKET_AMOUNT_OUT_OF_RANGE: return "an amount is 0 or above 1,000";
@@ -81,9 +86,11 @@ static inline const char *bay_market_refusal_text(uint8_t answer)
     case BAY_MARKET_LENT_LENGTHS: return "the reader's tables or a result list have another length";
     case BAY_MARKET_ROUND_OUT_OF_TURN: return "the round is not the last one plus 1, or no round is left";
     case BAY_MARKET_ACCOUNT_OVER_LIMIT: return "an account is above 10^15, or would be";
-    case BAY_MARKET_BOOK_SIZE: return "the ledger has accounts beyond the limits, or fewer than the market needs";
+    case BAY_MARKET_BOOK_SIZE: return "the ledger is beyond the limits, or smaller than the market";
     case BAY_MARKET_OUTPUT_TOO_SHORT: return "the output is shorter than the sheet";
     case BAY_MARKET_TICKETS_REPEAT: return "two guests have the same ticket";
+    case BAY_MARKET_CELL_OFF_GRID: return "a cell is off the grid: a coordinate is above 31";
+    case BAY_MARKET_PRICE_OR_FALL_OUT_OF_RANGE: return "a price or fall is above 1,000,000";
     default: return "not an answer of the engine";
     }
 }
@@ -128,6 +135,24 @@ uint8_t bay_market_write(const uint32_t *asks, size_t asks_len,
                          size_t width,
                          uint8_t *sheet, size_t sheet_len,
                          size_t *length);
+
+/*
+ * Places bids: fills a bid table from each guest's price and fall and from the cells of guests and stations. The table
+ * is cleared as any other. n is guest_first_len and m is station_first_len; a cell has a first and a second
+ * coordinate, 0 to 31 each. The walk between two cells, in tenths of a cell, is the greatest whole d with d times d at
+ * most 100 times their squared distance. Guest i's bid at station j, both from 0, is bids[i * m + j]: its price less
+ * its fall times the walk, or 0 where that is negative. A fall is in mills per kWh for each tenth of a cell.
+ *
+ * Refusals in this order: 2 for n or m; 5 where prices_len, falls_len or guest_second_len is not n, station_second_len
+ * is not m or bids_len is not n times m; 16 for any coordinate above 31; 17 for any price or fall above 1,000,000.
+ */
+uint8_t bay_market_place_bids(const uint32_t *prices, size_t prices_len,
+                              const uint32_t *falls, size_t falls_len,
+                              const uint16_t *guest_first, size_t guest_first_len,
+                              const uint16_t *guest_second, size_t guest_second_len,
+                              const uint16_t *station_first, size_t station_first_len,
+                              const uint16_t *station_second, size_t station_second_len,
+                              uint32_t *bids, size_t bids_len);
 
 /*
  * Clears a market. n is amounts_len and m is asks_len; guest i's bid at station j, both from 0, is

@@ -25,7 +25,7 @@ done
 given=$(nm -g --defined-only "$libraries/libbay_market.a" | awk 'NF == 3 { print $3 }' | sort | xargs)
 needed=$(nm -u "$libraries/libbay_market.a" | awk '$1 == "U" { print $2 }' | sort | xargs)
 shared=$(nm -D --defined-only "$libraries/libbay_market.so" | awk '{ print $3 }' | sort | xargs)
-[ "$given" = 'bay_market_clear bay_market_post bay_market_read bay_market_write' ]
+[ "$given" = 'bay_market_clear bay_market_place_bids bay_market_post bay_market_read bay_market_write' ]
 [ "$needed" = 'memcpy memset' ]
 [ "$shared" = "$given" ]
 

@@ -10,7 +10,7 @@ seed=20261115
 rm -rf "$wrong"
 mkdir -p "$wrong"
 (cd "$wrong" && ar x "$real/libbay_market.a")
-for function in read write clear post; do
+for function in read write place_bids clear post; do
     objcopy --redefine-sym "bay_market_$function=real_bay_market_$function" "$wrong/bay_market.o"
 done
 gcc -std=c11 -O1 -Wall -Wextra -Werror -fPIC -Iinclude -c tests/wrong_engine.c -o "$wrong/wrong_engine.o"
@@ -33,7 +33,7 @@ finds() {
     found=$((found + 1))
 }
 
-for part in read write trip clear post truth; do
+for part in read write trip place_bids clear post truth; do
     BAY_MARKET_FAULT='' "$compare" $seed $part >/dev/null
 done
 
@@ -41,6 +41,7 @@ done
 lists() {
     case $1 in
     read) echo sheet ;;
+    place_bids) echo prices falls guest_first guest_second station_first station_second ;;
     write | clear | post) echo asks bays amounts tickets bids ;;
     esac
 }
@@ -48,6 +49,7 @@ filled() {
     case $1 in
     read) echo amounts tickets asks bays bids ;;
     write) echo sheet ;;
+    place_bids) echo bids ;;
     clear) echo stations charges sold paid ;;
     post) echo guests stations ;;
     esac
@@ -60,7 +62,7 @@ numbers() {
     post) echo house last ;;
     esac
 }
-for function in read write clear post; do
+for function in read write place_bids clear post; do
     for way in c slices owned; do
         finds "$function answer" 'differs' $function $way
         finds "$function number" 'differs' $function $way
@@ -118,6 +120,25 @@ for way in c slices owned; do
 done
 for way in c slices; do
     finds 'write repeat-late' 'answered 14, expected 15' write $way
+done
+# faults of placing; the types that own their lists have both coordinates of a cell, and make the bid table
+for way in c slices owned; do
+    for fault in walk added wrapped transposed; do
+        finds "place_bids $fault" 'bids differ' place_bids $way
+    done
+    finds 'place_bids grid' 'answered 0, expected 16|owned bids differ' place_bids $way
+    finds 'place_bids stated' 'answered 0, expected 17|owned bids differ' place_bids $way
+    finds 'place_bids price-early' 'answered 17, expected 16|owned bids differ' place_bids $way
+    for list in prices falls; do
+        finds "place_bids $list long taken" 'answered 0, expected 5|owned bids differ' place_bids $way
+        finds "place_bids $list short taken" 'answered 0, expected 5|owned bids differ' place_bids $way
+    done
+done
+for way in c slices; do
+    for list in guest_second station_second bids; do
+        finds "place_bids $list long taken" 'answered 0, expected 5' place_bids $way
+        finds "place_bids $list short taken" 'answered 0, expected 5' place_bids $way
+    done
 done
 finds 'clear bid' 'guest [0-9]+ gains by' truth
 finds 'clear ask' 'station [0-9]+ gains by' truth

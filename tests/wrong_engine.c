@@ -20,6 +20,14 @@
  *   write fit                    14 where the output is as long as the sheet
  *   write empty                  a set bit for the last guest's bid of 0 at the last station
  *   write second                 every second sheet has another last byte
+ *   place_bids walk              from corner to corner of the grid the walk is a tenth too short
+ *   place_bids added             the fall times the walk is added to the price
+ *   place_bids wrapped           a bid that would be negative wraps round
+ *   place_bids transposed        the bids stand station after station
+ *   place_bids grid              a coordinate one beyond the grid is taken
+ *   place_bids stated            a price or fall one beyond its limit is taken
+ *   place_bids price-early       17 goes before 16
+ *   place_bids LIST WAY taken    a list that alone is too long or too short is taken
  */
 #include "bay_market.h"
 
@@ -38,6 +46,9 @@ uint8_t REAL(bay_market_clear)(MARKET_TYPES, uint16_t *, size_t, uint32_t *, siz
                                size_t, uint32_t *, uint64_t *);
 uint8_t REAL(bay_market_post)(MARKET_TYPES, uint32_t, uint64_t *, size_t, struct bay_market_station_account *, size_t,
                               uint64_t *, uint32_t *);
+uint8_t REAL(bay_market_place_bids)(const uint32_t *, size_t, const uint32_t *, size_t, const uint16_t *, size_t,
+                                    const uint16_t *, size_t, const uint16_t *, size_t, const uint16_t *, size_t,
+                                    uint32_t *, size_t);
 
 /* The lent market: parameters, arguments with other tickets, parts. */
 #define MARKET_PARAMETERS const uint32_t *asks, size_t asks_len, const uint16_t *bays, size_t bays_len, \
@@ -88,7 +99,7 @@ static uint8_t spoil(const char *function, uint8_t answer, const struct part *pa
         return answer == 0 ? 5 : 0;
     }
     if (strcmp(words[1], "number") == 0) {
-        return answer == 0 ? 0 : (uint8_t)(answer % BAY_MARKET_TICKETS_REPEAT + 1);
+        return answer == 0 ? 0 : (uint8_t)(answer % BAY_MARKET_PRICE_OR_FALL_OUT_OF_RANGE + 1);
     }
     for (size_t i = 0; i < count; i++) {
         if (strcmp(words[1], parts[i].name) == 0 && strcmp(words[3], answer == 0 ? "accepted" : "refused") == 0) {
@@ -311,4 +322,125 @@ uint8_t bay_market_post(MARKET_PARAMETERS, uint32_t round, uint64_t *guests, siz
 
     answer = out_of_place("post", answer, tickets, tickets_len, guests_len < amounts_len ? BAY_MARKET_BOOK_SIZE : 0);
     return SPOIL("post", answer, parts);
+}
+
+/* The greatest whole d with d times d at most 100 times q, which is counted once; one beyond the grid too. */
+static uint32_t walk(uint32_t q)
+{
+    static uint32_t walks[2 * (BAY_MARKET_MAX_CELL + 1) * (BAY_MARKET_MAX_CELL + 1) + 1];
+
+    while ((walks[q] + 1) * (walks[q] + 1) <= 100 * q) {
+        walks[q]++;
+    }
+    return walks[q];
+}
+
+/* What bids are placed from: parameters, arguments, parts. */
+#define PLACES_PARAMETERS const uint32_t *prices, size_t prices_len, const uint32_t *falls, size_t falls_len, \
+    const uint16_t *guest_first, size_t guest_first_len, const uint16_t *guest_second, size_t guest_second_len, \
+    const uint16_t *station_first, size_t station_first_len, const uint16_t *station_second, size_t station_second_len
+#define PLACES prices, prices_len, falls, falls_len, guest_first, guest_first_len, guest_second, guest_second_len, \
+    station_first, station_first_len, station_second, station_second_len
+#define PLACES_LISTS LIST(prices), LIST(falls), LIST(guest_first), LIST(guest_second), LIST(station_first), \
+    LIST(station_second)
+
+/* Writes the bids, with a fault. */
+static void place_wrong(const char *wrong, const uint32_t *prices, const uint32_t *falls, const uint16_t *guest_first,
+                        const uint16_t *guest_second, size_t n, const uint16_t *station_first,
+                        const uint16_t *station_second, size_t m, uint32_t *bids)
+{
+    for (size_t i = 0; i < n; i++) {
+        for (size_t j = 0; j < m; j++) {
+            int first = guest_first[i] - station_first[j], second = guest_second[i] - station_second[j];
+            uint32_t q = (uint32_t)(first * first + second * second);
+            int corners = q == 2 * BAY_MARKET_MAX_CELL * BAY_MARKET_MAX_CELL;
+            uint32_t lost = falls[i] * (walk(q) - (strcmp(wrong, "walk") == 0 && corners));
+            uint32_t bid = lost < prices[i] || strcmp(wrong, "wrapped") == 0 ? prices[i] - lost : 0;
+            bids[strcmp(wrong, "transposed") == 0 ? j * n + i : i * m + j] = strcmp(wrong, "added") == 0
+                ? prices[i] + lost : bid;
+        }
+    }
+}
+
+static int above16(const uint16_t *list, size_t count, uint16_t most)
+{
+    for (size_t i = 0; i < count; i++) {
+        if (list[i] > most) {
+            return 1;
+        }
+    }
+    return 0;
+}
+
+static int above32(const uint32_t *list, size_t count, uint32_t most)
+{
+    for (size_t i = 0; i < count; i++) {
+        if (list[i] > most) {
+            return 1;
+        }
+    }
+    return 0;
+}
+
+/* A list's length, and the one that it should have. */
+struct fit {
+    const char *name;
+    size_t length, wanted;
+};
+
+/* The fault's list, and no other, is too long or too short, as the fault says. */
+static int taken(char words[4][16], const struct fit *lists, size_t count)
+{
+    int taken = 0;
+
+    for (size_t i = 0; i < count; i++) {
+        const char *way = lists[i].length > lists[i].wanted ? "long" : "short";
+        if (lists[i].length == lists[i].wanted) {
+            continue;
+        }
+        if (strcmp(words[1], lists[i].name) != 0 || strcmp(words[2], way) != 0 || strcmp(words[3], "taken") != 0) {
+            return 0;
+        }
+        taken = 1;
+    }
+    return taken;
+}
+
+/* The answer of a call whose lengths fit, with a fault of the cells' or the prices' limits, or with 17 before 16. */
+static uint8_t judged(const char *wrong, uint8_t answer, PLACES_PARAMETERS)
+{
+    const int early = strcmp(wrong, "price-early") == 0;
+    const uint16_t cell = BAY_MARKET_MAX_CELL + (strcmp(wrong, "grid") == 0);
+    const uint32_t price = BAY_MARKET_MAX_PRICE + (strcmp(wrong, "stated") == 0);
+
+    if (answer != BAY_MARKET_CELL_OFF_GRID && answer != BAY_MARKET_PRICE_OR_FALL_OUT_OF_RANGE) {
+        return answer;
+    }
+    int off = above16(guest_first, guest_first_len, cell) || above16(guest_second, guest_second_len, cell)
+              || above16(station_first, station_first_len, cell) || above16(station_second, station_second_len, cell);
+    int over = above32(prices, prices_len, price) || above32(falls, falls_len, price);
+    return off && !(early && over) ? BAY_MARKET_CELL_OFF_GRID
+           : over ? BAY_MARKET_PRICE_OR_FALL_OUT_OF_RANGE : BAY_MARKET_ACCEPTED;
+}
+
+uint8_t bay_market_place_bids(PLACES_PARAMETERS, uint32_t *bids, size_t bids_len)
+{
+    const size_t n = guest_first_len, m = station_first_len;
+    const struct part parts[] = {PLACES_LISTS, LIST(bids)};
+    const struct fit lists[] = {{"prices", prices_len, n}, {"falls", falls_len, n}, {"bids", bids_len, n * m},
+                                {"guest_second", guest_second_len, n}, {"station_second", station_second_len, m}};
+    char words[4][16];
+    uint8_t answer = REAL(bay_market_place_bids)(PLACES, bids, bids_len);
+
+    if (!fault("place_bids", words)) {
+        return answer;
+    }
+    if (answer == BAY_MARKET_LENGTHS_DIFFER && taken(words, lists, sizeof lists / sizeof *lists)) {
+        return BAY_MARKET_ACCEPTED;
+    }
+    answer = judged(words[1], answer, PLACES);
+    if (answer == BAY_MARKET_ACCEPTED) {
+        place_wrong(words[1], prices, falls, guest_first, guest_second, n, station_first, station_second, m, bids);
+    }
+    return SPOIL("place_bids", answer, parts);
 }

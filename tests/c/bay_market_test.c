@@ -1,4 +1,4 @@
-/* Case E of document 01, tickets, refusals and the header's limits, through include/bay_market.h. */
+/* Case E of document 01, tickets, parking places, refusals and the header's limits, through include/bay_market.h. */
 #include "bay_market.h"
 
 #include <stdio.h>
@@ -120,6 +120,55 @@ static void test_tickets(void)
     expect(seated(three, 3, &answer) == 0 && answer == BAY_MARKET_LENGTHS_DIFFER, "too many tickets");
 }
 
+/* A guest at (0, 0) and stations at (3, 4), (1, 1) and (31, 31): what is stated, and how long the bid table is. */
+static uint8_t place(uint32_t price, uint32_t fall, const uint16_t *first, size_t seconds, uint32_t *table,
+                     size_t length)
+{
+    static const uint16_t second[] = {4, 1, 31, 0};
+    const uint16_t zero = 0;
+
+    return bay_market_place_bids(&price, 1, &fall, 1, &zero, 1, &zero, 1, first, 3, second, seconds, table, length);
+}
+
+static void test_places(void)
+{
+    static const uint16_t first[] = {3, 1, 31}, off[] = {3, 1, 32};
+    const uint32_t price = BAY_MARKET_MAX_PRICE;
+    uint32_t table[4] = {77, 77, 77, 77};
+
+    expect(place(price + 1, 1, off, 2, table, 3) == BAY_MARKET_LENGTHS_DIFFER, "too few second coordinates");
+    expect(place(price + 1, 1, off, 4, table, 3) == BAY_MARKET_LENGTHS_DIFFER, "too many second coordinates");
+    expect(place(price + 1, 1, off, 3, table, 2) == BAY_MARKET_LENGTHS_DIFFER, "a bid table that is too short");
+    expect(place(price + 1, 1, off, 3, table, 4) == BAY_MARKET_LENGTHS_DIFFER, "a bid table that is too long");
+    expect(place(price + 1, 1, off, 3, table, 3) == BAY_MARKET_CELL_OFF_GRID, "a cell off the grid");
+    expect(place(price + 1, 1, first, 3, table, 3) == BAY_MARKET_PRICE_OR_FALL_OUT_OF_RANGE, "a price beyond");
+    expect(place(1, price + 1, first, 3, table, 3) == BAY_MARKET_PRICE_OR_FALL_OUT_OF_RANGE, "a fall beyond");
+    expect(table[0] == 77 && table[1] == 77 && table[2] == 77, "a refused placing writes nothing");
+    expect(place(1000, 1, first, 3, table, 3) == BAY_MARKET_ACCEPTED, "bids are placed");
+    expect(table[0] == 1000 - 50 && table[1] == 1000 - 14 && table[2] == 1000 - 438, "walks of 50, 14 and 438");
+    expect(place(1000, 20, first, 3, table, 3) == BAY_MARKET_ACCEPTED, "bids are placed again");
+    expect(table[0] == 0 && table[1] == 720 && table[2] == 0 && table[3] == 77, "no bid is negative");
+    expect(place(price, price, first, 3, table, 3) == BAY_MARKET_ACCEPTED && table[1] == 0, "at the limit");
+}
+
+/* Two guests place their bids, and the nearer one has the bay. */
+static void test_placed_market(void)
+{
+    static const uint32_t prices[] = {500, 500}, falls[] = {2, 2}, two[] = {1, 2}, asked[] = {200, 300};
+    static const uint16_t guest_first[] = {3, 0}, guest_second[] = {4, 0}, station[] = {0, 1}, one_bay[] = {1, 1};
+    static const uint16_t ten[] = {10, 10};
+    uint32_t table[4], charges[2], sold[2], cut;
+    uint16_t stations[2] = {77, 77};
+    uint64_t paid[2], margin;
+
+    expect(bay_market_place_bids(prices, 2, falls, 2, guest_first, 2, guest_second, 2, station, 2, station, 2, table, 4)
+           == BAY_MARKET_ACCEPTED, "two guests' bids are placed");
+    expect(table[0] == 400 && table[1] == 428 && table[2] == 500 && table[3] == 472, "row after row");
+    expect(bay_market_clear(asked, 2, one_bay, 2, ten, 2, two, 2, table, 4, 2, stations, 2, charges, 2, sold, 2,
+                            paid, 2, &cut, &margin) == BAY_MARKET_ACCEPTED, "placed bids are cleared");
+    expect(stations[0] == 0 && stations[1] == 1 && charges[1] == 4000 && margin == 1000, "the nearer guest's bay");
+}
+
 /* Clears one guest at one station. */
 static uint8_t clear_one(uint32_t ask, uint16_t count, uint16_t amount, uint32_t bid)
 {
@@ -213,11 +262,17 @@ static void test_null(void)
     expect(bay_market_read(NULL, 0, NULL, 0, NULL, 0, NULL, 0, NULL, 0, NULL, 0, &n, &m) == BAY_MARKET_LENT_LENGTHS,
            "no tables");
     expect(read_sheet(NULL, 0) == BAY_MARKET_SHEET_ENDS, "no sheet");
+    expect(bay_market_place_bids(NULL, 0, NULL, 0, NULL, 0, NULL, 0, &bay, 1, &bay, 1, NULL, 0) == BAY_MARKET_ACCEPTED,
+           "no guests to place");
+    expect(bay_market_place_bids(NULL, 0, NULL, 0, NULL, 0, NULL, 0, NULL, 0, NULL, 0, NULL, 0)
+           == BAY_MARKET_COUNTS_OUT_OF_RANGE, "no station to walk to");
+    expect(bay_market_place_bids(NULL, 0, NULL, 0, &bay, 1, NULL, 0, &bay, 1, NULL, 0, NULL, 0)
+           == BAY_MARKET_LENGTHS_DIFFER, "no prices");
 }
 
 static void test_texts(void)
 {
-    const uint8_t beyond = BAY_MARKET_TICKETS_REPEAT + 1;
+    const uint8_t beyond = BAY_MARKET_PRICE_OR_FALL_OUT_OF_RANGE + 1;
 
     expect(strcmp(bay_market_refusal_text(BAY_MARKET_ACCEPTED), "accepted") == 0, "the text of 0");
     expect(strcmp(bay_market_refusal_text(beyond), bay_market_refusal_text(255)) == 0, "no answer of the engine");
@@ -234,6 +289,8 @@ int main(void)
     test_write();
     test_clear();
     test_tickets();
+    test_places();
+    test_placed_market();
     test_post();
     test_limits();
     test_ledger_limits();

@@ -1,4 +1,5 @@
-// The header from C++: empty vectors, whose data() may be null, a table that is cleared and written, and texts.
+// The header from C++: empty vectors, whose data() may be null, a table that is cleared and written, bids that are
+// placed, and texts.
 #include "bay_market.h"
 
 #include <cstdio>
@@ -41,6 +42,23 @@ int main()
     sheet.resize(BAY_MARKET_MAX_SHEET, 77);
     good = good && write() == BAY_MARKET_ACCEPTED && length == 38;
     good = good && sheet[0] == 2 && sheet[18] == 9 && sheet[37] == 0 && sheet[38] == 77;
+    std::vector<std::uint32_t> prices, falls;
+    std::vector<std::uint16_t> guests, stops{3, 4};
+    const auto place = [&] {
+        return bay_market_place_bids(prices.data(), prices.size(), falls.data(), falls.size(), guests.data(),
+                                     guests.size(), guests.data(), guests.size(), stops.data(), 1, stops.data() + 1, 1,
+                                     bids.data(), bids.size());
+    };
+    bids.clear();
+    good = good && place() == BAY_MARKET_ACCEPTED;
+    guests = {0, 31};
+    prices = {60, 2000};
+    falls = {1, 2};
+    good = good && place() == BAY_MARKET_LENGTHS_DIFFER;
+    bids = {77, 77};
+    good = good && place() == BAY_MARKET_ACCEPTED && bids[0] == 10 && bids[1] == 2000 - 2 * 388;
+    guests[1] = BAY_MARKET_MAX_CELL + 1;
+    good = good && place() == BAY_MARKET_CELL_OFF_GRID && bids[0] == 10;
     good = good && std::string(bay_market_refusal_text(BAY_MARKET_BOOK_SIZE)).find("ledger") != std::string::npos;
     std::puts(good ? "C++ test: all as expected" : "C++ test failed");
     return good ? 0 : 1;

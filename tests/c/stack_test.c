@@ -13,6 +13,8 @@
 
 static uint16_t amounts[BAY_MARKET_MAX_GUESTS], bays[BAY_MARKET_MAX_STATIONS], n, m;
 static uint32_t asks[BAY_MARKET_MAX_STATIONS], tickets[BAY_MARKET_MAX_GUESTS], bids[BAY_MARKET_MAX_BIDS], cut, last;
+static uint32_t prices[BAY_MARKET_MAX_GUESTS], falls[BAY_MARKET_MAX_GUESTS];
+static uint16_t guest_cells[BAY_MARKET_MAX_GUESTS], station_cells[BAY_MARKET_MAX_STATIONS];
 static uint8_t sheet[BAY_MARKET_MAX_SHEET];
 static size_t sheet_len;
 static uint16_t stations[BAY_MARKET_MAX_GUESTS];
@@ -48,6 +50,13 @@ static void call_post(void)
 {
     answer = bay_market_post(asks, m, bays, m, amounts, n, tickets, n, bids, (size_t)n * m, m, last + 1, guests, n,
                              accounts, m, &house, &last);
+}
+
+/* It goes after the calls on the market, whose bids it writes over. */
+static void call_place_bids(void)
+{
+    answer = bay_market_place_bids(prices, n, falls, n, guest_cells, n, guest_cells, n, station_cells, m,
+                                   station_cells, m, bids, (size_t)n * m);
 }
 
 /* How many bytes of the stack a call touches. */
@@ -101,16 +110,31 @@ static void write_sheet(uint32_t spread)
     sheet_len = (size_t)(at - sheet);
 }
 
+/* Guests and stations from one end of the grid to the other; `spread` moves prices and falls. */
+static void state_places(uint32_t spread)
+{
+    for (uint32_t guest = 0; guest < BAY_MARKET_MAX_GUESTS; guest++) {
+        prices[guest] = spread * guest % (BAY_MARKET_MAX_PRICE + 1);
+        falls[guest] = prices[guest] / (1 + guest);
+        guest_cells[guest] = (uint16_t)(guest % (BAY_MARKET_MAX_CELL + 1));
+    }
+    for (uint32_t station = 0; station < BAY_MARKET_MAX_STATIONS; station++) {
+        station_cells[station] = (uint16_t)(BAY_MARKET_MAX_CELL - station % (BAY_MARKET_MAX_CELL + 1));
+    }
+}
+
 int main(void)
 {
     static const struct {
         const char *name;
         void (*call)(void);
-    } calls[] = {{"read", call_read}, {"write", call_write}, {"clear", call_clear}, {"post", call_post}};
+    } calls[] = {{"read", call_read}, {"write", call_write}, {"clear", call_clear}, {"post", call_post},
+                 {"place_bids", call_place_bids}};
     size_t most = 0, base = depth(none);
 
     for (uint32_t spread = 1; spread <= 900000; spread *= 30) {
         write_sheet(spread);
+        state_places(spread);
         for (size_t i = 0; i < sizeof calls / sizeof *calls; i++) {
             answer = 255;
             size_t taken = depth(calls[i].call) - base;

@@ -1,8 +1,9 @@
 //! The functions of include/bay_market.h, where each is documented.
 //!
-//! Mind the order of arguments: `bay_market_read` takes amounts, tickets, asks, bays, bids, the others asks, bays,
-//! amounts, tickets, bids. Amounts and bays have one type, tickets, asks and bids another, so the compiler cannot see a
-//! swap. The safe functions name each.
+//! Mind the order of arguments: `bay_market_read` takes amounts, tickets, asks, bays, bids, the others that take a market
+//! asks, bays, amounts, tickets, bids. Amounts and bays have one type, tickets, asks and bids another, so the compiler
+//! cannot see a swap. `bay_market_place_bids` takes prices, falls, then the guests' first and second coordinates, then
+//! the stations'. The safe functions name each.
 
 use crate::StationAccount;
 
@@ -27,6 +28,16 @@ unsafe extern "C" {
         width: usize,
         sheet: *mut u8, sheet_len: usize,
         length: *mut usize,
+    ) -> u8;
+
+    pub fn bay_market_place_bids(
+        prices: *const u32, prices_len: usize,
+        falls: *const u32, falls_len: usize,
+        guest_first: *const u16, guest_first_len: usize,
+        guest_second: *const u16, guest_second_len: usize,
+        station_first: *const u16, station_first_len: usize,
+        station_second: *const u16, station_second_len: usize,
+        bids: *mut u32, bids_len: usize,
     ) -> u8;
 
     pub fn bay_market_clear(

@@ -25,6 +25,18 @@ pub struct Market<'a> {
     pub width: usize,
 }
 
+/// What bids are placed from: each guest's price and fall, and the cells of n guests and m stations as a list of first and
+/// one of second coordinates.
+#[derive(Clone, Copy, Debug)]
+pub struct Places<'a> {
+    pub prices: &'a [u32],
+    pub falls: &'a [u32],
+    pub guest_first: &'a [u16],
+    pub guest_second: &'a [u16],
+    pub station_first: &'a [u16],
+    pub station_second: &'a [u16],
+}
+
 /// What a clearing fills: each guest's station (0: none) and charge, each station's kWh sold and payment.
 #[derive(Debug)]
 pub struct Results<'a> {
@@ -140,6 +152,40 @@ pub fn write(market: &Market, sheet: &mut [u8]) -> Result<usize, Refusal> {
         )
     };
     Refusal::check(answer).map(|()| length)
+}
+
+/// Fills n rows of m bids: a guest's bid at a station is its price less its fall times the walk between their cells, or 0
+/// where that is negative.
+///
+/// ```
+/// use bay_market::Refusal;
+/// use bay_market::lent::{Places, place_bids};
+///
+/// // one guest at (0, 0), stations at (3, 4), (1, 1) and (31, 31): walks of 50, 14 and 438 tenths of a cell
+/// let (station_first, station_second) = (&[3, 1, 31], &[4, 1, 31]);
+/// let places =
+///     Places { prices: &[900], falls: &[3], guest_first: &[0], guest_second: &[0], station_first, station_second };
+/// let mut bids = [77; 3];
+/// assert_eq!(place_bids(&places, &mut bids[..2]), Err(Refusal::LengthsDiffer));
+/// assert_eq!(place_bids(&Places { guest_first: &[32], ..places }, &mut bids), Err(Refusal::CellOffGrid));
+/// assert_eq!(bids, [77; 3]);
+/// assert_eq!(place_bids(&places, &mut bids), Ok(()));
+/// assert_eq!(bids, [750, 858, 0]);
+/// ```
+#[rustfmt::skip] // pointer and length on one line
+pub fn place_bids(places: &Places, bids: &mut [u32]) -> Result<(), Refusal> {
+    // SAFETY: as in `read`. The order is prices, falls, guests' first and second coordinates, stations'.
+    Refusal::check(unsafe {
+        c::bay_market_place_bids(
+            places.prices.as_ptr(), places.prices.len(),
+            places.falls.as_ptr(), places.falls.len(),
+            places.guest_first.as_ptr(), places.guest_first.len(),
+            places.guest_second.as_ptr(), places.guest_second.len(),
+            places.station_first.as_ptr(), places.station_first.len(),
+            places.station_second.as_ptr(), places.station_second.len(),
+            bids.as_mut_ptr(), bids.len(),
+        )
+    })
 }
 
 /// Clears a market.

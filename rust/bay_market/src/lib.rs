@@ -1,7 +1,7 @@
 //! The proved clearing engine for charging bays.
 //!
-//! [`Market`], [`Clearing`] and [`Ledger`] own their lists; the module [`lent`] has the same over slices that the caller
-//! lends, and [`c`] the functions of the C header.
+//! [`Market`], [`Places`], [`Clearing`] and [`Ledger`] own their lists; the module [`lent`] has the same over slices that
+//! the caller lends, and [`c`] the functions of the C header.
 //!
 //! ```
 //! use bay_market::{Ledger, Market, Refusal};
@@ -26,19 +26,21 @@ pub mod lent;
 mod owned;
 mod refusal;
 
-pub use owned::{Clearing, Ledger, Market};
+pub use owned::{Cell, Clearing, Ledger, Market, Places};
 pub use refusal::Refusal;
 
 pub const MAX_GUESTS: usize = 200;
 pub const MAX_STATIONS: usize = 40;
 /// Guests times stations.
 pub const MAX_BIDS: usize = MAX_GUESTS * MAX_STATIONS;
-/// Of an ask and of a bid, in mills per kWh.
+/// Of an ask, a bid and a price in mills per kWh, and of a fall.
 pub const MAX_PRICE: u32 = 1_000_000;
 /// Of a guest's amount in kWh; the least is 1.
 pub const MAX_AMOUNT: u16 = 1_000;
 /// Of a station; the least is 1.
 pub const MAX_BAYS: u16 = 200;
+/// Of a cell's coordinate; the least is 0.
+pub const MAX_CELL: u16 = 31;
 /// Bytes of the largest sheet.
 pub const MAX_SHEET: usize = 34_444;
 /// Of an account in mills, and of a sum in kWh.

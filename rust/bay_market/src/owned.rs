@@ -12,6 +12,23 @@ pub struct Market {
     pub bids: Vec<u32>,
 }
 
+/// A cell of the grid; a coordinate is 0 to 31.
+#[derive(Clone, Copy, Debug, PartialEq, Eq)]
+pub struct Cell {
+    pub first: u16,
+    pub second: u16,
+}
+
+/// What bids are placed from: n guests' prices, falls and cells, and m stations' cells. A price is in mills per kWh, a fall
+/// in mills per kWh for each tenth of a cell that the guest walks.
+#[derive(Clone, Debug, Default, PartialEq, Eq)]
+pub struct Places {
+    pub prices: Vec<u32>,
+    pub falls: Vec<u32>,
+    pub guests: Vec<Cell>,
+    pub stations: Vec<Cell>,
+}
+
 /// A market's clearing: each guest's station (0: none) and charge, each station's kWh sold and payment.
 #[derive(Clone, Debug, PartialEq, Eq)]
 pub struct Clearing {
@@ -83,11 +100,9 @@ impl Market {
     }
 
     pub fn clear(&self) -> Result<Clearing, Refusal> {
-        let (n, m) = (self.amounts.len(), self.asks.len());
-        // lists beyond the limits are not made: the market is refused for its counts
-        let (guests, stations) = if n <= MAX_GUESTS && m <= MAX_STATIONS { (n, m) } else { (0, 0) };
-        let (mut seats, mut charges) = (vec![0; guests], vec![0; guests]);
-        let (mut sold, mut paid) = (vec![0; stations], vec![0; stations]);
+        let (n, m) = within_limits(self.amounts.len(), self.asks.len());
+        let (mut seats, mut charges) = (vec![0; n], vec![0; n]);
+        let (mut sold, mut paid) = (vec![0; m], vec![0; m]);
         let mut results = lent::Results { stations: &mut seats, charges: &mut charges, sold: &mut sold, paid: &mut paid };
         let lent::Cleared { cut, margin } = lent::clear(&self.lend(), &mut results)?;
         Ok(Clearing { cut, stations: seats, charges, sold, paid, margin })
@@ -103,6 +118,56 @@ impl Market {
             width: self.asks.len(),
         }
     }
+}
+
+impl Places {
+    /// The bids of a market, guest after guest: price less fall times walk, or 0 where that is negative.
+    ///
+    /// ```
+    /// use bay_market::{Cell, Market, Places, Refusal};
+    ///
+    /// let cell = |first, second| Cell { first, second };
+    /// let places = Places {
+    ///     prices: vec![500, 500],
+    ///     falls: vec![2, 2],
+    ///     guests: vec![cell(3, 4), cell(0, 0)],
+    ///     stations: vec![cell(0, 0), cell(1, 1)],
+    /// };
+    /// let bids = places.bids()?;
+    /// assert_eq!(bids, [400, 428, 500, 472]);
+    ///
+    /// // it clears as any other market: of two equal prices the nearer guest has the bay
+    /// let (amounts, tickets) = (vec![10, 10], vec![1, 2]);
+    /// let clearing = Market { asks: vec![200, 300], bays: vec![1, 1], amounts, tickets, bids }.clear()?;
+    /// assert_eq!((clearing.stations, clearing.charges), (vec![0, 1], vec![0, 4_000]));
+    /// # Ok::<(), Refusal>(())
+    /// ```
+    pub fn bids(&self) -> Result<Vec<u32>, Refusal> {
+        let (guest_first, guest_second) = coordinates(&self.guests);
+        let (station_first, station_second) = coordinates(&self.stations);
+        let places = lent::Places {
+            prices: &self.prices,
+            falls: &self.falls,
+            guest_first: &guest_first,
+            guest_second: &guest_second,
+            station_first: &station_first,
+            station_second: &station_second,
+        };
+        let (n, m) = within_limits(self.guests.len(), self.stations.len());
+        let mut bids = vec![0; n * m];
+        lent::place_bids(&places, &mut bids)?;
+        Ok(bids)
+    }
+}
+
+/// The first and the second coordinates.
+fn coordinates(cells: &[Cell]) -> (Vec<u16>, Vec<u16>) {
+    cells.iter().map(|cell| (cell.first, cell.second)).unzip()
+}
+
+/// The counts that lists are made for. Lists beyond the limits are not made: the call is refused for its counts.
+fn within_limits(n: usize, m: usize) -> (usize, usize) {
+    if n <= MAX_GUESTS && m <= MAX_STATIONS { (n, m) } else { (0, 0) }
 }
 
 impl Ledger {
@@ -174,6 +239,24 @@ mod tests {
         assert_eq!(Market::default().clear(), Err(Refusal::CountsOutOfRange));
         assert_eq!(Market { amounts: vec![1; 201], ..case_e() }.clear(), Err(Refusal::CountsOutOfRange));
         assert_eq!(Market { bays: vec![1], ..case_e() }.clear(), Err(Refusal::LengthsDiffer));
+    }
+
+    fn cells<const N: usize>(cells: [(u16, u16); N]) -> Vec<Cell> {
+        cells.map(|(first, second)| Cell { first, second }).to_vec()
+    }
+
+    #[test]
+    fn places_bids() {
+        let stations = cells([(3, 4), (1, 1), (31, 31)]);
+        let places = Places { prices: vec![1_000_000, 1_000], falls: vec![1, 20], guests: cells([(0, 0); 2]), stations };
+        assert_eq!(places.bids(), Ok(vec![999_950, 999_986, 999_562, 0, 720, 0]));
+        assert_eq!(Places { guests: cells([(0, 0), (0, 32)]), ..places.clone() }.bids(), Err(Refusal::CellOffGrid));
+        assert_eq!(Places { stations: cells([(32, 0)]), ..places.clone() }.bids(), Err(Refusal::CellOffGrid));
+        assert_eq!(Places { falls: vec![1, 1_000_001], ..places.clone() }.bids(), Err(Refusal::PriceOrFallOutOfRange));
+        assert_eq!(Places { prices: vec![1], ..places.clone() }.bids(), Err(Refusal::LengthsDiffer));
+        assert_eq!(Places { guests: cells([(0, 0); 201]), ..places.clone() }.bids(), Err(Refusal::CountsOutOfRange));
+        assert_eq!(Places { stations: cells([(0, 0); 41]), ..places }.bids(), Err(Refusal::CountsOutOfRange));
+        assert_eq!(Places::default().bids(), Err(Refusal::CountsOutOfRange));
     }
 
     #[test]

@@ -12,7 +12,7 @@ pub enum Refusal {
     StrayBit = 3,
     /// bytes follow the last row
     TrailingBytes = 4,
-    /// bays, tickets, bids or row width do not fit the counts
+    /// a list, the bid table or the row width does not fit the counts
     LengthsDiffer = 5,
     /// an ask is above 1,000,000
     AskOutOfRange = 6,
@@ -28,17 +28,21 @@ pub enum Refusal {
     RoundOutOfTurn = 11,
     /// an account is above 10^15, or would be
     AccountOverLimit = 12,
-    /// the ledger has accounts beyond the limits, or fewer than the market needs
+    /// the ledger is beyond the limits, or smaller than the market
     BookSize = 13,
     /// the output is shorter than the sheet
     OutputTooShort = 14,
     /// two guests have the same ticket
     TicketsRepeat = 15,
+    /// a cell is off the grid: a coordinate is above 31
+    CellOffGrid = 16,
+    /// a price or fall is above 1,000,000
+    PriceOrFallOutOfRange = 17,
 }
 
 impl Refusal {
     /// All refusals, by rising number.
-    pub const ALL: [Refusal; 15] = [
+    pub const ALL: [Refusal; 17] = [
         Refusal::SheetEnds,
         Refusal::CountsOutOfRange,
         Refusal::StrayBit,
@@ -54,6 +58,8 @@ impl Refusal {
         Refusal::BookSize,
         Refusal::OutputTooShort,
         Refusal::TicketsRepeat,
+        Refusal::CellOffGrid,
+        Refusal::PriceOrFallOutOfRange,
     ];
 
     /// What the refusal says.
@@ -63,7 +69,7 @@ impl Refusal {
             Refusal::CountsOutOfRange => "more than 200 guests, no station, or more than 40",
             Refusal::StrayBit => "a bit map has a bit beyond the last station",
             Refusal::TrailingBytes => "bytes follow the last row",
-            Refusal::LengthsDiffer => "bays, tickets, bids or row width do not fit the counts",
+            Refusal::LengthsDiffer => "a list, the bid table or the row width does not fit the counts",
             Refusal::AskOutOfRange => "an ask is above 1,000,000",
             Refusal::BaysOutOfRange => "a station has no bays or more than 200",
             Refusal::AmountOutOfRange => "an amount is 0 or above 1,000",
@@ -71,9 +77,11 @@ impl Refusal {
             Refusal::LentLengths => "the reader's tables or a result list have another length",
             Refusal::RoundOutOfTurn => "the round is not the last one plus 1, or no round is left",
             Refusal::AccountOverLimit => "an account is above 10^15, or would be",
-            Refusal::BookSize => "the ledger has accounts beyond the limits, or fewer than the market needs",
+            Refusal::BookSize => "the ledger is beyond the limits, or smaller than the market",
             Refusal::OutputTooShort => "the output is shorter than the sheet",
             Refusal::TicketsRepeat => "two guests have the same ticket",
+            Refusal::CellOffGrid => "a cell is off the grid: a coordinate is above 31",
+            Refusal::PriceOrFallOutOfRange => "a price or fall is above 1,000,000",
         }
     }
 }

@@ -6,7 +6,8 @@ use baseline::Scratch;
 use bay_market::lent::{self, Cleared, Counts, Results, Tables};
 use bay_market::{Ledger, MAX_BIDS, MAX_GUESTS, MAX_SHEET, MAX_STATIONS, StationAccount};
 use reference::market::Market;
-use reference::random::{self, Random, Shape};
+use reference::places::{self, Places};
+use reference::random::{self, Random, Shape, Spread};
 use reference::{clearing, ledger, sheet};
 use std::hint::black_box;
 use std::time::{Duration, Instant};
@@ -300,6 +301,48 @@ fn postings(random: &mut Random) {
     }
 }
 
+fn lend_places(places: &Places) -> lent::Places<'_> {
+    lent::Places {
+        prices: &places.prices,
+        falls: &places.falls,
+        guest_first: &places.guest_first,
+        guest_second: &places.guest_second,
+        station_first: &places.station_first,
+        station_second: &places.station_second,
+    }
+}
+
+type PlaceBids = fn(&lent::Places, &mut [u32]) -> Result<(), u8>;
+
+const PLACINGS: [PlaceBids; 2] =
+    [|places, bids| lent::place_bids(places, bids).map_err(|refusal| refusal.number()), baseline::place_bids];
+
+fn placings(random: &mut Random) {
+    println!("\n| placing bids | engine µs | plain Rust µs | engine / plain Rust |");
+    println!("|---|---|---|---|");
+    for (name, guests, stations) in [("200 by 40", 200, 40), ("100 by 10", 100, 10)] {
+        let (prices, falls, coordinates) = (0..=1_000_000, 0..=3_000, 0..=31);
+        let spread = Spread { guests: guests..=guests, stations: stations..=stations, prices, falls, coordinates };
+        let inputs: Vec<Places> = (0..MARKETS).map(|_| spread.places(random)).collect();
+        let mut tables = PLACINGS.map(|_| vec![0; (guests * stations) as usize]);
+        let run = |place_bids: PlaceBids, places: &Places, bids: &mut [u32]| {
+            black_box(place_bids(&lend_places(places), bids)).expect("accepted places");
+        };
+        for places in &inputs {
+            for (place_bids, bids) in PLACINGS.iter().zip(&mut tables) {
+                run(*place_bids, places, bids);
+                assert!(Ok(&*bids) == places::place_bids(places, bids.len()).as_ref(), "a contender differs from the reference");
+            }
+        }
+        let [engine, plain] = &mut tables;
+        let medians = medians(
+            &inputs,
+            &mut [&mut |places| run(PLACINGS[0], places, engine), &mut |places| run(PLACINGS[1], places, plain)],
+        );
+        print_row(name, &medians);
+    }
+}
+
 fn main() {
     println!("Medians of {ROUNDS} rounds over {MARKETS} random inputs, the contenders in turns.\n");
     let mut random = Random::new(8);
@@ -307,4 +350,5 @@ fn main() {
     readings(&mut random);
     writings(&mut random);
     postings(&mut random);
+    placings(&mut random);
 }

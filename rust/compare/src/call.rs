@@ -2,12 +2,13 @@
 //! over slices, and through the types that own their lists.
 
 use crate::lent::Lent;
-use bay_market::c::{bay_market_clear, bay_market_post, bay_market_read, bay_market_write};
-use bay_market::{MAX_BIDS, MAX_GUESTS, MAX_SHEET, MAX_STATIONS, Refusal, StationAccount, lent};
+use bay_market::c::{bay_market_clear, bay_market_place_bids, bay_market_post, bay_market_read, bay_market_write};
+use bay_market::{Cell, MAX_BIDS, MAX_GUESTS, MAX_SHEET, MAX_STATIONS, Refusal, StationAccount, lent};
 use reference::clearing::Outcome;
 use reference::faults::{ListLengths, OUTPUT_TOO_SHORT};
 use reference::ledger::Ledger;
 use reference::market::Market;
+use reference::places::Places;
 use reference::random::Random;
 use reference::sheet::{GREATEST, TableLengths};
 use std::sync::OnceLock;
@@ -274,6 +275,61 @@ fn read_and_write(way: Way, sheet: &[u8]) -> Result<Passed, String> {
     Ok((own(market), written))
 }
 
+/// Places bids in a table of so many places and holds answer and memory to what is expected.
+pub fn place_bids(random: &mut Random, places: &Places, table: usize, expected: &Result<Vec<u32>, u8>) -> Result<(), String> {
+    each_way(|way| match way {
+        Way::C | Way::Slices => place_bids_lent(way, random, places, table, expected),
+        Way::Owned => match own_places(places) {
+            Some(owned) if table == places.guests() * places.stations() => {
+                require(owned.bids().map_err(Refusal::number) == *expected, "the owned bids differ")
+            }
+            _ => Ok(()), // the types do not let it happen
+        },
+    })
+}
+
+#[rustfmt::skip] // pointer and length on one line
+fn place_bids_lent(
+    way: Way, random: &mut Random, places: &Places, table: usize, expected: &Result<Vec<u32>, u8>,
+) -> Result<(), String> {
+    let mut prices: Lent<u32> = Lent::holding(random, &places.prices);
+    let mut falls: Lent<u32> = Lent::holding(random, &places.falls);
+    let mut guest_first: Lent<u16> = Lent::holding(random, &places.guest_first);
+    let mut guest_second: Lent<u16> = Lent::holding(random, &places.guest_second);
+    let mut station_first: Lent<u16> = Lent::holding(random, &places.station_first);
+    let mut station_second: Lent<u16> = Lent::holding(random, &places.station_second);
+    let mut bids: Lent<u32> = Lent::noise(random, table);
+    let answer = match way {
+        // SAFETY: as in `read_lent`.
+        Way::C => unsafe {
+            bay_market_place_bids(
+                prices.pointer(), prices.len(),
+                falls.pointer(), falls.len(),
+                guest_first.pointer(), guest_first.len(),
+                guest_second.pointer(), guest_second.len(),
+                station_first.pointer(), station_first.len(),
+                station_second.pointer(), station_second.len(),
+                bids.pointer(), bids.len(),
+            )
+        },
+        _ => {
+            let places = lent::Places {
+                prices: prices.slice(), falls: falls.slice(),
+                guest_first: guest_first.slice(), guest_second: guest_second.slice(),
+                station_first: station_first.slice(), station_second: station_second.slice(),
+            };
+            numbered(lent::place_bids(&places, bids.slice()), |()| ())
+        }
+    };
+    require_answer(answer, expected)?;
+    let guests = prices.untouched() && falls.untouched() && guest_first.untouched() && guest_second.untouched();
+    require(guests && station_first.untouched() && station_second.untouched(), "the places were written")?;
+    match expected {
+        Ok(placed) => require(bids.holds(placed.iter().copied()), "bids differ"),
+        Err(_) => require(bids.untouched(), "a refused call wrote"),
+    }
+}
+
 /// Clears a market and holds answer and memory to what is expected.
 pub fn clear(random: &mut Random, market: &Market, lists: ListLengths, expected: &Result<Outcome, u8>) -> Result<(), String> {
     each_way(|way| match way {
@@ -416,6 +472,20 @@ pub fn own(market: &Market) -> bay_market::Market {
         tickets: market.tickets.clone(),
         bids: market.bids.clone(),
     }
+}
+
+/// The reference's places as the engine's crate owns them, where each cell has both coordinates.
+pub fn own_places(places: &Places) -> Option<bay_market::Places> {
+    let cells = |first: &[u16], second: &[u16]| {
+        let cell = |(&first, &second)| Cell { first, second };
+        (first.len() == second.len()).then(|| first.iter().zip(second).map(cell).collect())
+    };
+    Some(bay_market::Places {
+        prices: places.prices.clone(),
+        falls: places.falls.clone(),
+        guests: cells(&places.guest_first, &places.guest_second)?,
+        stations: cells(&places.station_first, &places.station_second)?,
+    })
 }
 
 fn own_outcome(outcome: &Outcome) -> bay_market::Clearing {

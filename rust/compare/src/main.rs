@@ -1,12 +1,13 @@
 //! Runs the static library and the clearing program against the reference on seeded random cases:
-//! `compare [SEED [PART [WAY]]]`, where a part is read, write, trip (sheets read, written, read and written again), clear,
-//! post, truth or print, and the first five are called by all ways or by one: c, slices or owned. A failing case prints
-//! itself and ends the run with 1; wrong use ends it with 2.
+//! `compare [SEED [PART [WAY]]]`, where a part is read, write, trip (sheets read, written, read and written again),
+//! place_bids, clear, post, truth or print, and the first six are called by all ways or by one: c, slices or owned. A
+//! failing case prints itself and ends the run with 1; wrong use ends it with 2.
 
 mod call;
 mod clearing;
 mod lent;
 mod markets;
+mod placing;
 mod posting;
 mod printing;
 mod reading;
@@ -46,10 +47,11 @@ struct Part {
     cases: usize,
 }
 
-const PARTS: [Part; 7] = [
+const PARTS: [Part; 8] = [
     Part { name: "read", run: reading::run, cases: 6_000 },
     Part { name: "write", run: writing::run, cases: 12_000 },
     Part { name: "trip", run: reading::run_trips, cases: 6_000 },
+    Part { name: "place_bids", run: placing::run, cases: 12_000 },
     Part { name: "clear", run: clearing::run, cases: 20_000 },
     Part { name: "post", run: posting::run, cases: 4_000 },
     Part { name: "truth", run: truth::run, cases: 3_000 },

@@ -191,7 +191,8 @@ pub fn changes(n: usize, m: usize) -> Vec<Change> {
     changes
 }
 
-fn other_lengths(length: usize) -> Vec<usize> {
+/// Lengths that are not the given one.
+pub fn other_lengths(length: usize) -> Vec<usize> {
     [0, length.saturating_sub(1), length + 1, 2 * length].into_iter().filter(|&other| other != length).collect()
 }
 
@@ -237,7 +238,8 @@ pub fn changed(random: &mut Random, market: &Market, change: Change) -> Market {
     changed
 }
 
-fn set<T>(random: &mut Random, table: &mut [T], place: Place, value: T) {
+/// Gives a place of a list, if it has one, a value.
+pub fn set<T>(random: &mut Random, table: &mut [T], place: Place, value: T) {
     if table.is_empty() {
         return;
     }

@@ -61,7 +61,7 @@ fn the_functions_agree() {
     let in_header = functions(&header[header.find("struct bay_market").unwrap()..], "\nuint8_t ", ");", in_rust);
     let declared =
         functions(&bare(DECLARATIONS), "pub fn ", ") -> u8;", |text| text.split_whitespace().collect::<Vec<_>>().join(" "));
-    let names = ["bay_market_clear", "bay_market_post", "bay_market_read", "bay_market_write"];
+    let names = ["bay_market_clear", "bay_market_place_bids", "bay_market_post", "bay_market_read", "bay_market_write"];
     assert_eq!(in_header.keys().collect::<Vec<_>>(), names);
     assert_eq!(in_header, declared);
 }
@@ -99,6 +99,7 @@ fn limits_and_version_agree() {
         ("MAX_PRICE", bay_market::MAX_PRICE.into()),
         ("MAX_AMOUNT", bay_market::MAX_AMOUNT.into()),
         ("MAX_BAYS", bay_market::MAX_BAYS.into()),
+        ("MAX_CELL", bay_market::MAX_CELL.into()),
         ("MAX_SHEET", bay_market::MAX_SHEET as u64),
         ("MAX_ACCOUNT", bay_market::MAX_ACCOUNT),
         ("MAX_ROUND", bay_market::MAX_ROUND.into()),
@@ -113,7 +114,7 @@ fn the_limits_are_the_references() {
     use reference::{faults, ledger};
     assert_eq!((bay_market::MAX_GUESTS, bay_market::MAX_STATIONS), (faults::MAX_GUESTS, faults::MAX_STATIONS));
     assert_eq!((bay_market::MAX_PRICE, bay_market::MAX_AMOUNT), (faults::MAX_PRICE, faults::MAX_AMOUNT));
-    assert_eq!(bay_market::MAX_BAYS, faults::MAX_BAYS);
+    assert_eq!((bay_market::MAX_BAYS, bay_market::MAX_CELL), (faults::MAX_BAYS, faults::MAX_CELL));
     assert_eq!(u128::from(bay_market::MAX_ACCOUNT), ledger::MAX_ACCOUNT);
     assert_eq!(u128::from(bay_market::MAX_ROUND), ledger::MAX_ROUND);
 }

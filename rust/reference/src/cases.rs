@@ -1,9 +1,11 @@
-//! Document 01's cases and limits and document 02's of tickets, each market also through its sheet.
+//! Document 01's cases and limits and document 02's of tickets, each market also through its sheet; document 02's of parking
+//! places.
 
 use crate::clearing::clear;
 use crate::faults::{ListLengths, clearing_fault, market_fault};
 use crate::ledger::{Ledger, MAX_ACCOUNT, StationAccount};
 use crate::market::Market;
+use crate::places::{Cell, Places, place_bids, placing_fault, squared_distance, walk};
 use crate::sheet::{GREATEST, TableLengths, read, shortest, stating, write};
 use crate::{report, samples};
 
@@ -247,6 +249,66 @@ fn no_round_follows_the_last() {
     for round in [0, 1, u32::MAX] {
         assert_eq!(ledger.post(&samples::case_e(), round), Err(11));
     }
+}
+
+/// Guests with these prices, falls and cells, and stations at these cells.
+fn placed(guests: &[(u32, u32, Cell)], stations: &[Cell]) -> Places {
+    Places {
+        prices: guests.iter().map(|guest| guest.0).collect(),
+        falls: guests.iter().map(|guest| guest.1).collect(),
+        guest_first: guests.iter().map(|guest| guest.2.0).collect(),
+        guest_second: guests.iter().map(|guest| guest.2.1).collect(),
+        station_first: stations.iter().map(|cell| cell.0).collect(),
+        station_second: stations.iter().map(|cell| cell.1).collect(),
+    }
+}
+
+#[test]
+fn a_walk_is_the_greatest_whole_number() {
+    for q in 0..=1_922 {
+        let d = walk(q);
+        assert!(d * d <= 100 * q && (d + 1) * (d + 1) > 100 * q, "{q}");
+    }
+    assert_eq!((squared_distance((0, 0), (3, 4)), walk(25)), (25, 50));
+    assert_eq!((squared_distance((5, 9), (4, 10)), walk(2)), (2, 14));
+    assert_eq!((squared_distance((31, 0), (0, 31)), walk(1_922)), (1_922, 438));
+}
+
+#[test]
+fn a_bid_is_price_less_fall_times_walk() {
+    let stations = [(3, 4), (1, 1), (31, 31), (0, 0)];
+    let guests = [(1_000_000, 1, (0, 0)), (1_000, 20, (0, 0)), (1_000_000, 1_000_000, (3, 4)), (7, 0, (31, 31))];
+    let bids = [999_950, 999_986, 999_562, 1_000_000, 0, 720, 0, 1_000, 1_000_000, 0, 0, 0, 7, 7, 7, 7];
+    assert_eq!(place_bids(&placed(&guests, &stations), 16), Ok(bids.to_vec()));
+    // 50 tenths at 20 mills each: a bid of 1, of 0, and 0 where it would be negative
+    let guests = [(1_001, 20, (0, 0)), (1_000, 20, (0, 0)), (999, 20, (0, 0))];
+    assert_eq!(place_bids(&placed(&guests, &[(3, 4)]), 3), Ok(vec![1, 0, 0]));
+    assert_eq!(place_bids(&placed(&[], &[(0, 0)]), 0), Ok(vec![]));
+}
+
+#[test]
+fn placing_refuses_in_order() {
+    // every fault at once, mended one after the other
+    let mut places = placed(&[(1_000_001, 1_000_001, (32, 32)); 2], &[(32, 32); 41]);
+    places.prices.pop();
+    assert_eq!(placing_fault(&places, 82), Err(2));
+    places.station_first.pop();
+    assert_eq!(placing_fault(&places, 80), Err(5));
+    places.station_second.pop();
+    assert_eq!(placing_fault(&places, 80), Err(5));
+    places.prices.push(1_000_001);
+    assert_eq!(placing_fault(&places, 79), Err(5));
+    assert_eq!(placing_fault(&places, 80), Err(16));
+    places.guest_first.fill(31);
+    places.guest_second.fill(31);
+    places.station_first.fill(31);
+    assert_eq!(placing_fault(&places, 80), Err(16));
+    places.station_second.fill(31);
+    assert_eq!(placing_fault(&places, 80), Err(17));
+    places.prices.fill(1_000_000);
+    assert_eq!(placing_fault(&places, 80), Err(17));
+    places.falls.fill(1_000_000);
+    assert_eq!(placing_fault(&places, 80), Ok(()));
 }
 
 #[test]

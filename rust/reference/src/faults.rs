@@ -1,5 +1,5 @@
-//! Document 01, 'Refusals by place', with document 02's: the clearing's rows. The reader's, the writer's and the posting's
-//! stand with those.
+//! Document 01, 'Refusals by place', with document 02's: the clearing's rows. Those of reading, writing, placing and
+//! posting stand with these.
 
 use crate::market::Market;
 
@@ -18,12 +18,15 @@ pub const ACCOUNT_OVER_LIMIT: u8 = 12;
 pub const BOOK_SIZE: u8 = 13;
 pub const OUTPUT_TOO_SHORT: u8 = 14;
 pub const TICKETS_REPEAT: u8 = 15;
+pub const CELL_OFF_GRID: u8 = 16;
+pub const PRICE_OR_FALL_OUT_OF_RANGE: u8 = 17;
 
 pub const MAX_GUESTS: usize = 200;
 pub const MAX_STATIONS: usize = 40;
 pub const MAX_PRICE: u32 = 1_000_000;
 pub const MAX_AMOUNT: u16 = 1_000;
 pub const MAX_BAYS: u16 = 200;
+pub const MAX_CELL: u16 = 31;
 
 /// How long the result lists are that a clearing is lent.
 #[derive(Clone, Copy, Debug, PartialEq, Eq)]

@@ -5,6 +5,7 @@ pub mod clearing;
 pub mod faults;
 pub mod ledger;
 pub mod market;
+pub mod places;
 pub mod random;
 pub mod report;
 pub mod samples;

@@ -1,7 +1,8 @@
-//! Seeded random numbers and markets.
+//! Seeded random numbers, markets and places.
 
 use crate::faults::{MAX_AMOUNT, MAX_BAYS, MAX_GUESTS, MAX_PRICE, MAX_STATIONS};
 use crate::market::Market;
+use crate::places::Places;
 use std::ops::RangeInclusive;
 
 /// The splitmix64 generator.
@@ -124,5 +125,33 @@ impl Shape {
         let bids: Vec<u32> =
             (0..n * m).map(|_| if random.chance(self.empty) { 0 } else { random.within(self.bids.clone()) as u32 }).collect();
         Market::new(&asks, &bays, &amounts, &tickets, &bids)
+    }
+}
+
+/// The ranges that random places' numbers come from.
+#[derive(Clone)]
+pub struct Spread {
+    pub guests: RangeInclusive<u64>,
+    pub stations: RangeInclusive<u64>,
+    pub prices: RangeInclusive<u64>,
+    pub falls: RangeInclusive<u64>,
+    pub coordinates: RangeInclusive<u64>,
+}
+
+impl Spread {
+    pub fn places(&self, random: &mut Random) -> Places {
+        let n = random.within(self.guests.clone());
+        let m = random.within(self.stations.clone());
+        let mut numbers = |range: &RangeInclusive<u64>| (0..n).map(|_| random.within(range.clone()) as u32).collect();
+        let (prices, falls) = (numbers(&self.prices), numbers(&self.falls));
+        let mut coordinates = |count| (0..count).map(|_| random.within(self.coordinates.clone()) as u16).collect();
+        Places {
+            prices,
+            falls,
+            guest_first: coordinates(n),
+            guest_second: coordinates(n),
+            station_first: coordinates(m),
+            station_second: coordinates(m),
+        }
     }
 }
