@@ -32,7 +32,7 @@
 extern "C" {
 #endif
 
-#define BAY_MARKET_VERSION "0.1.0"
+#define BAY_MARKET_VERSION "0.3.0"
 
 /* Limits. Amounts and bays are at least 1, and so is the number of stations. */
 #define BAY_MARKET_MAX_GUESTS 200

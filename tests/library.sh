@@ -44,7 +44,7 @@ BAY_MARKET_LIB_DIR=$libraries scripts/install "$prefix" >/dev/null
 tests "-I$prefix/include" "$prefix/lib/libbay_market.a"
 export LD_LIBRARY_PATH="$prefix/lib"
 tests "-I$prefix/include" "-L$prefix/lib" -lbay_market
-readelf -d "$work/c" | grep -q 'NEEDED.*\[libbay_market.so.0\]'
+readelf -d "$work/c" | grep -qF "[$(scripts/soname)]"
 
 # one version, in the header, the pkg-config file and the crate
 version=$(sed -n 's/^#define BAY_MARKET_VERSION "\(.*\)"$/\1/p' "$prefix/include/bay_market.h")

@@ -1,4 +1,4 @@
-// Scans of a market's lists: whether a value is out of range.
+// Scans of lists: whether a value is out of range.
 ghost use mathlib.Core.Path.{_≡_};
 ghost use Rattle.model.specs.Counting.{any};
 ghost use Rattle.model.specs.market.Faults.{outside};

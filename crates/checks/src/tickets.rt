@@ -50,7 +50,7 @@ fn slot(ticket: u32) -> usize
     (ticket as usize) % SLOTS
 }
 
-// The same, where `seen` is 0 only if no ticket before k has this one's place.
+// As `stands_before`, where `seen` is 0 only if no ticket before k has this one's place.
 fn repeats_at(tickets: &[u32], k: usize, seen: u8) -> bool
     requires { ⌜ (k < length (now tickets)) × (seen ≡ 0 → standsBefore (now tickets) k ≡ false) ⌝ }
     ensures { λ r. ⌜ r ≡ standsBefore (now (tickets .entry)) k ⌝ }

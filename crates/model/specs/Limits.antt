@@ -1,4 +1,4 @@
--- The limits of document 01. The constants in src/limits.rt are proved to be these: `stated_limits` there
+-- The limits of documents 01 and 02. The constants in src/limits.rt are proved to be these: `stated_limits` there
 -- answers `limits` here.
 use Prim.Native.Nat.{ℕ, _*_}
 use Rattle.model.specs.declared.limits.Limits.{Limits}

@@ -51,7 +51,7 @@ unfoldable pub answerOfClearing : Clearing → Answer (ℕ × ℕ)
 answerOfClearing (clearing.Cleared cut margin) = accepted (cut .0, margin .0)
 answerOfClearing (clearing.Refused r) = refused (number r)
 
--- of a posting, and of every check
+-- of a posting, of placing bids, and of every check
 unfoldable pub answerOfVerdict : Verdict → Answer Unit
 answerOfVerdict verdict.Accepted = accepted tt
 answerOfVerdict (verdict.Refused r) = refused (number r)

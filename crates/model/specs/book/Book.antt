@@ -1,13 +1,10 @@
 -- The book as it is lent: the station accounts are a row of records.
 use Prim.Native.Nat.{ℕ}
 use mathlib.Core.List.{List, map}
-use lib.ListN.{getD}
-use Rattle.model.specs.declared.account.StationAccount.{StationAccount}
-use Prim.Native.Nat.{ℕ}
-use mathlib.Core.List.{List}
 use mathlib.Core.Path.{_≡_}
-use lib.ListN.{replicate}
+use lib.ListN.{getD, replicate}
 use Rattle.model.specs.book.PlainBook.{PlainBook}
+use Rattle.model.specs.declared.account.StationAccount.{StationAccount}
 
 abbrev pub account : (sold paid : ℕ) → StationAccount
 account sold paid = record { sold = sold; paid = paid }

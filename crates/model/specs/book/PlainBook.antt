@@ -1,22 +1,16 @@
 -- Document 01's plain book: whole numbers, fed each posting's arguments and nothing of the engine's. Its faults are a
 -- table in the order of 'Refusals by place'.
 use Prim.Native.Nat.{ℕ, _+_}
-use mathlib.Core.List.{List}
-use lib.ListN.{getD, length}
+use mathlib.Core.Bool.{Bool, not}
+use mathlib.Core.List.{List, [], _∷_, _++_}
+use lib.ListN.{getD, length, replicate}
+use Rattle.model.specs.Limits.{maxGuests, maxStations, maxAccount, maxRound}
 use Rattle.model.specs.Counting.{_<?_, only, list, _≤?_, _=?_, _or_, any, sum}
+use Rattle.model.specs.Verdicts.{Row, _gives_, Verdict, accepted, refused, firstFault, updated}
 use Rattle.model.specs.market.Market.{Tables}
 use Rattle.model.specs.market.Mechanism.{charged, sold, paid, margin}
 use Rattle.model.specs.market.Outcome.{screened, decision}
-use Prim.Native.Nat.{ℕ, _+_}
-use mathlib.Core.Bool.{Bool, not}
-use mathlib.Core.List.{List, [], _∷_, _++_}
-use lib.ListN.{length}
-use Rattle.model.specs.Limits.{maxGuests, maxStations, maxAccount, maxRound}
-use Rattle.model.specs.Verdicts.{Row, _gives_, Verdict, accepted, refused, firstFault, updated}
 use Rattle.model.specs.market.Faults.{outside, marketFaults}
-use Prim.Native.Nat.{ℕ, _+_}
-use mathlib.Core.List.{List, [], _∷_}
-use lib.ListN.{getD, length, replicate}
 use Rattle.model.specs.book.Posting.{Posting}
 
 -- document 01's book: a number for each guest account, kWh sold and money paid for each station account (two lists of

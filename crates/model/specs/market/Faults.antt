@@ -8,7 +8,6 @@ use Rattle.model.specs.Limits.{maxGuests, maxStations, maxPrice, maxAmou
 use Rattle.model.specs.Counting.{_<?_, _=?_, _or_, some, any}
 use Rattle.model.specs.Verdicts.{Row, _gives_, Verdict, accepted, firstFault}
 use Rattle.model.specs.market.Market.{Tables}
-use Rattle.model.specs.market.Mechanism.{sold, paid}
 use Rattle.model.specs.market.Outcome.{Results}
 
 unfoldable pub outside : (low high : ℕ) → ℕ → Bool
