@@ -1,5 +1,6 @@
 pub mod Counting
 pub mod Loops
+pub mod Passing
 pub mod Tests
 pub mod Verdicts
 pub mod book

@@ -11,3 +11,4 @@ pub mod Shortest
 pub mod Stated
 pub mod Tables
 pub mod Truth
+pub mod Walk

@@ -61,3 +61,11 @@ list (suc n) f = f 0 ∷ list n (λ k. f (suc k))
 unfoldable pub joined : {A : Type 0} → ℕ → (ℕ → List A) → List A
 joined zero f = []
 joined (suc n) f = joined n f ++ f n
+
+-- the k below n that pass, in rising order
+unfoldable pub alone : Bool → ℕ → List ℕ
+alone true k = k ∷ []
+alone false k = []
+
+unfoldable pub passing : ℕ → (ℕ → Bool) → List ℕ
+passing n f = joined n (λ k. alone (f k) k)

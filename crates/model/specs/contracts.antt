@@ -9,5 +9,6 @@ pub mod Prints
 pub mod Reads
 pub mod ReadsOut
 pub mod Rows
+pub mod Steps
 pub mod Writes
 pub mod WritesOut

@@ -7,3 +7,4 @@ pub mod limits;
 pub mod money;
 pub mod page;
 pub mod refusal;
+pub mod word;

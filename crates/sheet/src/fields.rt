@@ -4,8 +4,8 @@ ghost use Prim.Native.Nat.{_+_, _*_, _^_, _<_, _≤_};
 ghost use mathlib.Core.Path.{_≡_};
 ghost use lib.ListN.{length};
 ghost use Rattle.model.specs.Limits.{maxStations};
-ghost use Rattle.model.specs.Counting.{_<?_, count};
-ghost use Rattle.model.specs.sheet.Fields.{littleEndian, mapWidth, hasBit};
+ghost use Rattle.model.specs.Counting.{_<?_};
+ghost use Rattle.model.specs.sheet.Fields.{littleEndian, mapWidth};
 ghost use Rattle.sheet.specs.Taken.{Taken, HeaderTaken};
 
 // The place reached in a sheet. One is made at the sheet's start; all others come from it, by what is taken.
@@ -140,11 +140,4 @@ pub fn map_width(stations: usize) -> usize
     ensures { λ r. ⌜ r ≡ mapWidth stations ⌝ }
 {
     (stations + 7) / 8
-}
-
-// How many bits of a map are set.
-pub fn count_bits(bits: u64) -> usize
-    ensures { λ r. ⌜ r ≡ count 64 (hasBit bits) ⌝ }
-{
-    u64::count_ones(bits) as usize
 }

@@ -1,7 +1,7 @@
 // The filling pass of the reader: the sheet has no fault, which is what is required here, and its fields are written
 // into the lent tables.
-use crate::fields;
 use crate::fields::Cursor;
+use model::word::Step;
 ghost use Prim.Native.Nat.{_+_, _*_, _^_, _<_, _≤_};
 ghost use mathlib.Core.Path.{_≡_};
 ghost use lib.ListN.{length};
@@ -68,14 +68,19 @@ fn fill_some(
     clear_row(stations, base, bids);
     let mut d = c;
     let mut left = bits;
-    while 0 < left {
-        let j = u64::trailing_zeros(left) as usize;
-        let bid = d.four(s);
-        bids[base + j] = bid.value;
-        d = bid.next;
-        left -= 1 << j;
+    loop {
+        match words::step(left) {
+            Step::Place { place, rest } => {
+                let bid = d.four(s);
+                bids[base + place] = bid.value;
+                d = bid.next;
+                left = rest;
+            }
+            Step::End => {
+                return d;
+            }
+        }
     }
-    d
 }
 
 // The same where the bits of all stations are set.
@@ -109,7 +114,7 @@ fn fill_row(
     ensures { λ r. ⌜ RowFilled (c .at + 4 * count stations (hasBit bits)) base stations
         (bidBy (now (s .entry)) bits (c .at)) (now (bids .entry)) r (now (bids .exit)) ⌝ }
 {
-    if fields::count_bits(bits) == stations {
+    if words::count(bits) == stations {
         return fill_all(s, c, stations, base, bids);
     }
     fill_some(s, c, bits, stations, base, bids)

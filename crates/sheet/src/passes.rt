@@ -33,7 +33,7 @@ fn check_row(s: &[u8], c: Cursor, stations: usize) -> Step
     if 0 < map.bits >> stations {
         return Step::Fault(Refusal::StrayBit);
     }
-    let size = 4 * fields::count_bits(map.bits);
+    let size = 4 * words::count(map.bits);
     let e = map.next;
     if e.ends(s, size) {
         return Step::Fault(Refusal::SheetEnds);

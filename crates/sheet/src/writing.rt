@@ -2,6 +2,7 @@
 // required is a market within the limits and an output with room for what is written.
 use crate::fields;
 use crate::putting;
+use model::word::Step;
 ghost use Prim.Native.Nat.{_+_, _*_, _≤_};
 ghost use mathlib.Core.Path.{_≡_};
 ghost use lib.ListN.{getD, length};
@@ -123,12 +124,17 @@ fn put_some(
 {
     let mut p = at;
     let mut left = map;
-    while 0 < left {
-        let j = u64::trailing_zeros(left) as usize;
-        p = putting::put_four(out, p, bids[base + j]);
-        left -= 1 << j;
+    loop {
+        match words::step(left) {
+            Step::Place { place, rest } => {
+                p = putting::put_four(out, p, bids[base + place]);
+                left = rest;
+            }
+            Step::End => {
+                return p;
+            }
+        }
     }
-    p
 }
 
 fn put_bids(
@@ -145,7 +151,7 @@ fn put_bids(
     ensures { λ r. ⌜ Wrote (now (out .entry)) at (bidFields stations (bidsFrom (now (bids .entry)) base))
         (now (out .exit)) r ⌝ }
 {
-    if fields::count_bits(map) == stations {
+    if words::count(map) == stations {
         return put_all(bids, base, stations, out, at);
     }
     put_some(bids, base, map, stations, out, at)

@@ -115,6 +115,15 @@ fn sheets(random: &mut Random, cases: usize, visit: &mut Visit) -> Result<(), St
             every_damage(random, visit, &sheet)?;
         }
     }
+    // every map of 40 stations with no bit, with one, with two neighbours and with all but one
+    let few = |guest: usize, station: usize| match guest {
+        1..=40 => station == guest,
+        41..=80 => station == guest - 40 || station == guest - 39,
+        81..=120 => station != guest - 80,
+        _ => false,
+    };
+    let shape = Shape { guests: 121..=121, stations: 40..=40, bids: 1..=9, empty: 100, ..Shape::full() };
+    visit(random, &stating(&shape.market(random), few), GREATEST)?;
     // every header up to a little past the limits, alone and with zeros for what follows
     for n in (0..=3).chain(198..=203).chain([255, 256, 257, 65_535]) {
         for m in (0..=42).chain([255, 256, 257, 296, 65_535]) {

@@ -1,15 +1,14 @@
--- Laws of the set bits of a word, taken one after the other from the lowest on.
-use Prim.Native.Nat.{ℕ, zero, suc, _+_, _*_, _-_, _/_, _%_, _^_, _≤_, _<_}
-use mathlib.Core.Bool.{Bool, true, false}
+-- Laws of the set bits of a word.
+use Prim.Native.Nat.{ℕ, zero, suc, _+_, _*_, _-_, _/_, _%_, _^_, _≤_, _<_, min}
+use mathlib.Core.Bool.{true, false}
 use mathlib.Core.Logic.{⊎-elim}
 use mathlib.Core.Path.{_≡_, refl, sym, ap, _∙_}
 use native.Mathlib.Nat.{eq-or-lt-of-le, le-of-suc-le-suc, not-suc-le-zero}
-use native.Mathlib.Numerals.{add-one}
 use native.Mathlib.Omega.{arith}
+use lib.Bits.{bitAnd, and-step, and-self}
 use lib.Count.{trailingZeros, under}
-use lib.Pow.{pow-mono, shl-exact}
-use Rattle.model.specs.Counting.{only, count}
-use Rattle.model.proofs.Counting.{count-not}
+use Rattle.model.specs.Counting.{only}
+use Rattle.model.proofs.Passing.{First}
 use Rattle.model.proofs.Tests.{decide, clash, only-yes, only-no, lt-or-le, is-eq, not-eq}
 use Rattle.model.specs.sheet.Fields.{hasBit}
 use Rattle.model.proofs.sheet.Fields.{bit-is, next-bit}
@@ -57,6 +56,15 @@ pub set-power : (x j : ℕ) → hasBit x j ≡ true → 2 ^ j ≤ x
 set-power x zero e = omega (arith, bit-set x 0 e)
 set-power x (suc j) e = omega (arith, set-power (x / 2) j (sym (next-bit x j) ∙ e))
 
+-- a word is its bits
+pub same-bits : (k x y : ℕ) → x < 2 ^ k → y < 2 ^ k → ((j : ℕ) → j < k → hasBit x j ≡ hasBit y j) → x ≡ y
+same-bits zero x y h l e = omega arith
+same-bits (suc k) x y h l e =
+    let low : x % 2 ≡ y % 2 = omega (arith, bit-is x 0, bit-is y 0, ap (λ b. only b 1) (e 0 (omega arith))) in
+    let rest : x / 2 ≡ y / 2 = same-bits k (x / 2) (y / 2) (omega arith) (omega arith)
+    (λ j b. sym (next-bit x j) ∙ e (suc j) (omega arith) ∙ next-bit y j) in
+    omega arith
+
 -- ---- the lowest set bit
 
 pub lowest-set : (k x : ℕ) → 0 < x → x < 2 ^ k → hasBit x (trailingZeros k x) ≡ true
@@ -103,106 +111,44 @@ without-other (suc j) x (suc i) e n =
     next-bit (x - 2 ^ suc j) i ∙ ap (λ y. hasBit y i) half
     ∙ without-other j (x / 2) i f (λ q. n (ap suc q)) ∙ sym (next-bit x i)
 
--- ---- the walk
+-- as code makes it
+pub without-lowest : (k x : ℕ) → 0 < x → x < 2 ^ k → bitAnd x (x - 1) ≡ x - 2 ^ trailingZeros k x
+unfolding trailingZeros
+without-lowest zero x p h = absurd (omega arith)
+without-lowest (suc k) x p h = go (λ q. without-lowest k (x / 2) q (omega arith)) (x % 2) refl
+  where
+    go : (0 < x / 2 → bitAnd (x / 2) (x / 2 - 1) ≡ x / 2 - 2 ^ trailingZeros k (x / 2)) → (d : ℕ) → x % 2 ≡ d
+        → bitAnd x (x - 1) ≡ x - 2 ^ under d (trailingZeros k (x / 2))
+    go rest zero e =
+        let half : (x - 1) / 2 ≡ x / 2 - 1 = omega arith in
+        let low : min (x % 2) ((x - 1) % 2) ≡ 0 = omega arith in
+        let there = set-power (x / 2) _ (lowest-set k (x / 2) (omega arith) (omega arith)) in
+        let twice : (x / 2 - 2 ^ trailingZeros k (x / 2)) * 2 + 0 ≡ x - 2 ^ suc (trailingZeros k (x / 2)) =
+        omega (arith, there) in
+        and-step x (x - 1) ∙ rw (half, low, rest (omega arith)) twice
+    go rest (suc zero) e =
+        let half : (x - 1) / 2 ≡ x / 2 = omega arith in
+        let low : min (x % 2) ((x - 1) % 2) ≡ 0 = omega arith in
+        and-step x (x - 1) ∙ rw (half, low, and-self (x / 2)) (omega arith)
+    go rest (suc (suc d)) e = absurd (omega arith)
 
--- y is what x has from p on
-pub record Left (x y p : ℕ) : Type 0 where
-  pub passed : (i : ℕ) → i < p → hasBit y i ≡ false
-  pub ahead : (i : ℕ) → p ≤ i → hasBit y i ≡ hasBit x i
-
-pub left-all : (x : ℕ) → Left x x 0
-left-all x = record { passed = λ i l. absurd (not-suc-le-zero l); ahead = λ i l. refl }
-
--- where nothing passes from p on, the count stays
-pub count-still : (f : ℕ → Bool) (p q : ℕ) → p ≤ q → ((i : ℕ) → p ≤ i → i < q → f i ≡ false) → count q f ≡ count p f
-count-still f p zero l h = let e : p ≡ 0 = omega arith in rw e refl
-count-still f p (suc q) l h = ⊎-elim
-    (λ (e : p ≡ suc q). rw e refl)
-    (λ (g : p < suc q). omega (
-      arith,
-      rw add-one at (count-not q f (h q (le-of-suc-le-suc g) (omega arith))),
-      count-still f p q (le-of-suc-le-suc g) (λ i a b. h i a (omega arith)),
-    ))
-    (eq-or-lt-of-le l)
-
--- j is the lowest bit that is left: x has none between p and j
-pub record Next (x y p j : ℕ) : Type 0 where
-  pub onward : p ≤ j
-  pub set : hasBit x j ≡ true
-  pub there : 2 ^ j ≤ y
-  pub gap : (i : ℕ) → p ≤ i → i < j → hasBit x i ≡ false
-  pub number : count j (hasBit x) ≡ count p (hasBit x)
-  pub rest : Left x (y - 2 ^ j) (j + 1)
-
-pub next-of : (k x y p : ℕ) → Left x y p → 0 < y → y < 2 ^ k → Next x y p (trailingZeros k y)
-next-of k x y p t h w = record {
-  onward = onward;
-  set = sym (t .ahead j onward) ∙ set;
-  there = set-power y j set;
-  gap = gap;
-  number = count-still (hasBit x) p j onward gap;
-  rest = record { passed = passed; ahead = ahead };
+-- the lowest set bit is the first
+pub lowest-first :
+    (k x : ℕ) → 0 < x → x < 2 ^ k
+    → First k (hasBit x) (hasBit (x - 2 ^ trailingZeros k x)) (trailingZeros k x)
+lowest-first k x p h = record {
+  within = set-within x k j h set;
+  passes = set;
+  below = clear-below k x;
+  gone = λ i l. ⊎-elim
+      (λ (e : i ≡ j). rw e (without-same j x set))
+      (λ (b : i < j). without-other j x i set (λ e. omega arith) ∙ clear-below k x i b)
+      (eq-or-lt-of-le l);
+  kept = λ i l _. without-other j x i set (λ e. omega arith);
 }
   where
     j : ℕ
-    j = trailingZeros k y
+    j = trailingZeros k x
 
-    set : hasBit y j ≡ true
-    set = lowest-set k y h w
-
-    onward : p ≤ j
-    onward = ⊎-elim (λ (l : j < p). absurd (clash set (t .passed j l))) (λ (l : p ≤ j). l) (lt-or-le j p)
-
-    gap : (i : ℕ) → p ≤ i → i < j → hasBit x i ≡ false
-    gap i a b = sym (t .ahead i a) ∙ clear-below k y i b
-
-    passed : (i : ℕ) → i < j + 1 → hasBit (y - 2 ^ j) i ≡ false
-    passed i l = ⊎-elim
-        (λ (e : i ≡ j). rw e (without-same j y set))
-        (λ (b : i < j). without-other j y i set (λ e. omega arith) ∙ clear-below k y i b)
-        (eq-or-lt-of-le (omega arith))
-
-    ahead : (i : ℕ) → j + 1 ≤ i → hasBit (y - 2 ^ j) i ≡ hasBit x i
-    ahead i l = without-other j y i set (λ e. omega arith) ∙ t .ahead i (omega (arith, onward))
-
--- nothing is left
-pub none-left : (x p : ℕ) → Left x 0 p → (i : ℕ) → p ≤ i → hasBit x i ≡ false
-none-left x p t i l = sym (t .ahead i l) ∙ clear-zero i
-
--- the walk has taken the set bits below p of a map of m bits, and `left` has the others
-pub record Walk (map m left : ℕ) : Type 0 where
-  pub p : ℕ
-  pub low : p ≤ m
-  pub bits : Left map left p
-  pub fewer : left ≤ map
-
-abbrev pub walk-all : (map m : ℕ) → Walk map m map
-walk-all map m = record { p = 0; low = omega arith; bits = left-all map; fewer = omega arith }
-
-module _ {map m left : ℕ} (t : Walk map m left) where
-  module _ (few : m ≤ 64) (narrow : map < 2 ^ m) (h : 0 < left) where
-    pub walk-next : Next map left (t .p) (trailingZeros 64 left)
-    walk-next = next-of 64 map left (t .p) (t .bits) h (omega (arith, t .fewer, pow-mono {i = m} {j = 64} few))
-
-    -- the next bit is below m
-    pub walk-bit : trailingZeros 64 left < m
-    walk-bit = set-within map m _ narrow (walk-next .set)
-
-    -- its power, as code makes it
-    pub walk-power : 1 * 2 ^ trailingZeros 64 left % 2 ^ 64 ≡ 2 ^ trailingZeros 64 left
-    walk-power = shl-exact 1 (trailingZeros 64 left) 64 (omega arith) (omega (arith, walk-bit)) ∙ omega arith
-
-    pub walk-less : 2 ^ trailingZeros 64 left ≤ left
-    walk-less = walk-next .there
-
-    abbrev pub walk-on : (left′ : ℕ) → left′ ≡ left - 2 ^ trailingZeros 64 left → Walk map m left′
-    walk-on left′ e = record {
-      p = trailingZeros 64 left + 1;
-      low = omega (arith, walk-bit);
-      bits = rw e (walk-next .rest);
-      fewer = omega (arith, t .fewer);
-    }
-
-  -- no bit is left
-  pub walk-done : left ≤ 0 → (k : ℕ) → t .p ≤ k → hasBit map k ≡ false
-  walk-done h = none-left map (t .p) (let e : left ≡ 0 = omega arith in rw e at (t .bits))
+    set : hasBit x j ≡ true
+    set = lowest-set k x p h

@@ -1,18 +1,19 @@
 -- Bids by the map of their row.
-use Prim.Native.Nat.{ℕ, _+_, _*_, _-_, _^_, _≤_, _<_}
+use Prim.Native.Nat.{ℕ, _+_, _*_, _^_, _≤_, _<_}
 use mathlib.Core.Bool.{false}
 use mathlib.Core.List.{List}
 use mathlib.Core.Logic.{⊎-elim}
 use mathlib.Core.Path.{_≡_, sym, ap, _∙_}
 use native.Mathlib.Omega.{arith}
-use lib.Count.{trailingZeros}
 use lib.ListN.{length, set}
 use Rattle.model.specs.Counting.{_<?_, only, count}
 use Rattle.model.proofs.Counting.{count-all, count-start, count-yes, count-up}
 use Rattle.model.proofs.Tests.{only-yes, only-no, is-lt, not-lt, lt-or-le}
 use Rattle.model.specs.sheet.Fields.{littleEndian, hasBit}
 use Rattle.model.specs.sheet.Rows.{bidBy}
-use Rattle.model.proofs.sheet.Bits.{Next, count-still, Walk, walk-all, walk-next, walk-bit, walk-on, walk-done}
+use Rattle.model.specs.contracts.Steps.{Steps}
+use Rattle.model.specs.declared.word.Step.the-variants.{Place, End}
+use Rattle.model.proofs.sheet.Walk.{Next, count-still, Walk, walk-all, walk-next, walk-bit, walk-on, walk-done}
 use Rattle.sheet.specs.Filling.{placed}
 use Rattle.sheet.proofs.filling.Filled.{placed-cong, placed-set, placed-again}
 
@@ -58,37 +59,32 @@ module _ (s : List ℕ) (map m base q : ℕ) (l₀ : List ℕ) where
   }
 
   module _ {l : List ℕ} {d left : ℕ} (t : Walked s map m base q l₀ l d left) where
-    module _ (few : m ≤ 64) (narrow : map < 2 ^ m) (h : 0 < left) where
+    module _ {j rest : ℕ} (g : Steps left (Place j rest)) (narrow : map < 2 ^ m) where
       -- its field is within the row
       pub walk-field : d + 4 ≤ q + 4 * count m (hasBit map)
       walk-field =
-          let j = trailingZeros 64 left in
           omega (
             arith,
             t .place,
-            walk-next (t .walk) few narrow h .number,
-            count-yes j (hasBit map) (walk-next (t .walk) few narrow h .set),
-            count-up (j + 1) m (hasBit map) (omega (arith, walk-bit (t .walk) few narrow h)),
+            walk-next (t .walk) g .number,
+            count-yes j (hasBit map) (walk-next (t .walk) g .set),
+            count-up (j + 1) m (hasBit map) (omega (arith, walk-bit (t .walk) g narrow)),
           )
 
       pub walk-turn :
-          (v d′ left′ : ℕ) → base ≤ length l₀ → v ≡ littleEndian s d 4 → d′ ≡ d + 4
-          → left′ ≡ left - 2 ^ trailingZeros 64 left
-          → Walked s map m base q l₀ (set l (base + trailingZeros 64 left) v) d′ left′
+          (v d′ : ℕ) → base ≤ length l₀ → v ≡ littleEndian s d 4 → d′ ≡ d + 4
+          → Walked s map m base q l₀ (set l (base + j) v) d′ rest
       unfolding bidBy
-      walk-turn v d′ left′ b e f g = record {
-        walk = walk-on (t .walk) few narrow h left′ g;
+      walk-turn v d′ b e f = record {
+        walk = walk-on (t .walk) g narrow;
         place = omega (arith, t .place, n .number, count-yes j (hasBit map) (n .set));
         is = ap (λ y. set y (base + j) v) (t .is)
-            ∙ placed-set base m j v _ _ l₀ b (walk-bit (t .walk) few narrow h)
+            ∙ placed-set base m j v _ _ l₀ b (walk-bit (t .walk) g narrow)
             (value ∙ sym (below (j + 1) j _ (omega arith))) others;
       }
         where
-          j : ℕ
-          j = trailingZeros 64 left
-
-          n : Next map left (t .walk .p) j
-          n = walk-next (t .walk) few narrow h
+          n : Next map (t .walk .p) j
+          n = walk-next (t .walk) g
 
           value : v ≡ bidBy s map q j
           value =
@@ -106,15 +102,15 @@ module _ (s : List ℕ) (map m base q : ℕ) (l₀ : List ℕ) where
               (lt-or-le k (t .walk .p))
 
     -- no bit is left
-    module _ (h : left ≤ 0) where
-      clear : (k : ℕ) → t .walk .p ≤ k → hasBit map k ≡ false
-      clear = walk-done (t .walk) h
+    module _ (g : Steps left End) (few : m ≤ 64) where
+      clear : (k : ℕ) → t .walk .p ≤ k → k < m → hasBit map k ≡ false
+      clear k a l = walk-done (t .walk) g k a (omega arith)
 
       pub walk-place : d ≡ q + 4 * count m (hasBit map)
-      walk-place = omega (arith, t .place, count-still (hasBit map) (t .walk .p) m (t .walk .low) (λ k a _. clear k a))
+      walk-place = omega (arith, t .place, count-still (hasBit map) (t .walk .p) m (t .walk .low) clear)
 
       pub walk-end : l ≡ placed base m (bidBy s map q) l₀
-      walk-end = t .is ∙ placed-cong base m _ _ l₀ (λ k _. ⊎-elim
+      walk-end = t .is ∙ placed-cong base m _ _ l₀ (λ k l. ⊎-elim
           (λ (a : k < t .walk .p). below (t .walk .p) k _ a)
-          (λ (a : t .walk .p ≤ k). beyond (t .walk .p) k _ a ∙ sym (bid-none s map q k (clear k a)))
+          (λ (a : t .walk .p ≤ k). beyond (t .walk .p) k _ a ∙ sym (bid-none s map q k (clear k a l)))
           (lt-or-le k (t .walk .p)))

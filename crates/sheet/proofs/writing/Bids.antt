@@ -1,17 +1,18 @@
 -- The bids of a row by its map.
-use Prim.Native.Nat.{ℕ, suc, _+_, _-_, _^_, _≤_, _<_}
+use Prim.Native.Nat.{ℕ, suc, _+_, _^_, _≤_, _<_}
 use mathlib.Core.Bool.{true, false}
 use mathlib.Core.List.{List, []}
 use mathlib.Core.Path.{_≡_, sym, ap, _∙_}
 use native.Mathlib.Numerals.{add-one}
 use native.Mathlib.Omega.{arith}
-use lib.Count.{trailingZeros}
 use lib.ListN.{length, length-append}
 use Rattle.model.specs.Counting.{_<?_, count, joined}
 use Rattle.model.specs.sheet.Fields.{hasBit}
 use Rattle.model.specs.sheet.Layout.{bytesOf, stated}
 use Rattle.model.proofs.Counting.{count-all}
-use Rattle.model.proofs.sheet.Bits.{Walk, walk-all, walk-next, walk-bit, walk-on, walk-done}
+use Rattle.model.specs.contracts.Steps.{Steps}
+use Rattle.model.specs.declared.word.Step.the-variants.{Place, End}
+use Rattle.model.proofs.sheet.Walk.{Walk, walk-all, walk-next, walk-bit, walk-on, walk-done}
 use Rattle.model.proofs.sheet.Fields.{count-narrow}
 use Rattle.model.proofs.sheet.Holds.{pack-bit, pack-low, bytes-length}
 use Rattle.model.proofs.sheet.Joined.{joined-cong, joined-gap}
@@ -53,44 +54,39 @@ module _ (m : ℕ) (bid : ℕ → ℕ) {map : ℕ} (e : map ≡ rowMap m bid) wh
   walked-none l at = record { walk = walk-all map m; wrote = wrote-none-joined _ l at }
 
   module _ {l₀ l : List ℕ} {at q left : ℕ} (t : Walked l₀ at l q left) where
-    module _ (few : m ≤ 64) (h : 0 < left) where
+    module _ {j rest : ℕ} (g : Steps left (Place j rest)) where
       -- nothing stands between the last and the next set bit
-      skipped :
-          joined (trailingZeros 64 left) (λ j. bidField (bid j)) ≡ joined (t .walk .p) (λ j. bidField (bid j))
+      skipped : joined j (λ j. bidField (bid j)) ≡ joined (t .walk .p) (λ j. bidField (bid j))
       skipped =
-          let next = walk-next (t .walk) few map-narrow h in
-          joined-gap (λ j. bidField (bid j)) (t .walk .p) (trailingZeros 64 left) (next .onward)
-          (λ i a b. no-field i (omega (arith, walk-bit (t .walk) few map-narrow h)) (next .gap i a b))
+          let next = walk-next (t .walk) g in
+          joined-gap (λ j. bidField (bid j)) (t .walk .p) j (next .onward)
+          (λ i a b. no-field i (omega (arith, walk-bit (t .walk) g map-narrow)) (next .gap i a b))
 
-      next-field : bidField (bid (trailingZeros 64 left)) ≡ bytesOf 4 (bid (trailingZeros 64 left))
-      next-field =
-          field-there _ (walk-bit (t .walk) few map-narrow h) (walk-next (t .walk) few map-narrow h .set)
+      next-field : bidField (bid j) ≡ bytesOf 4 (bid j)
+      next-field = field-there _ (walk-bit (t .walk) g map-narrow) (walk-next (t .walk) g .set)
 
       pub walked-room : at + length (bidFields m bid) ≤ length l₀ → q + 4 ≤ length l
       unfolding bidFields joined
       walked-room room =
-          let j = trailingZeros 64 left in
           omega (
             arith,
             t .wrote .same,
             t .wrote .next,
             ap length skipped,
-            joined-up (λ j. bidField (bid j)) m (suc j) (walk-bit (t .walk) few map-narrow h),
+            joined-up (λ j. bidField (bid j)) m (suc j) (walk-bit (t .walk) g map-narrow),
             length-append (joined j (λ j. bidField (bid j))) (bidField (bid j)),
             ap length next-field ∙ bytes-length 4 (bid j),
           )
 
-      pub walked-on :
-          {l′ : List ℕ} {q′ left′ : ℕ} → Wrote l q (bytesOf 4 (bid (trailingZeros 64 left))) l′ q′
-          → left′ ≡ left - 2 ^ trailingZeros 64 left → Walked l₀ at l′ q′ left′
+      pub walked-on : {l′ : List ℕ} {q′ : ℕ} → Wrote l q (bytesOf 4 (bid j)) l′ q′ → Walked l₀ at l′ q′ rest
       unfolding joined
-      walked-on {l′} {q′} {left′} w g = record {
-        walk = walk-on (t .walk) few map-narrow h left′ g;
+      walked-on {l′} {q′} w = record {
+        walk = walk-on (t .walk) g map-narrow;
         wrote = rw (add-one, skipped, next-field) (wrote-then (t .wrote) w);
       }
 
-    pub walked-all : left ≤ 0 → Wrote l₀ at (bidFields m bid) l q
+    pub walked-all : Steps left End → m ≤ 64 → Wrote l₀ at (bidFields m bid) l q
     unfolding bidFields
-    walked-all h =
+    walked-all g few =
         rw (joined-gap (λ j. bidField (bid j)) (t .walk .p) m (t .walk .low)
-        (λ i a b. no-field i b (walk-done (t .walk) h i a))) (t .wrote)
+        (λ i a b. no-field i b (walk-done (t .walk) g i a (omega arith)))) (t .wrote)

@@ -15,7 +15,7 @@ full : (c : tie.Then1) →
     count (entry .args .stations) (hasBit (entry .args .bits)) ≡ entry .args .stations
 full c =
     sym (count-narrow _ _ (omega arith) (c .before .before .before .before .pre .1))
-    ∙ sym (c .before .count-bits .ensures) ∙ c .if1 .taken
+    ∙ sym (c .before .count .ensures) ∙ c .if1 .taken
 
 fill-all-requires : tie.Need-fill-all-requires
 fill-all-requires c κs = (omega (arith, full (c .before)), omega arith)

@@ -11,11 +11,11 @@ use Rattle.sheet.proofs.passes.Steps.{step-fault, step-next}
 use Rattle.sheet.proofs.passes.check_row.Statement.{statement}
 use Rattle.sheet.proofs.passes.check_row.Tie as tie
 
-abbrev past-stray-before-bits : tie.After-count-bits → tie.Else3
-past-stray-before-bits p = p .before
+abbrev past-stray-before-count : tie.After-count → tie.Else3
+past-stray-before-count p = p .before
 
-abbrev map-before-bits : tie.After-count-bits → tie.After-map
-map-before-bits p = p .before .before .before
+abbrev map-before-count : tie.After-count → tie.After-map
+map-before-count p = p .before .before .before
 
 taken : (c : tie.After-map) →
     let at-skip = c .before .before .before .before in
@@ -71,7 +71,7 @@ returns-3 c = step-fault _ _ _ (stray (taken (c .before .before)) (omega (arith,
 
 mul-size : tie.Need-mul-size
 mul-size c =
-    omega (arith, c .count-bits .ensures, count-most 64 (hasBit (c .before .before .before .map .result .bits)))
+    omega (arith, c .count .ensures, count-most 64 (hasBit (c .before .before .before .map .result .bits)))
 
 ends-requires-3 : tie.Need-ends-requires-3
 ends-requires-3 c κs =
@@ -80,22 +80,22 @@ ends-requires-3 c κs =
 
 returns-4 : tie.Need-returns-4
 returns-4 c =
-    let count-bits = c .before .before .before .count-bits in
-    let if3 = past-stray-before-bits (c .before .before .before) .if3 in
+    let counted = c .before .before .before .count in
+    let if3 = past-stray-before-count (c .before .before .before) .if3 in
     let h = lt-yes _ _ (sym (c .before .ends3 .ensures) ∙ c .if4 .taken) in
-    step-fault _ _ _ (bids-end (taken (map-before-bits (c .before .before .before))) (omega arith) (if3 .left)
-    (omega (arith, h, count-bits .ensures)))
+    step-fault _ _ _ (bids-end (taken (map-before-count (c .before .before .before))) (omega arith) (if3 .left)
+    (omega (arith, h, counted .ensures)))
 
 skip-requires-2 : tie.Need-skip-requires-2
 skip-requires-2 c κs = omega (arith, lt-no _ _ (sym (c .before .ends3 .ensures) ∙ c .if4 .left))
 
 returns-5 : tie.Need-returns-5
 returns-5 c =
-    let count-bits = c .before .before .before .before .count-bits in
-    let if3 = past-stray-before-bits (c .before .before .before .before) .if3 in
+    let counted = c .before .before .before .before .count in
+    let if3 = past-stray-before-count (c .before .before .before .before) .if3 in
     let h = lt-no _ _ (sym (c .before .before .ends3 .ensures) ∙ c .before .if4 .left) in
-    let n = count-bits .ensures in
-    let t = taken (map-before-bits (c .before .before .before .before)) in
+    let n = counted .ensures in
+    let t = taken (map-before-count (c .before .before .before .before)) in
     step-next _ _ _ (row-good t (omega arith) (if3 .left) (omega (arith, h, n)))
     (omega (arith, c .skip2 .ensures, n, next-is t (omega arith) (if3 .left)))
 

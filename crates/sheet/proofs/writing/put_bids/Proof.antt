@@ -8,7 +8,7 @@ use Rattle.sheet.proofs.writing.Bids.{all-fields}
 use Rattle.sheet.proofs.writing.put_bids.Statement.{statement}
 use Rattle.sheet.proofs.writing.put_bids.Tie as tie
 
-abbrev entry-before-count : tie.After-count-bits → tie.Start
+abbrev entry-before-count : tie.After-count → tie.Start
 entry-before-count p = p .before .before .before
 
 -- all bits are set
@@ -19,7 +19,7 @@ full : (c : tie.Then1) →
 full c =
     let entry = entry-before-count (c .before) in
     all-fields _ _ (entry .pre .1 .0) (omega (arith, entry .pre .0 .0))
-    (sym (c .before .count-bits .ensures) ∙ c .if1 .taken)
+    (sym (c .before .count .ensures) ∙ c .if1 .taken)
 
 put-all-requires : tie.Need-put-all-requires
 put-all-requires c κs =

@@ -1,11 +1,13 @@
 -- The walk over the set bits, from the lowest on: `left` has those that are not taken.
-use Prim.Native.Nat.{_*_, _-_, _%_, _^_, _≤_, _<_}
-use mathlib.Core.Path.{_≡_, ap}
+use Prim.Native.Nat.{_<_}
+use mathlib.Core.Path.{_≡_}
 use native.Mathlib.Omega.{arith}
-use lib.Count.{trailingZeros}
 use borrow.Author.Needs.{needs}
-use Rattle.model.proofs.sheet.Bits.{Walk, walk-bit, walk-power, walk-less}
-use Rattle.model.proofs.sheet.Fields.{pow-pos}
+use Rattle.model.specs.Counting.{count}
+use Rattle.model.specs.sheet.Fields.{hasBit}
+use Rattle.model.specs.contracts.Steps.{Steps}
+use Rattle.model.specs.declared.word.Step.the-variants.{Place, End}
+use Rattle.model.proofs.sheet.Walk.{walk-bit, step-less}
 use Rattle.sheet.specs.Laid.{bidsFrom, rowMap}
 use Rattle.sheet.proofs.writing.Bids.{Walked, map-narrow, walked-none, walked-room, walked-on, walked-all}
 use Rattle.sheet.proofs.writing.put_some.Statement.{statement}
@@ -16,33 +18,32 @@ Inv-loop bids base map stations out₀ at p₀ left₀ out p left =
     (e : map ≡ rowMap stations (bidsFrom bids base)) × Walked stations (bidsFrom bids base) e out₀ at out p left
 
 abbrev μ-loop : tie.MeasureT-loop
-μ-loop bids base map stations out₀ at p₀ left₀ out p left = left
+μ-loop bids base map stations out₀ at p₀ left₀ out p left = count 64 (hasBit left)
 
 abbrev entry : tie.At-loop Inv-loop μ-loop → tie.Start Inv-loop μ-loop
 entry p = p .before .before .before
 
--- the next set bit is a station's
-station : (c : tie.In-loop Inv-loop μ-loop) →
-    trailingZeros 64 (c .before .loop .left) < entry (c .before) .args .stations
-station c =
-    let (e, t) = c .before .loop .inv in
-    walk-bit (t .walk) (omega arith) (map-narrow _ _ e) (omega arith)
+abbrev at-loop : tie.After-known-told Inv-loop μ-loop → tie.At-loop Inv-loop μ-loop
+at-loop p = p .before .before .before .before
 
--- its power, which is taken away
-power : (c : tie.In-loop Inv-loop μ-loop) →
-    let left = c .before .loop .left in
-    (1 * 2 ^ trailingZeros 64 left % 2 ^ 64 ≡ 2 ^ trailingZeros 64 left) × (2 ^ trailingZeros 64 left ≤ left)
-power c =
-    let (e, t) = c .before .loop .inv in (
-      walk-power (t .walk) (omega arith) (map-narrow _ _ e) (omega arith),
-      walk-less (t .walk) (omega arith) (map-narrow _ _ e) (omega arith),
-    )
+-- the step gave a place
+stepped : (c : tie.After-known-told Inv-loop μ-loop) →
+    Steps (at-loop c .loop .left) (Place (c .before .place .given .0 .0) (c .before .place .given .0 .1 .0))
+stepped c = rw (c .before .place .given .1) at (c .before .before .before .step .ensures)
+
+-- it is a station's
+station : (c : tie.After-known-told Inv-loop μ-loop) →
+    c .before .place .given .0 .0 < entry (at-loop c) .args .stations
+station c =
+    let (e, t) = at-loop c .loop .inv in
+    walk-bit (t .walk) (stepped c) (map-narrow _ _ e)
+
+-- no place was left
+ended : (c : tie.After-enum-told Inv-loop μ-loop) → Steps (c .before .before .before .loop .left) End
+ended c = rw (c .enum-told .given .1) at (c .before .before .step .ensures)
 
 loop-holds : tie.Need-loop-holds Inv-loop μ-loop
 loop-holds c = let entry = c .before .before in (entry .pre .1 .0, walked-none _ _ (entry .pre .1 .0) _ _)
-
-cast-j : tie.Need-cast-j Inv-loop μ-loop
-cast-j c = omega (arith, station c)
 
 add-put-four : tie.Need-add-put-four Inv-loop μ-loop
 add-put-four c = let h = station (c .before) in search needs
@@ -55,40 +56,31 @@ shared-slice-read-put-four c = let h = station (c .before .before) in search nee
 
 put-four-requires : tie.Need-put-four-requires Inv-loop μ-loop
 put-four-requires c κs =
-    let at-loop = c .before .before .before in
-    let (e, t) = at-loop .loop .inv in
-    walked-room _ _ e t (omega arith) (omega arith) (entry at-loop .pre .1 .1)
+    let turn = c .before .before in
+    let (e, t) = at-loop turn .loop .inv in
+    walked-room _ _ e t (stepped turn) (entry (at-loop turn) .pre .1 .1)
 
-abbrev turn : tie.After-slice-known2 Inv-loop μ-loop → tie.In-loop Inv-loop μ-loop
+abbrev turn : tie.After-slice-known2 Inv-loop μ-loop → tie.After-known-told Inv-loop μ-loop
 turn p = let at-put-four = p .before .before in at-put-four .before .before .before
 
-shl-left : tie.Need-shl-left Inv-loop μ-loop
-shl-left c = omega (arith, station (turn c))
-
-sub-left : tie.Need-sub-left Inv-loop μ-loop
-sub-left c = omega (arith, power (turn c) .0, power (turn c) .1)
-
 loop-less : tie.Need-loop-less Inv-loop μ-loop
-loop-less c =
-    omega (arith, power (turn c) .0, power (turn c) .1, pow-pos (trailingZeros 64 (turn c .before .loop .left)))
+loop-less c = step-less (stepped (turn c))
 
 loop-again : tie.Need-loop-again Inv-loop μ-loop
 unfolding bidsFrom
 loop-again c =
-    let at-loop = turn c .before in
-    let (e, t) = at-loop .loop .inv in (
-      e,
-      walked-on _ _ e t (omega arith) (omega arith) (c .before .before .put-four .ensures)
-          (ap (λ x. at-loop .loop .left - x) (power (turn c) .0)),
-    )
+    let (e, t) = at-loop (turn c) .loop .inv in
+    (e, walked-on _ _ e t (stepped (turn c)) (c .before .before .put-four .ensures))
 
 same-length : tie.Need-same-length Inv-loop μ-loop
-same-length c = c .before .loop .inv .1 .wrote .same
+same-length c = c .before .before .before .loop .inv .1 .wrote .same
 
 returns : tie.Need-returns Inv-loop μ-loop
-returns c = let (e, t) = c .before .loop .inv in walked-all _ _ e t (c .loop-test .left)
+returns c =
+    let (e, t) = c .before .before .before .loop .inv in
+    walked-all _ _ e t (ended c) (omega arith)
 
 pub put-some-spec : {M : Type 1} → statement M
 put-some-spec =
-    tie.close (tie.spec Inv-loop μ-loop loop-holds cast-j add-put-four mul-put-four shared-slice-read-put-four
-    put-four-requires shl-left sub-left loop-less loop-again same-length returns)
+    tie.close (tie.spec Inv-loop μ-loop loop-holds (λ c κs. search needs) (λ c. search needs) add-put-four mul-put-four
+    shared-slice-read-put-four put-four-requires loop-less loop-again (λ c. search needs) same-length returns)
