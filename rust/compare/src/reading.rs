@@ -5,7 +5,7 @@ use crate::call;
 use crate::markets::{hex, middling, shapes};
 use reference::faults::market_fault;
 use reference::random::{Random, Shape};
-use reference::sheet::{GREATEST, TableLengths, read, stating};
+use reference::sheet::{GREATEST, TableLengths, read, shortest, stating};
 
 fn check(random: &mut Random, tally: &mut Tally, sheet: &[u8], lengths: TableLengths) -> Result<(), String> {
     let expected = read(sheet, lengths);
@@ -116,14 +116,18 @@ fn sheets(random: &mut Random, cases: usize, visit: &mut Visit) -> Result<(), St
         }
     }
     // every map of 40 stations with no bit, with one, with two neighbours and with all but one
-    let few = |guest: usize, station: usize| match guest {
-        1..=40 => station == guest,
-        41..=80 => station == guest - 40 || station == guest - 39,
-        81..=120 => station != guest - 80,
+    let has_bid = |guest: usize, station: usize| match guest {
+        0..40 => station == guest,
+        40..80 => station == guest - 40 || station == guest - 39,
+        80..120 => station != guest - 80,
         _ => false,
     };
-    let shape = Shape { guests: 121..=121, stations: 40..=40, bids: 1..=9, empty: 100, ..Shape::full() };
-    visit(random, &stating(&shape.market(random), few), GREATEST)?;
+    let shape = Shape { guests: 121..=121, stations: 40..=40, bids: 1..=1_000_000, empty: 0, ..Shape::full() };
+    let mut market = shape.market(random);
+    for (_, bid) in market.bids.iter_mut().enumerate().filter(|(place, _)| !has_bid(place / 40, place % 40)) {
+        *bid = 0;
+    }
+    visit(random, &shortest(&market), GREATEST)?;
     // every header up to a little past the limits, alone and with zeros for what follows
     for n in (0..=3).chain(198..=203).chain([255, 256, 257, 65_535]) {
         for m in (0..=42).chain([255, 256, 257, 296, 65_535]) {
