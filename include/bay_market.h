@@ -1,6 +1,6 @@
 /*
- * The bay market: reading and writing market sheets, placing bids from parking places, clearing a market, posting it
- * to a ledger.
+ * The bay market: reading and writing market sheets, placing bids from parking places, clearing a market, in a truthful
+ * round or in an efficient one for quiet days, posting a truthful round to a ledger.
  *
  * For x86-64 Linux: link libbay_market.a, or libbay_market.so. Both need memcpy and memset of the C library and
  * nothing else. Nothing is allocated; a call takes at most BAY_MARKET_MAX_STACK bytes of stack.
@@ -14,9 +14,9 @@
  * Calls share no state, so threads may call at the same time on different memory.
  *
  * MIND THE ORDER OF ARGUMENTS. bay_market_read takes amounts, tickets, asks, bays, bids, as the sheet's reader fills
- * them; bay_market_write, bay_market_clear and bay_market_post take asks, bays, amounts, tickets, bids. Amounts and
- * bays have one type, tickets, asks and bids another, so a compiler cannot see a swap. bay_market_place_bids takes
- * prices, falls, then the guests' first and second coordinates, then the stations'.
+ * them; bay_market_write, bay_market_clear, bay_market_clear_efficient and bay_market_post take asks, bays, amounts,
+ * tickets, bids. Amounts and bays have one type, tickets, asks and bids another, so a compiler cannot see a swap.
+ * bay_market_place_bids takes prices, falls, then the guests' first and second coordinates, then the stations'.
  *
  * Prices are in mills (thousandths of the currency unit) per kWh, charges and payments in mills,
  * amounts in whole kWh. Guests and stations are numbered from 1; element 0 of a table is number 1. A ticket is any
@@ -155,9 +155,10 @@ uint8_t bay_market_place_bids(const uint32_t *prices, size_t prices_len,
                               uint32_t *bids, size_t bids_len);
 
 /*
- * Clears a market. n is amounts_len and m is asks_len; guest i's bid at station j, both from 0, is
- * bids[i * width + j], and 0 is no bid. Result lists: for each guest its station (0 for none) and its
- * charge (0 for none), for each station the kWh sold and its payment. *cut is the cut, per kWh.
+ * Clears a market in a truthful round: no guest and no station gains by a false report. n is amounts_len and m is
+ * asks_len; guest i's bid at station j, both from 0, is bids[i * width + j], and 0 is no bid. Result lists: for each
+ * guest its station (0 for none) and its charge (0 for none), for each station the kWh sold and its payment. *cut is
+ * the cut, per kWh.
  *
  * Refusals in this order: 2 for n or m; 5 where bays_len or width is not m, tickets_len is not n or bids_len is
  * not n times m; 10 for a result list that is not n or m long; then 6 for any ask, 7 for any bays, 8 for any amount,
@@ -176,8 +177,30 @@ uint8_t bay_market_clear(const uint32_t *asks, size_t asks_len,
                          uint32_t *cut, uint64_t *margin);
 
 /*
- * Clears a market as bay_market_clear does and posts it to the ledger as the given round: charges to the
- * guests' accounts, sales and payments to the stations', the margin to *house, the round to *last.
+ * Clears a market by the efficient mechanism, for quiet days: whoever bay_market_clear seats is seated here too, and
+ * others may be. Stations keep the guarantee that truth pays best; GUESTS LOSE IT: a false bid may pay. All candidacies
+ * of all stations are taken by falling total, of equal ones the lower ticket first, then the lower station. A seated
+ * guest's later ones are skipped. Where the station has a bay left the guest is seated; where it is full, the first
+ * such guest's total is its floor, whoever is seated elsewhere later. A charge is the larger of cut times amount and
+ * floor.
+ *
+ * Arguments, result lists and refusals are those of bay_market_clear. Only truthful rounds are posted.
+ */
+uint8_t bay_market_clear_efficient(const uint32_t *asks, size_t asks_len,
+                                   const uint16_t *bays, size_t bays_len,
+                                   const uint16_t *amounts, size_t amounts_len,
+                                   const uint32_t *tickets, size_t tickets_len,
+                                   const uint32_t *bids, size_t bids_len,
+                                   size_t width,
+                                   uint16_t *stations, size_t stations_len,
+                                   uint32_t *charges, size_t charges_len,
+                                   uint32_t *sold, size_t sold_len,
+                                   uint64_t *paid, size_t paid_len,
+                                   uint32_t *cut, uint64_t *margin);
+
+/*
+ * Clears a market as bay_market_clear does, in a truthful round, and posts it to the ledger as the given round:
+ * charges to the guests' accounts, sales and payments to the stations', the margin to *house, the round to *last.
  * Accounts beyond the market's guests and stations stay. An empty ledger is all zeros; round 1 is first.
  *
  * Refusals in this order: 2, 5, 6 to 9 and 15 as in clearing; 13 for a ledger over 200 guests or 40 stations

@@ -50,6 +50,26 @@ for sheet in examples/*.sheet; do
     fi
 done
 
+# quiet rounds: two guests more than in examples/table_i.txt; case E seats the same
+quiet='cut 3
+guest 1 station 4 charge 15
+guest 2 station 0 charge 0
+guest 3 station 2 charge 18
+guest 4 station 2 charge 12
+guest 5 station 4 charge 9
+station 1 sold 0 paid 0
+station 2 sold 10 paid 30
+station 3 sold 0 paid 0
+station 4 sold 8 paid 24
+station 5 sold 0 paid 0
+margin 0'
+expect 0 "$quiet" '' './clear --quiet examples/table_i.sheet'
+expect 0 "$quiet" '' './clear --quiet <examples/table_i.sheet'
+expect 0 "$quiet" '' 'cat examples/table_i.sheet | ./clear --quiet -'
+expect 0 "$quiet" '' './clear --quiet -- examples/table_i.sheet'
+expect 0 "$(cat examples/case_e.txt)" '' './clear --quiet examples/case_e.sheet'
+expect 1 "$(cat examples/refused.txt)" '' './clear --quiet examples/refused.sheet'
+
 # case E with a set bit for a bid of 0: the same clearing, and 4 bytes more than are written
 {
     head -c 33 examples/case_e.sheet
@@ -72,6 +92,8 @@ expect_sheet "$work/tickets" "./clear --write $work/tickets"
 tickets '\4' '\4' >"$work/equal"
 expect 1 'refused 15' '' "./clear $work/equal"
 expect 1 'refused 15' '' "./clear --write $work/equal"
+expect 0 $'cut 6\nguest 1 station 0 charge 0\nguest 2 station 1 charge 24\n*' '' "./clear --quiet $work/tickets"
+expect 1 'refused 15' '' "./clear --quiet $work/equal"
 
 # the largest sheet, a byte more, and no byte
 {
@@ -92,6 +114,9 @@ expect 1 'refused 1' '' './clear </dev/null'
 expect_sheet "$work/largest" "./clear --write $work/largest"
 expect 1 'refused 4' '' "{ cat $work/largest; printf x; } | ./clear --write"
 expect 1 'refused 1' '' './clear --write </dev/null'
+expect 0 $'cut 1\n*' '' "./clear --quiet $work/largest"
+expect 1 'refused 4' '' "{ cat $work/largest; printf x; } | ./clear --quiet"
+expect 1 'refused 1' '' './clear --quiet </dev/null'
 # all its bids 0
 {
     cat "$work/stations"
@@ -112,11 +137,21 @@ expect 2 '' 'clear: no such file: -x' './clear -- -x'
 expect 2 '' 'clear: a folder, not a file: examples' './clear examples'
 expect 0 'usage: ./clear*' '' './clear --write --help'
 expect 2 '' 'clear: no such option: -x*' './clear --write -x'
+expect 2 '' 'clear: only one of --quiet and --write*' './clear --quiet --write examples/case_e.sheet'
 expect 2 '' 'clear: more than one FILE*' './clear --write a b'
 expect 2 '' 'clear: more than one FILE*' './clear examples/case_e.sheet --write'
 expect 2 '' 'clear: no such file: nofile' './clear --write nofile'
 expect 2 '' 'clear: no such file: --write' './clear -- --write'
 expect 2 '' 'clear: a folder, not a file: examples' './clear --write examples'
+expect 0 'usage: ./clear*--quiet*' '' './clear --quiet --help'
+expect 2 '' 'clear: only one of --quiet and --write*' './clear --quiet --write examples/case_e.sheet'
+expect 2 '' 'clear: only one of --quiet and --write*' './clear --write --quiet examples/case_e.sheet'
+expect 2 '' 'clear: only one of --quiet and --write*' './clear --quiet --quiet examples/case_e.sheet'
+expect 2 '' 'clear: no such option: -x*' './clear --quiet -x'
+expect 2 '' 'clear: more than one FILE*' './clear --quiet a b'
+expect 2 '' 'clear: more than one FILE*' './clear examples/case_e.sheet --quiet'
+expect 2 '' 'clear: no such file: nofile' './clear --quiet nofile'
+expect 2 '' 'clear: no such file: --quiet' './clear -- --quiet'
 
 # input and output that fail
 expect 3 '' 'clear: cannot read standard input' './clear </'
@@ -132,6 +167,9 @@ expect 3 '' 'clear: cannot read /proc/self/mem' './clear --write /proc/self/mem'
 expect 3 '' 'clear: cannot write standard output' './clear --write examples/full.sheet >/dev/full'
 expect 3 '' 'clear: cannot write standard output' './clear --write examples/case_e.sheet >&-'
 expect 3 '' 'clear: cannot write standard output' './clear --write examples/refused.sheet >/dev/full'
+expect 3 '' 'clear: cannot read standard input' './clear --quiet </'
+expect 3 '' 'clear: cannot write standard output' './clear --quiet examples/full.sheet >/dev/full'
+expect 3 '' 'clear: cannot write standard output' './clear --quiet examples/refused.sheet >/dev/full'
 expect_sheet examples/case_e.sheet './clear --write examples/case_e.sheet 2>&-'
 expect_sheet examples/case_e.sheet './clear --write examples/case_e.sheet <&-'
 expect 0 "$(cat examples/case_e.txt)" '' './clear examples/case_e.sheet 2>&-'
@@ -140,8 +178,9 @@ expect 0 "$(cat examples/case_e.txt)" '' './clear examples/case_e.sheet <&-'
 program=$(scripts/current)/clear
 expect 3 '' 'clear: cannot write standard output' "$program <examples/case_e.sheet >/dev/full; exit 3"
 expect 3 '' 'clear: cannot write standard output' "$program --write <examples/case_e.sheet >/dev/full; exit 3"
-for argument in -- --writ --write1 --writes.. '' -; do
-    expect 3 '' 'clear: no such argument' "$program '$argument' <examples/case_e.sheet; exit 3"
+expect 3 '' 'clear: cannot write standard output' "$program --quiet <examples/case_e.sheet >/dev/full; exit 3"
+for arguments in -- --writ --write1 --writes.. --quie --quiet1 --quiets.. "''" - '--quiet --write' '--write --quiet'; do
+    expect 3 '' 'clear: no such argument' "$program $arguments <examples/case_e.sheet; exit 3"
 done
 if [ "$(id -u)" != 0 ]; then
     : >"$work/secret"
@@ -160,6 +199,7 @@ expect 0 "$case_e" '' "cd .. && CDPATH=$root $(basename "$root")/clear $root/exa
 # a terminal on standard input: the sample; on standard output: no sheet
 if command -v script >/dev/null; then
     expect 0 "$(cat examples/table_i.txt)" '' "script -qec ./clear /dev/null </dev/null | tr -d '\r'"
+    expect 0 "$quiet" '' "script -qec './clear --quiet' /dev/null </dev/null | tr -d '\r'"
     expect_sheet examples/table_i.sheet "script -qec './clear --write >$work/sample' /dev/null </dev/null; cat $work/sample"
     expect 2 'clear: a sheet is bytes and not for a terminal*' '' \
         "script -qec './clear --write examples/case_e.sheet' /dev/null </dev/null"
@@ -180,6 +220,7 @@ for program in 'kill -9 $$' 'exit 1' 'echo oops >&2'; do
     printf '#!/bin/sh\n%s\n' "$program" >"$copy/prebuilt/x86_64-linux/clear"
     expect 3 '' 'clear: the program failed: *' "$copy/clear $copy/examples/case_e.sheet"
     expect 3 '' 'clear: the program failed: *' "$copy/clear --write $copy/examples/case_e.sheet"
+    expect 3 '' 'clear: the program failed: *' "$copy/clear --quiet $copy/examples/case_e.sheet"
 done
 # one that stops inside the sheet, and one that writes a text
 for program in "head -c 20 $root/examples/case_e.sheet; kill -9 \$\$" 'echo cut 6'; do

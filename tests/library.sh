@@ -25,7 +25,8 @@ done
 given=$(nm -g --defined-only "$libraries/libbay_market.a" | awk 'NF == 3 { print $3 }' | sort | xargs)
 needed=$(nm -u "$libraries/libbay_market.a" | awk '$1 == "U" { print $2 }' | sort | xargs)
 shared=$(nm -D --defined-only "$libraries/libbay_market.so" | awk '{ print $3 }' | sort | xargs)
-[ "$given" = 'bay_market_clear bay_market_place_bids bay_market_post bay_market_read bay_market_write' ]
+functions=(clear clear_efficient place_bids post read write)
+[ "$given" = "${functions[*]/#/bay_market_}" ]
 [ "$needed" = 'memcpy memset' ]
 [ "$shared" = "$given" ]
 

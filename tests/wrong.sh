@@ -10,7 +10,7 @@ seed=20261115
 rm -rf "$wrong"
 mkdir -p "$wrong"
 (cd "$wrong" && ar x "$real/libbay_market.a")
-for function in read write place_bids clear post; do
+for function in read write place_bids clear clear_efficient post; do
     objcopy --redefine-sym "bay_market_$function=real_bay_market_$function" "$wrong/bay_market.o"
 done
 gcc -std=c11 -O1 -Wall -Wextra -Werror -fPIC -Iinclude -c tests/wrong_engine.c -o "$wrong/wrong_engine.o"
@@ -33,16 +33,18 @@ finds() {
     found=$((found + 1))
 }
 
-for part in read write trip place_bids clear post truth; do
+for part in read write trip place_bids clear clear_efficient post truth truth_efficient; do
     BAY_MARKET_FAULT='' "$compare" $seed $part >/dev/null
 done
+# what has the faults of efficient clearing is right without one
+BAY_MARKET_FAULT='clear_efficient own' "$compare" $seed clear_efficient >/dev/null
 
 # what a function only reads, what it fills, the numbers that it gives
 lists() {
     case $1 in
     read) echo sheet ;;
     place_bids) echo prices falls guest_first guest_second station_first station_second ;;
-    write | clear | post) echo asks bays amounts tickets bids ;;
+    write | clear | clear_efficient | post) echo asks bays amounts tickets bids ;;
     esac
 }
 filled() {
@@ -50,7 +52,7 @@ filled() {
     read) echo amounts tickets asks bays bids ;;
     write) echo sheet ;;
     place_bids) echo bids ;;
-    clear) echo stations charges sold paid ;;
+    clear | clear_efficient) echo stations charges sold paid ;;
     post) echo guests stations ;;
     esac
 }
@@ -58,11 +60,11 @@ numbers() {
     case $1 in
     read) echo n m ;;
     write) echo length ;;
-    clear) echo cut margin ;;
+    clear | clear_efficient) echo cut margin ;;
     post) echo house last ;;
     esac
 }
-for function in read write place_bids clear post; do
+for function in read write place_bids clear clear_efficient post; do
     for way in c slices owned; do
         finds "$function answer" 'differs' $function $way
         finds "$function number" 'differs' $function $way
@@ -103,10 +105,10 @@ for way in c slices owned; do
 done
 # faults of tickets
 for way in c slices owned; do
-    for function in clear post; do
+    for function in clear clear_efficient post; do
         finds "$function higher" 'differ' $function $way
     done
-    for function in write clear post; do
+    for function in write clear clear_efficient post; do
         finds "$function equal" 'answered 0, expected 15|owned [a-z]+ differs' $function $way
         finds "$function repeat-early" 'answered 15, expected 9|owned [a-z]+ differs' $function $way
     done
@@ -120,6 +122,12 @@ for way in c slices owned; do
 done
 for way in c slices; do
     finds 'write repeat-late' 'answered 14, expected 15' write $way
+done
+# faults of efficient clearing
+for way in c slices owned; do
+    for fault in truthful rising far later skipped last unseated full no-floor untouched; do
+        finds "clear_efficient $fault" 'differ' clear_efficient $way
+    done
 done
 # faults of placing; the types that own their lists have both coordinates of a cell, and make the bid table
 for way in c slices owned; do
@@ -144,10 +152,17 @@ finds 'clear bid' 'guest [0-9]+ gains by' truth
 finds 'clear ask' 'station [0-9]+ gains by' truth
 finds 'clear charges first accepted' 'charge' truth
 finds 'clear sold first accepted' 'sold other kWh' truth
+finds 'clear_efficient ask' 'station [0-9]+ gains by' truth_efficient
+finds 'clear_efficient truthful' 'the true and the false row gain \[1, 1\], expected \[0, 1\]' truth_efficient
+finds 'clear_efficient bid' 'the true and the false row gain \[0, 0\], expected \[0, 1\]' truth_efficient
+finds 'clear_efficient rising' 'guest [0-9]+ is charged above its bid|loses its seat' truth_efficient
+finds 'clear_efficient full' 'station [0-9]+ is beyond its bays' truth_efficient
+finds 'clear_efficient charges first accepted' 'charge' truth_efficient
+finds 'clear_efficient sold first accepted' 'sold other kWh' truth_efficient
 
 export BAY_MARKET_PROGRAM=$PWD/tests/wrong_program BAY_MARKET_REAL=$real/clear
 BAY_MARKET_FAULT='' "$compare" $seed print >/dev/null
-for fault in text refusal repeat stderr line status sheet byte refused-sheet repeat-sheet; do
+for fault in text refusal repeat stderr line status quiet truthful sheet byte refused-sheet repeat-sheet; do
     finds $fault 'differs' print
 done
 status=0

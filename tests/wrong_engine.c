@@ -5,9 +5,20 @@
  *                                last element, or of the byte before or after it
  *   FUNCTION answer              an accepted call answers 5, a refused one 0
  *   FUNCTION number              a refused call answers another number
- *   clear bid                    guests are charged what they bid
- *   clear ask                    stations are paid what they ask
- *   clear|post higher            of equal totals the higher ticket stands first
+ *   CLEARING bid                 guests are charged what they bid; a clearing is clear or clear_efficient
+ *   CLEARING ask                 stations are paid what they ask
+ *   CLEARING|post higher         of equal totals the higher ticket stands first
+ *   clear_efficient own          none: the efficient clearing that has the next faults, without one
+ *   clear_efficient truthful     the clearing is the truthful one
+ *   clear_efficient rising       candidacies stand by rising total
+ *   clear_efficient far          of equal totals of one guest the higher station stands first
+ *   clear_efficient later        a seated guest's later candidacies are taken too: it moves, and keeps its bays
+ *   clear_efficient skipped      a seated guest's later candidacy at a full station sets the floor too
+ *   clear_efficient last         the last unseated guest that finds a station full sets its floor, not the first
+ *   clear_efficient unseated     only a guest that is seated nowhere in the end sets a floor
+ *   clear_efficient full         a full station seats one guest more
+ *   clear_efficient no-floor     charges are cut times amount, whatever the floor
+ *   clear_efficient untouched    the result lists stay as they were
  *   FUNCTION equal               equal tickets are accepted; of a market, as the next two
  *   FUNCTION repeat-early        15 goes before 9
  *   FUNCTION repeat-late         15 comes after 13 or 14, the next refusal of a posting or a writing
@@ -42,8 +53,10 @@
 uint8_t REAL(bay_market_read)(const uint8_t *, size_t, uint16_t *, size_t, uint32_t *, size_t, uint32_t *, size_t,
                               uint16_t *, size_t, uint32_t *, size_t, uint16_t *, uint16_t *);
 uint8_t REAL(bay_market_write)(MARKET_TYPES, uint8_t *, size_t, size_t *);
-uint8_t REAL(bay_market_clear)(MARKET_TYPES, uint16_t *, size_t, uint32_t *, size_t, uint32_t *, size_t, uint64_t *,
-                               size_t, uint32_t *, uint64_t *);
+#define RESULT_TYPES uint16_t *, size_t, uint32_t *, size_t, uint32_t *, size_t, uint64_t *, size_t, uint32_t *, \
+    uint64_t *
+uint8_t REAL(bay_market_clear)(MARKET_TYPES, RESULT_TYPES);
+uint8_t REAL(bay_market_clear_efficient)(MARKET_TYPES, RESULT_TYPES);
 uint8_t REAL(bay_market_post)(MARKET_TYPES, uint32_t, uint64_t *, size_t, struct bay_market_station_account *, size_t,
                               uint64_t *, uint32_t *);
 uint8_t REAL(bay_market_place_bids)(const uint32_t *, size_t, const uint32_t *, size_t, const uint16_t *, size_t,
@@ -56,6 +69,12 @@ uint8_t REAL(bay_market_place_bids)(const uint32_t *, size_t, const uint32_t *, 
     const uint32_t *bids, size_t bids_len, size_t width
 #define MARKET(others) asks, asks_len, bays, bays_len, amounts, amounts_len, others, tickets_len, bids, bids_len, width
 #define MARKET_LISTS LIST(asks), LIST(bays), LIST(amounts), LIST(tickets), LIST(bids)
+
+/* What a clearing is lent besides: parameters, arguments, parts. */
+#define RESULT_PARAMETERS uint16_t *stations, size_t stations_len, uint32_t *charges, size_t charges_len, \
+    uint32_t *sold, size_t sold_len, uint64_t *paid, size_t paid_len, uint32_t *cut, uint64_t *margin
+#define RESULTS stations, stations_len, charges, charges_len, sold, sold_len, paid, paid_len, cut, margin
+#define RESULT_LISTS LIST(stations), LIST(charges), LIST(sold), LIST(paid), NUMBER(cut), NUMBER(margin)
 
 struct part {
     const char *name;
@@ -293,22 +312,179 @@ static void own_price(const char *whose, const uint32_t *asks, size_t asks_len, 
     }
 }
 
-uint8_t bay_market_clear(MARKET_PARAMETERS, uint16_t *stations, size_t stations_len, uint32_t *charges,
-                         size_t charges_len, uint32_t *sold, size_t sold_len, uint64_t *paid, size_t paid_len,
-                         uint32_t *cut, uint64_t *margin)
+uint8_t bay_market_clear(MARKET_PARAMETERS, RESULT_PARAMETERS)
 {
-    const struct part parts[] = {MARKET_LISTS, LIST(stations), LIST(charges), LIST(sold), LIST(paid), NUMBER(cut),
-                                 NUMBER(margin)};
+    const struct part parts[] = {MARKET_LISTS, RESULT_LISTS};
     const uint32_t *seen = others("clear", tickets, tickets_len);
     char words[4][16];
-    uint8_t answer = REAL(bay_market_clear)(MARKET(seen), stations, stations_len, charges, charges_len, sold, sold_len,
-                                            paid, paid_len, cut, margin);
+    uint8_t answer = REAL(bay_market_clear)(MARKET(seen), RESULTS);
 
     answer = out_of_place("clear", answer, tickets, tickets_len, 0);
     if (answer == 0 && fault("clear", words)) {
         own_price(words[1], asks, asks_len, amounts, amounts_len, bids, stations, charges, sold, paid, margin);
     }
     return SPOIL("clear", answer, parts);
+}
+
+/* A guest, from 0, as a candidate at a station, from 0. */
+struct candidacy {
+    uint32_t total, ticket;
+    size_t guest, station;
+};
+
+static int rising, far;
+
+/* By falling total, lower ticket, lower station, but for `rising` and `far`. */
+static int by_place(const void *one, const void *two)
+{
+    const struct candidacy *x = one, *y = two;
+
+    if (x->total != y->total) {
+        return (x->total > y->total) != rising ? -1 : 1;
+    }
+    if (x->ticket != y->ticket) {
+        return x->ticket < y->ticket ? -1 : 1;
+    }
+    return (x->station < y->station) != far ? -1 : 1;
+}
+
+/* All candidacies in order; how many there are. */
+static size_t gather(struct candidacy *all, const uint32_t *asks, size_t m, const uint16_t *amounts, size_t n,
+                     const uint32_t *tickets, const uint32_t *bids, uint32_t cut)
+{
+    size_t count = 0;
+
+    for (size_t i = 0; i < n; i++) {
+        for (size_t j = 0; j < m; j++) {
+            if (asks[j] < cut && bids[i * m + j] >= cut) {
+                all[count++] = (struct candidacy){bids[i * m + j] * amounts[i], tickets[i], i, j};
+            }
+        }
+    }
+    qsort(all, count, sizeof *all, by_place);
+    return count;
+}
+
+/* Takes the candidacies in order, with a fault: seats the guests and sets the floors. */
+static void take(const char *wrong, const struct candidacy *all, size_t count, const uint16_t *bays, uint16_t *stations,
+                 uint32_t *floors)
+{
+    const int later = strcmp(wrong, "later") == 0, skipped = strcmp(wrong, "skipped") == 0;
+    const int last = strcmp(wrong, "last") == 0;
+    uint32_t served[BAY_MARKET_MAX_STATIONS] = {0};
+
+    for (const struct candidacy *next = all; next < all + count; next++) {
+        uint32_t most = bays[next->station] + (uint32_t)(strcmp(wrong, "full") == 0);
+        int bay_left = served[next->station] < most;
+        if (stations[next->guest] != 0 && !later && !(skipped && !bay_left)) {
+            continue;
+        }
+        if (bay_left) {
+            stations[next->guest] = (uint16_t)(next->station + 1);
+            served[next->station]++;
+        } else if (floors[next->station] == 0 || last) {
+            floors[next->station] = next->total;
+        }
+    }
+}
+
+/* Lets only guests that are seated nowhere set the floors. */
+static void only_unseated(const struct candidacy *all, size_t count, const uint16_t *stations, uint32_t *floors)
+{
+    memset(floors, 0, BAY_MARKET_MAX_STATIONS * sizeof *floors);
+    for (const struct candidacy *next = all; next < all + count; next++) {
+        if (stations[next->guest] == 0 && floors[next->station] == 0) {
+            floors[next->station] = next->total;
+        }
+    }
+}
+
+/* Clears an accepted market, whose cut is known, by the efficient mechanism, with a fault. */
+static void clear_wrong(const char *wrong, const uint32_t *asks, size_t m, const uint16_t *bays,
+                        const uint16_t *amounts, size_t n, const uint32_t *tickets, const uint32_t *bids,
+                        uint16_t *stations, uint32_t *charges, uint32_t *sold, uint64_t *paid, uint32_t cut,
+                        uint64_t *margin)
+{
+    static struct candidacy all[BAY_MARKET_MAX_BIDS];
+    uint32_t floors[BAY_MARKET_MAX_STATIONS] = {0};
+
+    rising = strcmp(wrong, "rising") == 0;
+    far = strcmp(wrong, "far") == 0;
+    size_t count = gather(all, asks, m, amounts, n, tickets, bids, cut);
+    for (size_t i = 0; i < n; i++) {
+        stations[i] = 0;
+        charges[i] = 0;
+    }
+    for (size_t j = 0; j < m; j++) {
+        sold[j] = 0;
+    }
+    take(wrong, all, count, bays, stations, floors);
+    if (strcmp(wrong, "unseated") == 0) {
+        only_unseated(all, count, stations, floors);
+    }
+    *margin = 0;
+    for (size_t i = 0; i < n; i++) {
+        if (stations[i] != 0) {
+            uint32_t least = cut * amounts[i], floor = strcmp(wrong, "no-floor") == 0 ? 0 : floors[stations[i] - 1];
+            charges[i] = floor > least ? floor : least;
+            sold[stations[i] - 1] += amounts[i];
+            *margin += charges[i] - least;
+        }
+    }
+    for (size_t j = 0; j < m; j++) {
+        paid[j] = (uint64_t)cut * sold[j];
+    }
+}
+
+/* The faults of `clear_wrong`. */
+static int is_own(const char *wrong)
+{
+    static const char *const faults[] = {"own", "rising", "far", "later", "skipped", "last", "unseated", "full",
+                                         "no-floor"};
+
+    for (size_t i = 0; i < sizeof faults / sizeof *faults; i++) {
+        if (strcmp(wrong, faults[i]) == 0) {
+            return 1;
+        }
+    }
+    return 0;
+}
+
+/* An accepted call whose result lists stay as they were. */
+static uint8_t untouched(MARKET_PARAMETERS, RESULT_PARAMETERS)
+{
+    uint16_t seats[BAY_MARKET_MAX_GUESTS];
+    uint32_t charged[BAY_MARKET_MAX_GUESTS], kwh[BAY_MARKET_MAX_STATIONS];
+    uint64_t earned[BAY_MARKET_MAX_STATIONS];
+
+    (void)stations, (void)charges, (void)sold, (void)paid;
+    return REAL(bay_market_clear_efficient)(MARKET(tickets), seats, stations_len, charged, charges_len, kwh, sold_len,
+                                            earned, paid_len, cut, margin);
+}
+
+uint8_t bay_market_clear_efficient(MARKET_PARAMETERS, RESULT_PARAMETERS)
+{
+    const struct part parts[] = {MARKET_LISTS, RESULT_LISTS};
+    const uint32_t *seen = others("clear_efficient", tickets, tickets_len);
+    char words[4][16];
+    uint8_t answer;
+
+    if (!fault("clear_efficient", words)) {
+        words[1][0] = '\0';
+    }
+    if (strcmp(words[1], "untouched") == 0) {
+        return untouched(MARKET(tickets), RESULTS);
+    }
+    answer = strcmp(words[1], "truthful") == 0 ? REAL(bay_market_clear)(MARKET(seen), RESULTS)
+             : REAL(bay_market_clear_efficient)(MARKET(seen), RESULTS);
+    answer = out_of_place("clear_efficient", answer, tickets, tickets_len, 0);
+    if (answer == 0 && is_own(words[1])) {
+        clear_wrong(words[1], asks, asks_len, bays, amounts, amounts_len, tickets, bids, stations, charges, sold, paid,
+                    *cut, margin);
+    } else if (answer == 0) {
+        own_price(words[1], asks, asks_len, amounts, amounts_len, bids, stations, charges, sold, paid, margin);
+    }
+    return SPOIL("clear_efficient", answer, parts);
 }
 
 uint8_t bay_market_post(MARKET_PARAMETERS, uint32_t round, uint64_t *guests, size_t guests_len,

@@ -1,4 +1,4 @@
-/* Case E of document 01, tickets, parking places, refusals and the header's limits, through include/bay_market.h. */
+/* Case E of document 01, tickets, quiet rounds, parking places, refusals and limits, through include/bay_market.h. */
 #include "bay_market.h"
 
 #include <stdio.h>
@@ -118,6 +118,50 @@ static void test_tickets(void)
     expect(seated(equal, 2, &answer) == 0 && answer == BAY_MARKET_TICKETS_REPEAT, "two equal tickets");
     expect(seated(equal, 1, &answer) == 0 && answer == BAY_MARKET_LENGTHS_DIFFER, "too few tickets");
     expect(seated(three, 3, &answer) == 0 && answer == BAY_MARKET_LENGTHS_DIFFER, "too many tickets");
+}
+
+/* Table I of document 000, with tickets in guest order. */
+static void test_efficient(void)
+{
+    static const uint32_t asked[5] = {4, 1, 3, 2, 5}, five[5] = {1, 2, 3, 4, 5};
+    static const uint16_t open_bays[5] = {1, 2, 4, 2, 3}, kwh[5] = {5, 2, 6, 4, 3};
+    static const uint32_t table[25] = {0, 4, 0, 5, 2, 2, 0, 5, 1, 0, 7, 5, 0, 4, 0, 6, 4, 0, 3, 0, 0, 0, 2, 3, 5};
+    static const uint16_t seats[5] = {4, 0, 2, 2, 4};
+    static const uint32_t charged[5] = {15, 0, 18, 12, 9}, taken[5] = {0, 10, 0, 8, 0};
+    static const uint64_t earned[5] = {0, 30, 0, 24, 0};
+    uint16_t stations[5] = {77, 77, 77, 77, 77};
+    uint32_t charges[5] = {77, 77, 77, 77, 77}, sold[5] = {77, 77, 77, 77, 77}, cut = 77;
+    uint64_t paid[5] = {77, 77, 77, 77, 77}, margin = 77;
+
+    expect(bay_market_clear_efficient(asked, 5, open_bays, 5, kwh, 5, five, 5, table, 25, 4, stations, 5, charges, 5,
+                                      sold, 5, paid, 5, &cut, &margin) == BAY_MARKET_LENGTHS_DIFFER,
+           "an efficient clearing with another row width is refused");
+    expect(bay_market_clear_efficient(asked, 5, open_bays, 5, kwh, 5, five, 5, table, 25, 5, stations, 4, charges, 5,
+                                      sold, 5, paid, 5, &cut, &margin) == BAY_MARKET_LENT_LENGTHS,
+           "an efficient clearing with a result list too short is refused");
+    expect(stations[0] == 77 && charges[0] == 77 && sold[0] == 77 && paid[0] == 77 && cut == 77 && margin == 77,
+           "a refused efficient clearing writes nothing");
+    expect(bay_market_clear_efficient(asked, 5, open_bays, 5, kwh, 5, five, 5, table, 25, 5, stations, 5, charges, 5,
+                                      sold, 5, paid, 5, &cut, &margin) == BAY_MARKET_ACCEPTED, "Table I is cleared");
+    expect(memcmp(stations, seats, sizeof seats) == 0, "who is seated in a quiet round");
+    expect(memcmp(charges, charged, sizeof charged) == 0, "what they are charged");
+    expect(memcmp(sold, taken, sizeof taken) == 0 && memcmp(paid, earned, sizeof earned) == 0, "kWh and payments");
+    expect(cut == 3 && margin == 0, "cut and margin of a quiet round");
+}
+
+/* Guest 2 sets the floor at station 1, and has station 2 for the cut. */
+static void test_floor(void)
+{
+    static const uint32_t asked[4] = {0, 0, 1, 1}, two[2] = {1, 2}, table[8] = {10, 0, 0, 0, 9, 5, 0, 0};
+    static const uint16_t ones[4] = {1, 1, 1, 1};
+    uint16_t stations[2] = {77, 77};
+    uint32_t charges[2] = {77, 77}, sold[4], cut;
+    uint64_t paid[4], margin = 77;
+
+    expect(bay_market_clear_efficient(asked, 4, ones, 4, ones, 2, two, 2, table, 8, 4, stations, 2, charges, 2, sold, 4,
+                                      paid, 4, &cut, &margin) == BAY_MARKET_ACCEPTED, "two guests at two stations");
+    expect(stations[0] == 1 && stations[1] == 2 && charges[0] == 9 && charges[1] == 1, "the floor is set and stays");
+    expect(cut == 1 && margin == 8, "the floor's margin");
 }
 
 /* A guest at (0, 0) and stations at (3, 4), (1, 1) and (31, 31): what is stated, and how long the bid table is. */
@@ -255,6 +299,12 @@ static void test_null(void)
     expect(station.sold == 1 && station.paid == 2 && house == 3 && last == 1, "only the round is posted");
     expect(bay_market_clear(NULL, 0, NULL, 0, NULL, 0, NULL, 0, NULL, 0, 0, NULL, 0, NULL, 0, NULL, 0, NULL, 0, &cut,
                             &margin) == BAY_MARKET_COUNTS_OUT_OF_RANGE, "no station");
+    sold = 77, paid = 77, cut = 77, margin = 77;
+    expect(bay_market_clear_efficient(&ask, 1, &bay, 1, NULL, 0, NULL, 0, NULL, 0, 1, NULL, 0, NULL, 0, &sold, 1,
+                                      &paid, 1, &cut, &margin) == BAY_MARKET_ACCEPTED, "a quiet round with no guests");
+    expect(sold == 0 && paid == 0 && cut == 5 && margin == 0, "nobody buys in it");
+    expect(bay_market_clear_efficient(NULL, 0, NULL, 0, NULL, 0, NULL, 0, NULL, 0, 0, NULL, 0, NULL, 0, NULL, 0,
+                                      NULL, 0, &cut, &margin) == BAY_MARKET_COUNTS_OUT_OF_RANGE, "one with no station");
     expect(bay_market_post(NULL, 0, NULL, 0, NULL, 0, NULL, 0, NULL, 0, 0, 1, NULL, 0, NULL, 0, &house, &last)
            == BAY_MARKET_COUNTS_OUT_OF_RANGE, "no station to post");
     expect(bay_market_post(&ask, 1, &bay, 1, NULL, 0, NULL, 0, NULL, 0, 1, 2, NULL, 0, NULL, 0, &house, &last)
@@ -289,6 +339,8 @@ int main(void)
     test_write();
     test_clear();
     test_tickets();
+    test_efficient();
+    test_floor();
     test_places();
     test_placed_market();
     test_post();

@@ -1,5 +1,5 @@
-// The header from C++: empty vectors, whose data() may be null, a table that is cleared and written, bids that are
-// placed, and texts.
+// The header from C++: empty vectors, whose data() may be null, a table that is cleared by both mechanisms and written,
+// bids that are placed, and texts.
 #include "bay_market.h"
 
 #include <cstdio>
@@ -16,12 +16,13 @@ int main()
     std::uint32_t cut = 77;
     std::uint64_t margin = 77;
 
-    const auto clear = [&] {
-        return bay_market_clear(asks.data(), asks.size(), bays.data(), bays.size(), amounts.data(), amounts.size(),
-                                tickets.data(), tickets.size(), bids.data(), bids.size(), asks.size(), stations.data(),
-                                stations.size(), charges.data(), charges.size(), sold.data(), sold.size(), paid.data(),
-                                paid.size(), &cut, &margin);
+    const auto clear_by = [&](auto mechanism) {
+        return mechanism(asks.data(), asks.size(), bays.data(), bays.size(), amounts.data(), amounts.size(),
+                         tickets.data(), tickets.size(), bids.data(), bids.size(), asks.size(), stations.data(),
+                         stations.size(), charges.data(), charges.size(), sold.data(), sold.size(), paid.data(),
+                         paid.size(), &cut, &margin);
     };
+    const auto clear = [&] { return clear_by(bay_market_clear); };
     bool good = clear() == BAY_MARKET_ACCEPTED && cut == 6 && margin == 0 && sold[0] == 0 && paid[1] == 0;
     amounts = {3, 3};
     bids = {8, 0, 8, 0};
@@ -31,6 +32,13 @@ int main()
     stations.resize(2);
     charges.resize(2);
     good = good && clear() == BAY_MARKET_ACCEPTED && charges[1] == 24 && paid[0] == 18 && margin == 6;
+    bids = {8, 0, 9, 0};
+    good = good && clear_by(bay_market_clear_efficient) == BAY_MARKET_ACCEPTED && stations[0] == 0 && stations[1] == 1;
+    good = good && charges[1] == 24 && paid[0] == 18 && margin == 6;
+    tickets[1] = 9;
+    good = good && clear_by(bay_market_clear_efficient) == BAY_MARKET_TICKETS_REPEAT && margin == 6;
+    tickets[1] = 4;
+    bids = {8, 0, 8, 0};
     std::vector<std::uint8_t> sheet;
     std::size_t length = 77;
     const auto write = [&] {

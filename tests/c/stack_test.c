@@ -46,6 +46,12 @@ static void call_clear(void)
                               sold, m, paid, m, &cut, &margin);
 }
 
+static void call_clear_efficient(void)
+{
+    answer = bay_market_clear_efficient(asks, m, bays, m, amounts, n, tickets, n, bids, (size_t)n * m, m, stations, n,
+                                        charges, n, sold, m, paid, m, &cut, &margin);
+}
+
 static void call_post(void)
 {
     answer = bay_market_post(asks, m, bays, m, amounts, n, tickets, n, bids, (size_t)n * m, m, last + 1, guests, n,
@@ -128,8 +134,8 @@ int main(void)
     static const struct {
         const char *name;
         void (*call)(void);
-    } calls[] = {{"read", call_read}, {"write", call_write}, {"clear", call_clear}, {"post", call_post},
-                 {"place_bids", call_place_bids}};
+    } calls[] = {{"read", call_read}, {"write", call_write}, {"clear", call_clear},
+                 {"clear_efficient", call_clear_efficient}, {"post", call_post}, {"place_bids", call_place_bids}};
     size_t most = 0, base = depth(none);
 
     for (uint32_t spread = 1; spread <= 900000; spread *= 30) {

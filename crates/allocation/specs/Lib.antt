@@ -1,5 +1,8 @@
 pub mod Assignment
+pub mod Criticals
+pub mod Efficient
 pub mod Offers
+pub mod Seating
 pub mod Selection
 pub mod Stages
 pub mod Ties

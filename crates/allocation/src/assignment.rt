@@ -8,6 +8,7 @@ use pricing::charges;
 ghost use mathlib.Core.Path.{_≡_};
 ghost use lib.ListN.{length};
 ghost use Rattle.model.specs.contracts.Lent.{regularOf, regularIn};
+ghost use Rattle.model.specs.market.Outcome.{outcome};
 ghost use Rattle.checks.specs.Tickets.{rising as risingOf};
 ghost use Rattle.allocation.specs.Stages.{AtCut, AfterIn, Turned};
 ghost use Rattle.allocation.specs.Assignment.{Assigned};
@@ -79,7 +80,7 @@ fn assign(
     ensures { λ _. ⌜ (let t = regularIn asks bays amounts tickets bids in
         Turned t (cut .0) (length (t .asks)) (now (totals .entry))
         (now (totals .exit)) (now (chosen .exit)) (now (gains .exit)) (now (criticals .exit))
-        × Assigned t (now (stations .exit)) (now (charges .exit))) ⌝ }
+        × Assigned (outcome t) (now (stations .exit)) (now (charges .exit))) ⌝ }
 {
     all_stations(
         asks,
@@ -113,7 +114,7 @@ pub fn assign_all(
 )
     requires { ⌜ AtCut (regularOf asks bays amounts tickets bids) (cut .0) (now least) ⌝ }
     requires { ⌜ (length (now stations) ≡ length (now amounts)) × (length (now charges) ≡ length (now amounts)) ⌝ }
-    ensures { λ _. ⌜ Assigned (regularIn asks bays amounts tickets bids)
+    ensures { λ _. ⌜ Assigned (outcome (regularIn asks bays amounts tickets bids))
         (now (stations .exit)) (now (charges .exit)) ⌝ }
 {
     let mut totals = [0u32; MAX_GUESTS];

@@ -58,7 +58,7 @@ fn bound_by_order(totals: &[u32], tickets: &[u32], t: Mills, places: u32) -> u32
 }
 
 // The greatest ticket.
-const LAST_TICKET: u32 = 4_294_967_295;
+pub const LAST_TICKET: u32 = 4_294_967_295;
 
 // The same, however tickets stand: by bisection, with a count at each step.
 fn bound_by_ticket(totals: &[u32], tickets: &[u32], t: Mills, places: u32) -> u32

@@ -1,8 +1,27 @@
 // The clearing for other languages: include/bay_market.h.
 use clearing::view_clearing;
 use model::answers::Clearing;
-ghost use Rattle.model.specs.contracts.ClearsOut.{ClearsOut};
+ghost use Rattle.model.specs.contracts.ClearsOut.{ClearsOut, ClearsEfficientOut};
 ghost use Rattle.model.specs.contracts.Lent.{tablesIn, resultsIn, resultsOut};
+ghost use Rattle.bay_market.specs.Tells.{Tells};
+
+// The answer's number, 0 for a clearing, whose cut and margin go to their places.
+fn tell(answer: Clearing, cut: &mut u32, margin: &mut u64) -> u8
+    ensures { λ r. ⌜ Tells answer (now (cut .entry)) (now (margin .entry)) r
+        (now (cut .exit)) (now (margin .exit)) ⌝ }
+{
+    match answer {
+        Clearing::Refused(refusal) => refusal.number(),
+        Clearing::Cleared {
+            cut: at,
+            margin: kept,
+        } => {
+            *cut = at.0;
+            *margin = kept.0;
+            0
+        }
+    }
+}
 
 #[no_mangle]
 pub extern "C" fn bay_market_clear(
@@ -35,15 +54,39 @@ pub extern "C" fn bay_market_clear(
         sold,
         paid,
     );
-    match answer {
-        Clearing::Refused(refusal) => refusal.number(),
-        Clearing::Cleared {
-            cut: at,
-            margin: kept,
-        } => {
-            *cut = at.0;
-            *margin = kept.0;
-            0
-        }
-    }
+    tell(answer, cut, margin)
+}
+
+#[no_mangle]
+pub extern "C" fn bay_market_clear_efficient(
+    asks: &[u32],
+    bays: &[u16],
+    amounts: &[u16],
+    tickets: &[u32],
+    bids: &[u32],
+    width: usize,
+    stations: &mut [u16],
+    charges: &mut [u32],
+    sold: &mut [u32],
+    paid: &mut [u64],
+    cut: &mut u32,
+    margin: &mut u64,
+) -> u8
+    ensures { λ r. ⌜ ClearsEfficientOut (tablesIn asks bays amounts tickets bids width)
+        (resultsIn stations charges sold paid) (now (cut .entry)) (now (margin .entry)) r
+        (resultsOut stations charges sold paid) (now (cut .exit)) (now (margin .exit)) ⌝ }
+{
+    let answer = clearing::clear_efficient(
+        asks,
+        bays,
+        amounts,
+        tickets,
+        bids,
+        width,
+        stations,
+        charges,
+        sold,
+        paid,
+    );
+    tell(answer, cut, margin)
 }

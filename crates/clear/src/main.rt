@@ -1,5 +1,5 @@
-// The clearing program: the clearing of the sheet on standard input, to standard output; with `--write` the shortest
-// sheet that states the same market.
+// The clearing program: the clearing of the sheet on standard input, to standard output; with `--quiet` the efficient
+// clearing, with `--write` the shortest sheet that states the same market.
 use libc::STDERR_FILENO;
 use libc::STDIN_FILENO;
 use libc::STDOUT_FILENO;
@@ -48,6 +48,9 @@ fn page_asked() -> Asked {
     }
     let mut word = [0u8; 7];
     let n = os::arg(1, &mut word);
+    if (count == 2) & check::same(&word[..n], b"--quiet") {
+        return Asked::For(Page::Efficient);
+    }
     if (count == 2) & check::same(&word[..n], b"--write") {
         return Asked::For(Page::Sheet);
     }

@@ -1,4 +1,4 @@
--- The table of refusals, the sums of an accepted market, and the answers of `clear`.
+-- The table of refusals, the sums of an accepted market, and the answers of a clearing.
 use Prim.Native.Nat.{ℕ, zero, suc, _+_, _*_, _-_, _≤_, _<_}
 use mathlib.Core.List.{List}
 use mathlib.Core.Path.{_≡_, refl, sym, ap, ap₂, subst, _∙_}
@@ -15,21 +15,21 @@ use Rattle.model.specs.declared.answers.Verdict.{Verdict}
 use Rattle.model.specs.declared.money.UnitPrice.{UnitPrice}
 use Rattle.model.specs.declared.money.Mills.{Mills}
 use Rattle.model.specs.market.Market.{Tables, marketBy, market, cut, screen, tables, regular}
-use Rattle.model.specs.market.Mechanism.{at, charge, charged, sold, paid, margin}
-use Rattle.model.specs.market.Outcome.{Results, Outcome, outcomeBy, screened, decision, outcome, results}
+use Rattle.model.specs.market.Mechanism.{Decision, at, charge, charged, sold, paid, margin}
+use Rattle.model.specs.market.Outcome.{Results, Outcome, outcomeBy, screened, results}
 use Rattle.model.specs.market.Faults.{clearingFaults}
 use Rattle.model.specs.claims.Meaning.{WithinLimits}
 use Rattle.model.proofs.Tests.{only-le}
 use Rattle.model.proofs.Counting.{sum-cong, greatest-le}
 use Rattle.model.proofs.Loops.{long, element, relist}
+use Rattle.model.proofs.market.Outcomes.{ComesOf, numbered}
 use Rattle.pricing.specs.MedianAsk.{under, eligible, medianAsk}
 use Rattle.pricing.specs.Sales.{kwhAt, PaidOut}
 use Rattle.model.specs.declared.answers.Verdict.the-variants as verdicts
 use Rattle.pricing.specs.Charges.{leastAt}
 use Rattle.allocation.specs.Stages.{AtCut}
 use Rattle.allocation.specs.Assignment.{Assigned}
-use Rattle.allocation.proofs.assignment.Assignment.{numbered}
-use Rattle.model.specs.contracts.Clears.{Clears}
+use Rattle.model.specs.contracts.Clears.{ClearsBy}
 use Rattle.clearing.specs.ClearsAccepted.{ClearsAccepted}
 use Rattle.model.specs.declared.answers.Clearing.{Clearing}
 use Rattle.model.specs.declared.answers.Clearing.the-variants as clearings
@@ -55,64 +55,65 @@ pub least-at-cut :
     → least ≡ list (length (t .amounts)) (leastAt (t .amounts) (cut (market t)))
 least-at-cut t A = A .least-are ∙ ap (λ c. list (length (t .amounts)) (leastAt (t .amounts) c)) (A .is-cut)
 
-module _ (t : Tables) {stations charges : List ℕ} (a : Assigned t stations charges) where
-  station-is : (k : ℕ) → k < length (t .amounts) → getD stations k 0 ≡ (decision t) .assigned k
-  unfolding outcome outcomeBy screened screen market marketBy
-  station-is k l = element _ _ (a .stations-are) k l
+module _ (t : Tables) {D : Decision} {o : Outcome} (m : ComesOf t D o) {stations charges : List ℕ}
+    (a : Assigned o stations charges) where
+  stations-are : stations ≡ list (length (t .amounts)) (D .assigned)
+  unfolding outcomeBy screened screen market marketBy
+  stations-are = a .stations-are ∙ ap (λ o. o .results .stations) (m .outcome-is)
 
-  charge-is : (k : ℕ) → k < length (t .amounts) → getD charges k 0 ≡ charged (screened t) (decision t) k
-  unfolding outcome outcomeBy screened screen market marketBy
-  charge-is k l = element _ _ (a .charges-are) k l
+  charges-are : charges ≡ list (length (t .amounts)) (charged (screened t) D)
+  unfolding outcomeBy screened screen market marketBy
+  charges-are = a .charges-are ∙ ap (λ o. o .results .charges) (m .outcome-is)
 
   pub stations-count : length stations ≡ length (t .amounts)
-  unfolding outcome outcomeBy screened screen market marketBy
-  stations-count = long _ _ (a .stations-are)
+  stations-count = long _ _ stations-are
 
   pub charges-count : length charges ≡ length (t .amounts)
-  unfolding outcome outcomeBy screened screen market marketBy
-  charges-count = long _ _ (a .charges-are)
+  charges-count = long _ _ charges-are
 
   pub stations-low : WithinLimits t → (k : ℕ) → k < length (t .amounts) → getD stations k 0 ≤ maxStations
-  stations-low w k l = numbered t w k _ (sym (station-is k l))
+  stations-low w k l = rw (element _ _ stations-are k l) (numbered t m w k l)
 
-  kwh-is : (j : ℕ) → kwhAt stations (t .amounts) (j + 1) ≡ sold (screened t) (decision t) j
+  kwh-is : (j : ℕ) → kwhAt stations (t .amounts) (j + 1) ≡ sold (screened t) D j
   unfolding kwhAt sold screened screen market marketBy
   kwh-is j =
       sum-cong (length (t .amounts)) _ _
-      (λ k l. ap₂ (λ x y. only (x =? y) (getD (t .amounts) k 0)) (station-is k l) (add-one j))
+      (λ k l. ap₂ (λ x y. only (x =? y) (getD (t .amounts) k 0)) (element _ _ stations-are k l) (add-one j))
 
   module _ {c : ℕ} {least : List ℕ} (A : AtCut t c least) where
     -- whoever is not assigned is charged nothing, and adds nothing
-    margin-is : sum (length (t .amounts)) (λ i. getD charges i 0 - getD least i 0) ≡ margin (screened t) (decision t)
+    margin-is : sum (length (t .amounts)) (λ i. getD charges i 0 - getD least i 0) ≡ margin (screened t) D
     unfolding margin charged at screened screen market marketBy
     margin-is =
-        sum-cong (length (t .amounts)) _ _ (λ k l. ap₂ _-_ (charge-is k l)
+        sum-cong (length (t .amounts)) _ _ (λ k l. ap₂ _-_ (element _ _ charges-are k l)
         (element _ _ (A .least-are) k l ∙ ap (λ x. x * getD (t .amounts) k 0) (A .is-cut))
-        ∙ go k ((decision t) .assigned k))
+        ∙ go k (D .assigned k))
       where
         go :
             (k r : ℕ)
-            → at (charge (screened t) (decision t) k) r - cut (market t) * getD (t .amounts) k 0
-            ≡ at (λ j. charge (screened t) (decision t) k j - cut (market t) * getD (t .amounts) k 0) r
+            → at (charge (screened t) D k) r - cut (market t) * getD (t .amounts) k 0
+            ≡ at (λ j. charge (screened t) D k j - cut (market t) * getD (t .amounts) k 0) r
         go k zero = omega arith
         go k (suc j) = refl
 
     pub clears-accepted :
-        (p : UnitPrice) (x : Mills) {m : ℕ} {sales payments : List ℕ} → p .0 ≡ c → m ≡ length (t .asks)
-        → PaidOut (kwhAt stations (t .amounts)) c m sales payments
+        (p : UnitPrice) (x : Mills) {n : ℕ} {sales payments : List ℕ} → p .0 ≡ c → n ≡ length (t .asks)
+        → PaidOut (kwhAt stations (t .amounts)) c n sales payments
         → x .0 ≡ sum (length charges) (λ i. getD charges i 0 - getD least i 0)
-        → ClearsAccepted t (clearings.Cleared p x) (results stations charges sales payments)
-    unfolding answerOfClearing outcome outcomeBy paid screened screen market marketBy
-    clears-accepted price x ec em p e = record {
-      answered = ap₂ {C = Answer (ℕ × ℕ)} (λ a b. accepted (a, b)) (ec ∙ A .is-cut)
-          (e ∙ ap (λ n. sum n (λ i. getD charges i 0 - getD least i 0)) charges-count ∙ margin-is);
-      left = λ i. record {
-        stations = a .stations-are i;
-        charges = a .charges-are i;
-        sold = relist _ _ _ _ (p .sold-are) em (λ j _. kwh-is j) i;
-        paid = relist _ _ _ _ (p .paid-are) em (λ j _. ap₂ _*_ (A .is-cut) (kwh-is j)) i;
-      };
-    }
+        → ClearsAccepted o (clearings.Cleared p x) (results stations charges sales payments)
+    unfolding answerOfClearing outcomeBy paid screened screen market marketBy
+    clears-accepted price x {n} {sales} {payments} ec en p e =
+        subst (λ o. ClearsAccepted o (clearings.Cleared price x) (results stations charges sales payments))
+        (sym (m .outcome-is)) (record {
+          answered = ap₂ {C = Answer (ℕ × ℕ)} (λ a b. accepted (a, b)) (ec ∙ A .is-cut)
+              (e ∙ ap (λ n. sum n (λ i. getD charges i 0 - getD least i 0)) charges-count ∙ margin-is);
+          left = λ i. record {
+            stations = stations-are i;
+            charges = charges-are i;
+            sold = relist _ _ _ _ (p .sold-are) en (λ j _. kwh-is j) i;
+            paid = relist _ _ _ _ (p .paid-are) en (λ j _. ap₂ _*_ (A .is-cut) (kwh-is j)) i;
+          };
+        })
 
 -- ---- the answers
 
@@ -125,7 +126,8 @@ unfolding answerOfVerdict
 is-accepted t r e = sym e
 
 pub refused-clears :
-    (t : Tables) (r : Results) (x : Refusal) → Judged t r (verdicts.Refused x) → Clears t r (clearings.Refused x) r
+    {made : Tables → Outcome} (t : Tables) (r : Results) (x : Refusal) → Judged t r (verdicts.Refused x)
+    → ClearsBy made t r (clearings.Refused x) r
 unfolding answerOfVerdict answerOfClearing
 refused-clears t r x e =
     record { answered = sym (giving-refused _ _ (sym e)); left = sym (updated-refused _ _ _ (sym e)) }
@@ -149,14 +151,14 @@ abbrev figures : Outcome → Answer (ℕ × ℕ)
 figures o = accepted (o .cut, o .margin)
 
 pub clear-accepted-clears :
-    (asks bays amounts tickets bids : List ℕ) (width : ℕ) (r : Results) {answer : Clearing} {exit : Results}
-    → let t = tables asks bays amounts tickets bids width in
-    Judged t r verdicts.Accepted → ClearsAccepted (regular asks bays amounts tickets bids) answer exit
-    → Clears t r answer exit
-clear-accepted-clears asks bays amounts tickets bids width r e s =
+    (made : Tables → Outcome) (asks bays amounts tickets bids : List ℕ) (width : ℕ) (r : Results) {answer : Clearing}
+    {exit : Results} → let t = tables asks bays amounts tickets bids width in
+    Judged t r verdicts.Accepted → ClearsAccepted (made (regular asks bays amounts tickets bids)) answer exit
+    → ClearsBy made t r answer exit
+clear-accepted-clears made asks bays amounts tickets bids width r e s =
     let t = tables asks bays amounts tickets bids width in
     let v = is-accepted t r e in
-    let o = ap outcome (sym (width-of asks bays amounts tickets bids width (accepts t r v .within))) in
+    let o = ap made (sym (width-of asks bays amounts tickets bids width (accepts t r v .within))) in
     record {
       answered = s .answered ∙ ap figures o ∙ sym (giving-accepted _ v);
       left = s .left ∙ ap (λ o. o .results) o ∙ sym (updated-accepted _ _ v);

@@ -1,4 +1,5 @@
 pub mod Calls
+pub mod Efficient
 pub mod Existence
 pub mod Places
 pub mod Postings

@@ -1,10 +1,15 @@
 pub mod Acceptance
+pub mod Candidacies
 pub mod Choice
 pub mod Cut
 pub mod Decisions
+pub mod Efficient
 pub mod Limits
 pub mod Menus
+pub mod Order
+pub mod Outcomes
 pub mod Pivots
 pub mod Queues
 pub mod Stations
+pub mod Taking
 pub mod Truthful

@@ -1,4 +1,5 @@
 pub mod Calls
+pub mod Efficient
 pub mod Meaning
 pub mod Places
 pub mod Postings

@@ -4,6 +4,7 @@ pub mod account;
 pub mod answers;
 pub mod cell;
 pub mod limits;
+pub mod mechanism;
 pub mod money;
 pub mod page;
 pub mod refusal;

@@ -2,6 +2,8 @@
 pub enum Page {
     // The clearing of its market.
     Clearing,
+    // Its efficient clearing.
+    Efficient,
     // The shortest sheet that states its market.
     Sheet,
 }

@@ -4,17 +4,20 @@ use model::answers::Clearing;
 use model::answers::Writing;
 use model::limits::MAX_GUESTS;
 use model::limits::MAX_STATIONS;
+use model::mechanism::Mechanism;
 use model::page::Page;
 ghost use Prim.Native.Nat.{_≤_};
 ghost use mathlib.Core.Path.{_≡_};
 ghost use lib.ListN.{length};
 ghost use Rattle.model.specs.Limits.{maxGuests, maxStations};
+ghost use Rattle.model.specs.market.Outcome.{outcomeIn};
 ghost use Rattle.model.specs.text.MarketText.{marketTextOf, sheetPageOf, pageOf};
 ghost use Rattle.model.specs.contracts.Prints.{Prints};
 ghost use Rattle.model.specs.contracts.Lent.{regularIn};
 
 // The text of a market, by way of lent result lists.
 fn print_cleared(
+    mechanism: Mechanism,
     asks: &[u32],
     bays: &[u16],
     amounts: &[u16],
@@ -29,10 +32,11 @@ fn print_cleared(
     requires { ⌜ (length (now amounts) ≤ maxGuests) × (length (now asks) ≤ maxStations) ⌝ }
     requires { ⌜ (length (now stations) ≡ length (now amounts)) × (length (now charges) ≡ length (now amounts))
         × (length (now sold) ≡ length (now asks)) × (length (now paid) ≡ length (now asks)) ⌝ }
-    ensures { λ r. ⌜ Prints (marketTextOf (regularIn asks bays amounts tickets bids)) (now (out .entry)) r
-        (now (out .exit)) ⌝ }
+    ensures { λ r. ⌜ Prints (marketTextOf (outcomeIn mechanism) (regularIn asks bays amounts tickets bids))
+        (now (out .entry)) r (now (out .exit)) ⌝ }
 {
-    let answer = clearing::clear(
+    let answer = clearing::clear_by(
+        mechanism,
         asks,
         bays,
         amounts,
@@ -59,6 +63,7 @@ fn print_cleared(
 }
 
 fn print_clearing(
+    mechanism: Mechanism,
     asks: &[u32],
     bays: &[u16],
     amounts: &[u16],
@@ -67,8 +72,8 @@ fn print_clearing(
     out: &mut [u8],
 ) -> usize
     requires { ⌜ (length (now amounts) ≤ maxGuests) × (length (now asks) ≤ maxStations) ⌝ }
-    ensures { λ r. ⌜ Prints (marketTextOf (regularIn asks bays amounts tickets bids)) (now (out .entry)) r
-        (now (out .exit)) ⌝ }
+    ensures { λ r. ⌜ Prints (marketTextOf (outcomeIn mechanism) (regularIn asks bays amounts tickets bids))
+        (now (out .entry)) r (now (out .exit)) ⌝ }
 {
     let n = amounts.len();
     let m = asks.len();
@@ -77,6 +82,7 @@ fn print_clearing(
     let mut sold = [0u32; MAX_STATIONS];
     let mut paid = [0u64; MAX_STATIONS];
     print_cleared(
+        mechanism,
         asks,
         bays,
         amounts,
@@ -122,7 +128,24 @@ pub fn print_market(
         (now (out .entry)) r (now (out .exit)) ⌝ }
 {
     match asked {
-        Page::Clearing => print_clearing(asks, bays, amounts, tickets, bids, out),
+        Page::Clearing => print_clearing(
+            Mechanism::Truthful,
+            asks,
+            bays,
+            amounts,
+            tickets,
+            bids,
+            out,
+        ),
+        Page::Efficient => print_clearing(
+            Mechanism::Efficient,
+            asks,
+            bays,
+            amounts,
+            tickets,
+            bids,
+            out,
+        ),
         Page::Sheet => print_sheet(asks, bays, amounts, tickets, bids, out),
     }
 }

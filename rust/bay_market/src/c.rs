@@ -54,6 +54,20 @@ unsafe extern "C" {
         cut: *mut u32, margin: *mut u64,
     ) -> u8;
 
+    pub fn bay_market_clear_efficient(
+        asks: *const u32, asks_len: usize,
+        bays: *const u16, bays_len: usize,
+        amounts: *const u16, amounts_len: usize,
+        tickets: *const u32, tickets_len: usize,
+        bids: *const u32, bids_len: usize,
+        width: usize,
+        stations: *mut u16, stations_len: usize,
+        charges: *mut u32, charges_len: usize,
+        sold: *mut u32, sold_len: usize,
+        paid: *mut u64, paid_len: usize,
+        cut: *mut u32, margin: *mut u64,
+    ) -> u8;
+
     pub fn bay_market_post(
         asks: *const u32, asks_len: usize,
         bays: *const u16, bays_len: usize,

@@ -188,13 +188,44 @@ pub fn place_bids(places: &Places, bids: &mut [u32]) -> Result<(), Refusal> {
     })
 }
 
-/// Clears a market.
-#[rustfmt::skip] // pointer and length on one line
+/// Clears a market in a truthful round: no guest and no station gains by a false report.
 pub fn clear(market: &Market, results: &mut Results) -> Result<Cleared, Refusal> {
+    clear_by(Mechanism::Truthful, market, results)
+}
+
+/// Clears a market by the efficient mechanism, for quiet days: whoever [`clear`] seats is seated here too, and others may
+/// be. Stations keep the guarantee that truth pays best; guests lose it. Only truthful rounds are posted.
+///
+/// ```
+/// use bay_market::lent::{Cleared, Market, Results, clear_efficient};
+///
+/// // guest 2 is outbid at station 1, where its total becomes the floor, and is seated at station 2
+/// let (amounts, tickets, bids) = (&[1, 1], &[1, 2], &[10, 0, 0, 0, 9, 5, 0, 0]);
+/// let market = Market { asks: &[0, 0, 1, 1], bays: &[1; 4], amounts, tickets, bids, width: 4 };
+/// let (mut stations, mut charges, mut sold, mut paid) = ([0; 2], [0; 2], [0; 4], [0; 4]);
+/// let mut results = Results { stations: &mut stations, charges: &mut charges, sold: &mut sold, paid: &mut paid };
+/// assert_eq!(clear_efficient(&market, &mut results), Ok(Cleared { cut: 1, margin: 8 }));
+/// assert_eq!((stations, charges, sold, paid), ([1, 2], [9, 1], [1, 1, 0, 0], [1, 1, 0, 0]));
+/// ```
+pub fn clear_efficient(market: &Market, results: &mut Results) -> Result<Cleared, Refusal> {
+    clear_by(Mechanism::Efficient, market, results)
+}
+
+enum Mechanism {
+    Truthful,
+    Efficient,
+}
+
+#[rustfmt::skip] // pointer and length on one line
+fn clear_by(mechanism: Mechanism, market: &Market, results: &mut Results) -> Result<Cleared, Refusal> {
     let mut cleared = Cleared { cut: 0, margin: 0 };
+    let clear = match mechanism {
+        Mechanism::Truthful => c::bay_market_clear,
+        Mechanism::Efficient => c::bay_market_clear_efficient,
+    };
     // SAFETY: as in `write`.
     let answer = unsafe {
-        c::bay_market_clear(
+        clear(
             market.asks.as_ptr(), market.asks.len(),
             market.bays.as_ptr(), market.bays.len(),
             market.amounts.as_ptr(), market.amounts.len(),
@@ -211,7 +242,7 @@ pub fn clear(market: &Market, results: &mut Results) -> Result<Cleared, Refusal>
     Refusal::check(answer).map(|()| cleared)
 }
 
-/// Clears a market and posts it to the ledger as a round.
+/// Clears a market as [`clear`] does and posts it to the ledger as a round.
 #[rustfmt::skip] // pointer and length on one line
 pub fn post(market: &Market, round: u32, ledger: &mut Ledger) -> Result<(), Refusal> {
     // SAFETY: as in `write`; StationAccount has the header's layout.

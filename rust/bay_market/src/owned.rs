@@ -99,12 +99,38 @@ impl Market {
         Ok(sheet[..length].into())
     }
 
+    /// The truthful round: no guest and no station gains by a false report.
     pub fn clear(&self) -> Result<Clearing, Refusal> {
+        self.clear_by(lent::clear)
+    }
+
+    /// The efficient round, for quiet days: whoever [`clear`](Market::clear) seats is seated here too, and others may be.
+    /// Stations keep the guarantee that truth pays best; guests lose it. Only truthful rounds are posted.
+    ///
+    /// ```
+    /// use bay_market::{Market, Refusal};
+    ///
+    /// // of two stations that are open guest 1 bids at the first and guest 2 at both; each has one bay
+    /// let (asks, bays) = (vec![0, 0, 1, 1], vec![1; 4]);
+    /// let bids = vec![10, 0, 0, 0, 9, 5, 0, 0];
+    /// let market = Market { asks, bays, amounts: vec![1, 1], tickets: vec![1, 2], bids };
+    /// let clearing = market.clear_efficient()?;
+    /// assert_eq!((clearing.stations, clearing.charges), (vec![1, 2], vec![9, 1]));
+    /// # Ok::<(), Refusal>(())
+    /// ```
+    pub fn clear_efficient(&self) -> Result<Clearing, Refusal> {
+        self.clear_by(lent::clear_efficient)
+    }
+
+    fn clear_by(
+        &self,
+        clear: impl Fn(&lent::Market, &mut lent::Results) -> Result<lent::Cleared, Refusal>,
+    ) -> Result<Clearing, Refusal> {
         let (n, m) = within_limits(self.amounts.len(), self.asks.len());
         let (mut seats, mut charges) = (vec![0; n], vec![0; n]);
         let (mut sold, mut paid) = (vec![0; m], vec![0; m]);
         let mut results = lent::Results { stations: &mut seats, charges: &mut charges, sold: &mut sold, paid: &mut paid };
-        let lent::Cleared { cut, margin } = lent::clear(&self.lend(), &mut results)?;
+        let lent::Cleared { cut, margin } = clear(&self.lend(), &mut results)?;
         Ok(Clearing { cut, stations: seats, charges, sold, paid, margin })
     }
 
@@ -176,7 +202,7 @@ impl Ledger {
         Ledger { guests: vec![0; guests], stations: vec![StationAccount::default(); stations], house: 0, last: 0 }
     }
 
-    /// Clears a market and posts it as a round. A refused one leaves the ledger as it is.
+    /// Clears a market as [`Market::clear`] does and posts it as a round. A refused one leaves the ledger as it is.
     pub fn post(&mut self, market: &Market, round: u32) -> Result<(), Refusal> {
         lent::post(&market.lend(), round, &mut self.lend())
     }
@@ -215,6 +241,32 @@ mod tests {
         assert_eq!(Market { tickets: vec![4], ..case_e() }.clear(), Err(Refusal::LengthsDiffer));
     }
 
+    fn table_i() -> Market {
+        Market {
+            asks: vec![4, 1, 3, 2, 5],
+            bays: vec![1, 2, 4, 2, 3],
+            amounts: vec![5, 2, 6, 4, 3],
+            tickets: vec![1, 2, 3, 4, 5],
+            bids: vec![
+                0, 4, 0, 5, 2, //
+                2, 0, 5, 1, 0, //
+                7, 5, 0, 4, 0, //
+                6, 4, 0, 3, 0, //
+                0, 0, 2, 3, 5,
+            ],
+        }
+    }
+
+    #[test]
+    fn clears_table_i_in_both_rounds() {
+        let (stations, charges) = (vec![4, 0, 2, 0, 0], vec![15, 0, 18, 0, 0]);
+        let (sold, paid) = (vec![0, 6, 0, 5, 0], vec![0, 18, 0, 15, 0]);
+        assert_eq!(table_i().clear(), Ok(Clearing { cut: 3, stations, charges, sold, paid, margin: 0 }));
+        let (stations, charges) = (vec![4, 0, 2, 2, 4], vec![15, 0, 18, 12, 9]);
+        let (sold, paid) = (vec![0, 10, 0, 8, 0], vec![0, 30, 0, 24, 0]);
+        assert_eq!(table_i().clear_efficient(), Ok(Clearing { cut: 3, stations, charges, sold, paid, margin: 0 }));
+    }
+
     #[test]
     fn writes_case_e() {
         assert_eq!(case_e().to_sheet(), Ok(SHEET_E.into()));
@@ -239,6 +291,9 @@ mod tests {
         assert_eq!(Market::default().clear(), Err(Refusal::CountsOutOfRange));
         assert_eq!(Market { amounts: vec![1; 201], ..case_e() }.clear(), Err(Refusal::CountsOutOfRange));
         assert_eq!(Market { bays: vec![1], ..case_e() }.clear(), Err(Refusal::LengthsDiffer));
+        assert_eq!(Market::default().clear_efficient(), Err(Refusal::CountsOutOfRange));
+        assert_eq!(Market { amounts: vec![1; 201], ..case_e() }.clear_efficient(), Err(Refusal::CountsOutOfRange));
+        assert_eq!(Market { bays: vec![1], ..case_e() }.clear_efficient(), Err(Refusal::LengthsDiffer));
     }
 
     fn cells<const N: usize>(cells: [(u16, u16); N]) -> Vec<Cell> {

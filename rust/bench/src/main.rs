@@ -5,10 +5,11 @@ mod baseline;
 use baseline::Scratch;
 use bay_market::lent::{self, Cleared, Counts, Results, Tables};
 use bay_market::{Ledger, MAX_BIDS, MAX_GUESTS, MAX_SHEET, MAX_STATIONS, StationAccount};
+use reference::clearing::{self, Outcome};
 use reference::market::Market;
 use reference::places::{self, Places};
 use reference::random::{self, Random, Shape, Spread};
-use reference::{clearing, ledger, sheet};
+use reference::{ledger, sheet};
 use std::hint::black_box;
 use std::time::{Duration, Instant};
 
@@ -37,6 +38,15 @@ fn medians<T: Clone>(inputs: &[T], contenders: &mut [&mut dyn FnMut(&T)]) -> Vec
         times.sort_by(f64::total_cmp);
     }
     times.iter().map(|times| times[ROUNDS / 2]).collect()
+}
+
+/// A table's head: what is timed, and the baselines.
+fn print_head(what: &str, baselines: &[&str]) {
+    print!("\n| {what} | engine µs |");
+    for baseline in baselines {
+        print!(" {baseline} µs | engine / {baseline} |");
+    }
+    println!("\n|{}", "---|".repeat(2 + 2 * baselines.len()));
 }
 
 /// A row of a table: the engine's time, then each baseline's with the engine's share of it.
@@ -81,19 +91,21 @@ fn lend(market: &Market) -> lent::Market<'_> {
 
 type Clear = fn(&mut Scratch, &lent::Market, &mut Results) -> Result<Cleared, u8>;
 
-const CLEARINGS: [Clear; 3] = [
+const TRUTHFUL: [Clear; 3] = [
     |_, market, results| lent::clear(market, results).map_err(|refusal| refusal.number()),
     |scratch, market, results| baseline::clear(scratch, market, results, baseline::select),
     |scratch, market, results| baseline::clear(scratch, market, results, baseline::sort),
 ];
 
+const EFFICIENT: [Clear; 2] =
+    [|_, market, results| lent::clear_efficient(market, results).map_err(|refusal| refusal.number()), baseline::clear_efficient];
+
 /// Every contender's outcome is the reference's.
-fn verify_clearing(scratch: &mut Scratch, market: &Market) {
-    let expected = clearing::clear(market);
-    for clear in CLEARINGS {
+fn verify_clearing(scratch: &mut Scratch, market: &Market, contenders: &[Clear], expected: &Outcome) {
+    for clear in contenders {
         let mut lists = Lists::new(market);
         let cleared = clear(scratch, &lend(market), &mut lists.lend()).expect("an accepted market");
-        let outcome = clearing::Outcome {
+        let outcome = Outcome {
             cut: cleared.cut.into(),
             stations: lists.stations.iter().map(|&station| station.into()).collect(),
             charges: lists.charges.iter().map(|&charge| charge.into()).collect(),
@@ -101,7 +113,7 @@ fn verify_clearing(scratch: &mut Scratch, market: &Market) {
             paid: lists.paid.iter().map(|&paid| paid.into()).collect(),
             margin: cleared.margin.into(),
         };
-        assert!(outcome == expected, "a contender differs from the reference");
+        assert!(outcome == *expected, "a contender differs from the reference");
     }
 }
 
@@ -110,13 +122,14 @@ fn full() -> Shape {
     Shape { tickets: random::numbered, ..Shape::full() }
 }
 
-fn clearings(random: &mut Random) {
+/// The cases of clearing.
+fn cases() -> [(&'static str, Shape); 11] {
     let full = full();
     let candidates = Shape { asks: 0..=500_000, bids: 500_000..=1_000_000, bays: 1..=10, ..full.clone() };
     let tied = Shape { bids: 700_000..=700_000, amounts: 50..=50, ..candidates.clone() };
     let small = Shape { guests: 100..=100, stations: 10..=10, bays: 1..=10, ..full.clone() };
     let mixed = |shape: &Shape| Shape { tickets: random::mixed, ..shape.clone() };
-    let shapes = [
+    [
         ("200 by 40, bays 1 to 200", full.clone()),
         ("200 by 40, bays 1 to 10", Shape { bays: 1..=10, ..full.clone() }),
         ("200 by 40, bays 1", Shape { bays: 1..=1, ..full.clone() }),
@@ -128,26 +141,26 @@ fn clearings(random: &mut Random) {
         ("200 by 40, bays 1 to 200, random tickets", mixed(&full)),
         ("200 by 40, all totals tied, bays 1 to 10, random tickets", mixed(&tied)),
         ("100 by 10, bays 1 to 10, random tickets", mixed(&small)),
-    ];
-    println!("| clearing | engine µs | select µs | engine / select | sort µs | engine / sort |");
-    println!("|---|---|---|---|---|---|");
-    for (name, shape) in shapes {
+    ]
+}
+
+/// Times the engine, the first contender, and the baselines on every case of clearing.
+fn clearings(random: &mut Random, contenders: &[Clear], expected: fn(&Market) -> Outcome) {
+    for (name, shape) in cases() {
         let markets: Vec<Market> = (0..MARKETS).map(|_| shape.market(random)).collect();
-        let mut working = [Scratch::new(), Scratch::new(), Scratch::new()].map(|scratch| (scratch, Lists::new(&markets[0])));
-        markets.iter().for_each(|market| verify_clearing(&mut working[0].0, market));
-        let [engine, select, sort] = &mut working;
-        let run = |clear: Clear, market: &Market, (scratch, lists): &mut (Box<Scratch>, Lists)| {
-            black_box(clear(scratch, &lend(market), &mut lists.lend())).expect("an accepted market");
-        };
-        let medians = medians(
-            &markets,
-            &mut [
-                &mut |market| run(CLEARINGS[0], market, engine),
-                &mut |market| run(CLEARINGS[1], market, select),
-                &mut |market| run(CLEARINGS[2], market, sort),
-            ],
-        );
-        print_row(name, &medians);
+        let mut scratch = Scratch::new();
+        markets.iter().for_each(|market| verify_clearing(&mut scratch, market, contenders, &expected(market)));
+        let mut runs: Vec<_> = contenders
+            .iter()
+            .map(|clear| {
+                let (mut scratch, mut lists) = (Scratch::new(), Lists::new(&markets[0]));
+                move |market: &Market| {
+                    black_box(clear(&mut scratch, &lend(market), &mut lists.lend())).expect("an accepted market");
+                }
+            })
+            .collect();
+        let mut runs: Vec<&mut dyn FnMut(&Market)> = runs.iter_mut().map(|run| run as _).collect();
+        print_row(name, &medians(&markets, &mut runs));
     }
 }
 
@@ -197,8 +210,7 @@ type ReadSheet = fn(&[u8], &mut Tables) -> Result<Counts, u8>;
 const READINGS: [ReadSheet; 2] = [|sheet, tables| lent::read(sheet, tables).map_err(|refusal| refusal.number()), baseline::read];
 
 fn readings(random: &mut Random) {
-    println!("\n| reading | engine µs | two walks µs | engine / two walks |");
-    println!("|---|---|---|---|");
+    print_head("reading", &["two walks"]);
     for (name, empty) in FILLINGS {
         let shape = Shape { bids: 1..=1_000_000, empty, ..full() };
         let sheets: Vec<Vec<u8>> = (0..MARKETS).map(|_| sheet::shortest(&shape.market(random))).collect();
@@ -231,8 +243,7 @@ const WRITINGS: [WriteSheet; 3] = [
 ];
 
 fn writings(random: &mut Random) {
-    println!("\n| writing | engine µs | by map µs | engine / by map | by bid µs | engine / by bid |");
-    println!("|---|---|---|---|---|---|");
+    print_head("writing", &["by map", "by bid"]);
     for (name, empty) in FILLINGS {
         let shape = Shape { bids: 1..=1_000_000, empty, ..full() };
         let markets: Vec<Market> = (0..MARKETS).map(|_| shape.market(random)).collect();
@@ -273,8 +284,7 @@ const POSTINGS: [Post; 2] =
     [|_, market, round, ledger| lent::post(market, round, ledger).map_err(|refusal| refusal.number()), baseline::post];
 
 fn postings(random: &mut Random) {
-    println!("\n| posting | engine µs | select µs | engine / select |");
-    println!("|---|---|---|---|");
+    print_head("posting", &["select"]);
     for (name, guests, stations) in [("200 by 40, bays 1 to 10", 200, 40), ("100 by 10, bays 1 to 10", 100, 10)] {
         let shape = Shape { guests: guests..=guests, stations: stations..=stations, bays: 1..=10, ..full() };
         let markets: Vec<Market> = (0..MARKETS).map(|_| shape.market(random)).collect();
@@ -318,8 +328,7 @@ const PLACINGS: [PlaceBids; 2] =
     [|places, bids| lent::place_bids(places, bids).map_err(|refusal| refusal.number()), baseline::place_bids];
 
 fn placings(random: &mut Random) {
-    println!("\n| placing bids | engine µs | plain Rust µs | engine / plain Rust |");
-    println!("|---|---|---|---|");
+    print_head("placing bids", &["plain Rust"]);
     for (name, guests, stations) in [("200 by 40", 200, 40), ("100 by 10", 100, 10)] {
         let (prices, falls, coordinates) = (0..=1_000_000, 0..=3_000, 0..=31);
         let spread = Spread { guests: guests..=guests, stations: stations..=stations, prices, falls, coordinates };
@@ -344,9 +353,12 @@ fn placings(random: &mut Random) {
 }
 
 fn main() {
-    println!("Medians of {ROUNDS} rounds over {MARKETS} random inputs, the contenders in turns.\n");
+    println!("Medians of {ROUNDS} rounds over {MARKETS} random inputs, the contenders in turns.");
     let mut random = Random::new(8);
-    clearings(&mut random);
+    print_head("clearing", &["select", "sort"]);
+    clearings(&mut random, &TRUTHFUL, clearing::clear);
+    print_head("efficient clearing", &["sort"]);
+    clearings(&mut Random::new(8), &EFFICIENT, clearing::clear_efficient); // the same markets
     readings(&mut random);
     writings(&mut random);
     postings(&mut random);

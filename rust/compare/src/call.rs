@@ -2,9 +2,11 @@
 //! over slices, and through the types that own their lists.
 
 use crate::lent::Lent;
-use bay_market::c::{bay_market_clear, bay_market_place_bids, bay_market_post, bay_market_read, bay_market_write};
+use bay_market::c::{
+    bay_market_clear, bay_market_clear_efficient, bay_market_place_bids, bay_market_post, bay_market_read, bay_market_write,
+};
 use bay_market::{Cell, MAX_BIDS, MAX_GUESTS, MAX_SHEET, MAX_STATIONS, Refusal, StationAccount, lent};
-use reference::clearing::Outcome;
+use reference::clearing::{self, Outcome};
 use reference::faults::{ListLengths, OUTPUT_TOO_SHORT};
 use reference::ledger::Ledger;
 use reference::market::Market;
@@ -330,22 +332,64 @@ fn place_bids_lent(
     }
 }
 
+/// By which mechanism a market is cleared.
+#[derive(Clone, Copy, Debug, PartialEq, Eq)]
+pub enum Mechanism {
+    Truthful,
+    Efficient,
+}
+
+impl Mechanism {
+    /// The reference's clearing of an accepted market.
+    pub fn expected(self, market: &Market) -> Outcome {
+        match self {
+            Mechanism::Truthful => clearing::clear(market),
+            Mechanism::Efficient => clearing::clear_efficient(market),
+        }
+    }
+
+    /// The engine's clearing, by the types that own their lists.
+    pub fn clear(self, market: &Market) -> Result<bay_market::Clearing, u8> {
+        let cleared = match self {
+            Mechanism::Truthful => own(market).clear(),
+            Mechanism::Efficient => own(market).clear_efficient(),
+        };
+        cleared.map_err(Refusal::number)
+    }
+}
+
+/// What a clearing is lent: a market, and result lists of these lengths.
+#[derive(Clone, Copy)]
+pub struct Clearing<'a> {
+    pub mechanism: Mechanism,
+    pub market: &'a Market,
+    pub lists: ListLengths,
+}
+
 /// Clears a market and holds answer and memory to what is expected.
-pub fn clear(random: &mut Random, market: &Market, lists: ListLengths, expected: &Result<Outcome, u8>) -> Result<(), String> {
+pub fn clear(random: &mut Random, clearing: Clearing, expected: &Result<Outcome, u8>) -> Result<(), String> {
+    let Clearing { mechanism, market, lists } = clearing;
     each_way(|way| match way {
-        Way::C | Way::Slices => clear_lent(way, random, market, lists, expected),
+        Way::C | Way::Slices => clear_lent(way, random, clearing, expected),
         Way::Owned if market.width != market.stations() || lists != ListLengths::of(market) => Ok(()),
         Way::Owned => {
-            let cleared = own(market).clear().map_err(Refusal::number);
-            require(cleared == expected.as_ref().map(own_outcome).map_err(|&number| number), "the owned clearing differs")
+            let expected = expected.as_ref().map(own_outcome).map_err(|&number| number);
+            require(mechanism.clear(market) == expected, "the owned clearing differs")
         }
     })
 }
 
 #[rustfmt::skip] // pointer and length on one line
-fn clear_lent(
-    way: Way, random: &mut Random, market: &Market, lists: ListLengths, expected: &Result<Outcome, u8>,
-) -> Result<(), String> {
+fn clear_lent(way: Way, random: &mut Random, clearing: Clearing, expected: &Result<Outcome, u8>) -> Result<(), String> {
+    let Clearing { mechanism, market, lists } = clearing;
+    let in_c = match mechanism {
+        Mechanism::Truthful => bay_market_clear,
+        Mechanism::Efficient => bay_market_clear_efficient,
+    };
+    let in_slices = match mechanism {
+        Mechanism::Truthful => lent::clear,
+        Mechanism::Efficient => lent::clear_efficient,
+    };
     let mut tables = Tables::of(random, market);
     let mut stations: Lent<u16> = Lent::noise(random, lists.stations);
     let mut charges: Lent<u32> = Lent::noise(random, lists.charges);
@@ -356,7 +400,7 @@ fn clear_lent(
     let answer = match way {
         // SAFETY: as in `read_lent`.
         Way::C => unsafe {
-            bay_market_clear(
+            in_c(
                 tables.asks.pointer(), tables.asks.len(),
                 tables.bays.pointer(), tables.bays.len(),
                 tables.amounts.pointer(), tables.amounts.len(),
@@ -374,7 +418,7 @@ fn clear_lent(
             let mut results = lent::Results {
                 stations: stations.slice(), charges: charges.slice(), sold: sold.slice(), paid: paid.slice(),
             };
-            numbered(lent::clear(&tables.lend(market.width), &mut results), |cleared| {
+            numbered(in_slices(&tables.lend(market.width), &mut results), |cleared| {
                 *cut.number() = cleared.cut;
                 *margin.number() = cleared.margin;
             })

@@ -1,20 +1,27 @@
-//! Clearing against the reference.
+//! Clearing against the reference, by both mechanisms.
 
 use crate::Tally;
-use crate::call;
+use crate::call::{self, Clearing, Mechanism};
 use crate::markets::{accepted, changes, middling, shapes, show, small, tied};
-use reference::clearing::clear;
 use reference::faults::{ListLengths, clearing_fault};
-use reference::market::Market;
 use reference::random::{Random, Shape};
 
-fn check(random: &mut Random, tally: &mut Tally, market: &Market, lists: ListLengths) -> Result<(), String> {
-    let expected = clearing_fault(market, lists).map(|()| clear(market));
+fn check(random: &mut Random, tally: &mut Tally, clearing: Clearing) -> Result<(), String> {
+    let Clearing { mechanism, market, lists } = clearing;
+    let expected = clearing_fault(market, lists).map(|()| mechanism.expected(market));
     tally.count(&expected);
-    call::clear(random, market, lists, &expected).map_err(|what| format!("{what}\n{lists:?}\n{}", show(market)))
+    call::clear(random, clearing, &expected).map_err(|what| format!("{what}\n{lists:?}\n{}", show(market)))
 }
 
-pub fn run(random: &mut Random, tally: &mut Tally, cases: usize) -> Result<(), String> {
+pub fn run_truthful(random: &mut Random, tally: &mut Tally, cases: usize) -> Result<(), String> {
+    run(random, tally, cases, Mechanism::Truthful)
+}
+
+pub fn run_efficient(random: &mut Random, tally: &mut Tally, cases: usize) -> Result<(), String> {
+    run(random, tally, cases, Mechanism::Efficient)
+}
+
+fn run(random: &mut Random, tally: &mut Tally, cases: usize, mechanism: Mechanism) -> Result<(), String> {
     let shapes = shapes();
     for _ in 0..cases {
         let mut market = accepted(random, &shapes);
@@ -25,7 +32,7 @@ pub fn run(random: &mut Random, tally: &mut Tally, cases: usize) -> Result<(), S
                 random.pick(&changes).apply(random, &mut market, &mut lists);
             }
         }
-        check(random, tally, &market, lists)?;
+        check(random, tally, Clearing { mechanism, market: &market, lists })?;
     }
     // each change alone and each two together, in small markets; each alone in the largest
     let some = |shape: Shape| Shape { guests: 3..=6, stations: 2..=5, ..shape };
@@ -36,12 +43,12 @@ pub fn run(random: &mut Random, tally: &mut Tally, cases: usize) -> Result<(), S
             let mut with_one = market.clone();
             let mut lists = ListLengths::of(&market);
             first.apply(random, &mut with_one, &mut lists);
-            check(random, tally, &with_one, lists)?;
+            check(random, tally, Clearing { mechanism, market: &with_one, lists })?;
             for second in changes.iter().filter(|_| market.bids.len() < 1_000) {
                 let mut with_two = with_one.clone();
                 let mut lists = lists;
                 second.apply(random, &mut with_two, &mut lists);
-                check(random, tally, &with_two, lists)?;
+                check(random, tally, Clearing { mechanism, market: &with_two, lists })?;
             }
         }
     }

@@ -1,7 +1,8 @@
 //! Runs the static library and the clearing program against the reference on seeded random cases:
 //! `compare [SEED [PART [WAY]]]`, where a part is read, write, trip (sheets read, written, read and written again),
-//! place_bids, clear, post, truth or print, and the first six are called by all ways or by one: c, slices or owned. A
-//! failing case prints itself and ends the run with 1; wrong use ends it with 2.
+//! place_bids, clear, clear_efficient, post, truth (a search for false reports that pay), truth_efficient or print, and
+//! the first seven are called by all ways or by one: c, slices or owned. A failing case prints itself and ends the run
+//! with 1; wrong use ends it with 2.
 
 mod call;
 mod clearing;
@@ -47,14 +48,16 @@ struct Part {
     cases: usize,
 }
 
-const PARTS: [Part; 8] = [
+const PARTS: [Part; 10] = [
     Part { name: "read", run: reading::run, cases: 6_000 },
     Part { name: "write", run: writing::run, cases: 12_000 },
     Part { name: "trip", run: reading::run_trips, cases: 6_000 },
     Part { name: "place_bids", run: placing::run, cases: 12_000 },
-    Part { name: "clear", run: clearing::run, cases: 20_000 },
+    Part { name: "clear", run: clearing::run_truthful, cases: 20_000 },
+    Part { name: "clear_efficient", run: clearing::run_efficient, cases: 20_000 },
     Part { name: "post", run: posting::run, cases: 4_000 },
-    Part { name: "truth", run: truth::run, cases: 3_000 },
+    Part { name: "truth", run: truth::run_truthful, cases: 3_000 },
+    Part { name: "truth_efficient", run: truth::run_efficient, cases: 20_000 },
     Part { name: "print", run: printing::run, cases: 400 },
 ];
 

@@ -2,10 +2,9 @@
 //! placed and then cleared.
 
 use crate::Tally;
-use crate::call;
+use crate::call::{self, Clearing, Mechanism};
 use crate::markets::{Place, other_lengths, set};
 use bay_market::lent;
-use reference::clearing::clear;
 use reference::faults::{ListLengths, MAX_CELL, MAX_GUESTS, MAX_PRICE, MAX_STATIONS};
 use reference::market::Market;
 use reference::places::{Cell, Places, place_bids, squared_distance, walk};
@@ -208,7 +207,7 @@ fn every_two_cells(random: &mut Random, tally: &mut Tally) -> Result<(), String>
     Ok(())
 }
 
-/// Places a market's bids by the engine and clears it by each way, against the reference with its own bids.
+/// Places a market's bids by the engine and clears it by both mechanisms, against the reference with its own bids.
 fn check_market(random: &mut Random, tally: &mut Tally, places: &Places) -> Result<(), String> {
     let (n, m) = (places.guests() as u64, places.stations() as u64);
     let asks = 0..=places.prices.iter().copied().max().unwrap_or(0).into();
@@ -225,9 +224,13 @@ fn check_market(random: &mut Random, tally: &mut Tally, places: &Places) -> Resu
     let shown = show(&Placing::of(places.clone()));
     lent::place_bids(&lent, &mut market.bids).map_err(|refusal| format!("refused {}\n{shown}", refusal.number()))?;
     let bids = place_bids(places, market.bids.len()).expect("accepted places");
-    let expected = Ok(clear(&Market { bids, ..market.clone() }));
-    tally.count(&expected);
-    call::clear(random, &market, ListLengths::of(&market), &expected).map_err(|what| format!("{what}\n{shown}"))
+    for mechanism in [Mechanism::Truthful, Mechanism::Efficient] {
+        let expected = Ok(mechanism.expected(&Market { bids: bids.clone(), ..market.clone() }));
+        tally.count(&expected);
+        let clearing = Clearing { mechanism, market: &market, lists: ListLengths::of(&market) };
+        call::clear(random, clearing, &expected).map_err(|what| format!("{what}\n{shown}"))?;
+    }
+    Ok(())
 }
 
 pub fn run(random: &mut Random, tally: &mut Tally, cases: usize) -> Result<(), String> {

@@ -1,12 +1,12 @@
-//! The clearing program, target/dist/clear or the one that BAY_MARKET_PROGRAM names, against the reference's text, and
-//! with --write against the reference's sheet. It ends with 0 and writes nothing to standard error, whatever the sheet.
+//! The clearing program, target/dist/clear or the one that BAY_MARKET_PROGRAM names, against the reference's text, with
+//! --quiet against its text of the efficient clearing and with --write against its sheet. It ends with 0 and writes nothing to standard error, whatever the sheet.
 
 use crate::Tally;
 use crate::markets::{accepted, hex, shapes, small};
 use crate::reading::{any_sheet, damaged};
 use reference::faults::{MAX_AMOUNT, MAX_BAYS, MAX_PRICE};
 use reference::random::{Random, Shape};
-use reference::report::{printed, written};
+use reference::report::{printed, printed_quiet, written};
 use reference::sheet::{shortest, stating};
 use std::io::Write;
 use std::path::{Path, PathBuf};
@@ -84,7 +84,8 @@ pub fn run(random: &mut Random, tally: &mut Tally, cases: usize) -> Result<(), S
         }
         let text = printed(&sheet);
         let number = text.strip_prefix("refused ").map(|number| number.trim_end().parse().expect("a number"));
-        for (arguments, expected) in [(&[][..], text.into_bytes()), (&["--write"], written(&sheet))] {
+        let quiet = printed_quiet(&sheet).into_bytes();
+        for (arguments, expected) in [(&[][..], text.into_bytes()), (&["--quiet"], quiet), (&["--write"], written(&sheet))] {
             tally.count(&number.map_or(Ok(()), Err));
             let first = random.below(sheet.len() + 1);
             let output = run_program(&program, arguments, &sheet, first)?;

@@ -1,16 +1,17 @@
-//! A search for a false report that pays, and the limits of every outcome met on the way, on small markets.
+//! A search for a false report that pays, on small markets, and the limits of every outcome met on the way. In efficient
+//! rounds no station's report pays, but some guest's does; and whoever is seated in the truthful round is seated.
 
 use crate::Tally;
-use crate::call::own;
-use crate::markets::{show, small};
+use crate::call::Mechanism;
+use crate::markets::{accepted, shapes, show, small};
 use bay_market::Clearing;
 use reference::market::Market;
 use reference::random::{Random, Shape};
 
-fn clear(tally: &mut Tally, market: &Market) -> Result<Clearing, String> {
-    let answer = own(market).clear();
-    tally.count(&answer.as_ref().map_err(|refusal| refusal.number()));
-    let clearing = answer.map_err(|refusal| format!("refused {}\n{}", refusal.number(), show(market)))?;
+fn clear(tally: &mut Tally, mechanism: Mechanism, market: &Market) -> Result<Clearing, String> {
+    let answer = mechanism.clear(market);
+    tally.count(&answer);
+    let clearing = answer.map_err(|number| format!("refused {number}\n{}", show(market)))?;
     within_limits(market, &clearing).map_err(|what| format!("{what}\n{}", show(market)))?;
     Ok(clearing)
 }
@@ -72,10 +73,10 @@ fn next_row(digits: &mut [usize], values: usize) -> bool {
     false
 }
 
-/// Sets the market against each one with another row or another ask, all else the same, tickets too.
-fn search(tally: &mut Tally, market: &Market, values: &[u32]) -> Result<(), String> {
+/// Sets the market against each one with another row, all else the same, tickets too.
+fn search_guests(tally: &mut Tally, mechanism: Mechanism, market: &Market, values: &[u32]) -> Result<(), String> {
     let m = market.stations();
-    let honest = clear(tally, market)?;
+    let honest = clear(tally, mechanism, market)?;
     let mut other = market.clone();
     for guest in 1..=market.guests() {
         let row = (guest - 1) * m..guest * m;
@@ -86,7 +87,7 @@ fn search(tally: &mut Tally, market: &Market, values: &[u32]) -> Result<(), Stri
             for (place, &digit) in row.clone().zip(&digits) {
                 other.bids[place] = values[digit];
             }
-            let outcome = clear(tally, &other)?;
+            let outcome = clear(tally, mechanism, &other)?;
             if guest_gain(market, &outcome, guest, worths) > gain {
                 return Err(format!("guest {guest} gains by {:?}\n{}", &other.bids[row], show(market)));
             }
@@ -96,12 +97,19 @@ fn search(tally: &mut Tally, market: &Market, values: &[u32]) -> Result<(), Stri
         }
         other.bids[row].copy_from_slice(worths);
     }
-    for station in 1..=m {
+    Ok(())
+}
+
+/// Sets the market against each one with another ask, all else the same.
+fn search_stations(tally: &mut Tally, mechanism: Mechanism, market: &Market, values: &[u32]) -> Result<(), String> {
+    let honest = clear(tally, mechanism, market)?;
+    let mut other = market.clone();
+    for station in 1..=market.stations() {
         let cost = market.asks[station - 1];
         let gain = station_gain(&honest, station, cost);
         for &ask in values {
             other.asks[station - 1] = ask;
-            let outcome = clear(tally, &other)?;
+            let outcome = clear(tally, mechanism, &other)?;
             if station_gain(&outcome, station, cost) > gain {
                 return Err(format!("station {station} gains by {ask}\n{}", show(market)));
             }
@@ -111,17 +119,67 @@ fn search(tally: &mut Tally, market: &Market, values: &[u32]) -> Result<(), Stri
     Ok(())
 }
 
-pub fn run(random: &mut Random, tally: &mut Tally, cases: usize) -> Result<(), String> {
+/// A small market, and the six values that its prices have, close together or far apart.
+fn priced(random: &mut Random) -> (Market, [u32; 6]) {
     let sizes = Shape { guests: 1..=4, stations: 2..=4, bays: 1..=2, amounts: 1..=3, ..small() };
-    let shape = Shape { asks: 0..=5, bids: 0..=5, empty: 0, ..sizes };
-    for _ in 0..cases {
-        let mut market = shape.market(random);
-        // the six values of a price, close together or far apart
-        let values = if random.chance(70) { [0, 1, 2, 3, 4, 5] } else { [0, 1, 100, 101, 999_999, 1_000_000] };
-        for price in market.asks.iter_mut().chain(&mut market.bids) {
-            *price = values[*price as usize];
+    let mut market = Shape { asks: 0..=5, bids: 0..=5, empty: 0, ..sizes }.market(random);
+    let values = if random.chance(70) { [0, 1, 2, 3, 4, 5] } else { [0, 1, 100, 101, 999_999, 1_000_000] };
+    for price in market.asks.iter_mut().chain(&mut market.bids) {
+        *price = values[*price as usize];
+    }
+    (market, values)
+}
+
+/// What guest 1 gains, to which stations 1 and 2 are worth 2 each, by a row of bids there, where guest 2 bids 2 at
+/// station 1.
+fn gain_by(tally: &mut Tally, mechanism: Mechanism, row: [u32; 2]) -> Result<i128, String> {
+    let bids = [row[0], row[1], 0, 0, 2, 0, 0, 0];
+    let market = Market::numbered(&[0, 0, 1, 1], &[1; 4], &[1, 1], &bids);
+    Ok(guest_gain(&market, &clear(tally, mechanism, &market)?, 1, &[2, 2, 0, 0]))
+}
+
+/// By the true row it gains 1 in the truthful round and nothing in the efficient one, where a false row gains 1.
+fn a_false_row_pays(tally: &mut Tally) -> Result<(), String> {
+    for (mechanism, expected) in [(Mechanism::Truthful, [1, 1]), (Mechanism::Efficient, [0, 1])] {
+        let gains = [gain_by(tally, mechanism, [2, 2])?, gain_by(tally, mechanism, [0, 2])?];
+        if gains != expected {
+            return Err(format!("{mechanism:?}: the true and the false row gain {gains:?}, expected {expected:?}"));
         }
-        search(tally, &market, &values)?;
+    }
+    Ok(())
+}
+
+/// Whoever is seated in the truthful round is seated in the efficient one; how many more are.
+fn more_seated(tally: &mut Tally, market: &Market) -> Result<usize, String> {
+    let truthful = clear(tally, Mechanism::Truthful, market)?.stations;
+    let efficient = clear(tally, Mechanism::Efficient, market)?.stations;
+    if let Some(guest) = truthful.iter().zip(&efficient).position(|(&seat, &other)| seat > 0 && other == 0) {
+        return Err(format!("guest {} loses its seat in the efficient round\n{}", guest + 1, show(market)));
+    }
+    let seated = |seats: &[u16]| seats.iter().filter(|&&seat| seat > 0).count();
+    Ok(seated(&efficient) - seated(&truthful))
+}
+
+pub fn run_truthful(random: &mut Random, tally: &mut Tally, cases: usize) -> Result<(), String> {
+    for _ in 0..cases {
+        let (market, values) = priced(random);
+        search_guests(tally, Mechanism::Truthful, &market, &values)?;
+        search_stations(tally, Mechanism::Truthful, &market, &values)?;
+    }
+    tally.require(&[0])
+}
+
+pub fn run_efficient(random: &mut Random, tally: &mut Tally, cases: usize) -> Result<(), String> {
+    a_false_row_pays(tally)?;
+    let shapes = shapes();
+    let mut more = 0;
+    for _ in 0..cases {
+        let (market, values) = priced(random);
+        search_stations(tally, Mechanism::Efficient, &market, &values)?;
+        more += more_seated(tally, &accepted(random, &shapes))?;
+    }
+    if more == 0 {
+        return Err("the efficient round never seats more".to_string());
     }
     tally.require(&[0])
 }

@@ -61,8 +61,9 @@ fn the_functions_agree() {
     let in_header = functions(&header[header.find("struct bay_market").unwrap()..], "\nuint8_t ", ");", in_rust);
     let declared =
         functions(&bare(DECLARATIONS), "pub fn ", ") -> u8;", |text| text.split_whitespace().collect::<Vec<_>>().join(" "));
-    let names = ["bay_market_clear", "bay_market_place_bids", "bay_market_post", "bay_market_read", "bay_market_write"];
-    assert_eq!(in_header.keys().collect::<Vec<_>>(), names);
+    let names = ["clear", "clear_efficient", "place_bids", "post", "read", "write"].map(|name| format!("bay_market_{name}"));
+    assert_eq!(in_header.keys().collect::<Vec<_>>(), names.iter().collect::<Vec<_>>());
+    assert_eq!(in_header["bay_market_clear_efficient"], in_header["bay_market_clear"]);
     assert_eq!(in_header, declared);
 }
 

@@ -1,7 +1,7 @@
-//! Document 01's cases and limits and document 02's of tickets, each market also through its sheet; document 02's of parking
-//! places.
+//! Document 01's cases and limits and document 02's of tickets and quiet rounds, each market also through its sheet;
+//! document 02's of parking places.
 
-use crate::clearing::clear;
+use crate::clearing::{Outcome, clear, clear_efficient};
 use crate::faults::{ListLengths, clearing_fault, market_fault};
 use crate::ledger::{Ledger, MAX_ACCOUNT, StationAccount};
 use crate::market::Market;
@@ -14,12 +14,26 @@ fn one_bay(asks: &[u32], amounts: &[u16], bids: &[u32]) -> Market {
     Market::numbered(asks, &vec![1; asks.len()], amounts, bids)
 }
 
-/// A market is accepted, is what its sheet states, and clears to the given cut, stations, charges, (sold, paid), margin.
-fn clears(market: &Market, cut: u128, stations: &[usize], charges: &[u128], sales: &[(u128, u128)], margin: u128) {
+/// A market is accepted and is what its sheet states.
+fn accepted(market: &Market) {
     assert_eq!(read(&shortest(market), GREATEST).as_ref(), Ok(market));
     assert_eq!(read(&stating(market, |_, _| true), GREATEST).as_ref(), Ok(market));
     assert_eq!(market_fault(market), Ok(()));
-    let outcome = clear(market);
+}
+
+/// An accepted market clears to the given cut, stations, charges, (sold, paid), margin.
+fn clears(market: &Market, cut: u128, stations: &[usize], charges: &[u128], sales: &[(u128, u128)], margin: u128) {
+    accepted(market);
+    is_outcome(clear(market), cut, stations, charges, sales, margin);
+}
+
+/// The same in a quiet round.
+fn clears_quiet(market: &Market, cut: u128, stations: &[usize], charges: &[u128], sales: &[(u128, u128)], margin: u128) {
+    accepted(market);
+    is_outcome(clear_efficient(market), cut, stations, charges, sales, margin);
+}
+
+fn is_outcome(outcome: Outcome, cut: u128, stations: &[usize], charges: &[u128], sales: &[(u128, u128)], margin: u128) {
     assert_eq!(outcome.cut, cut);
     assert_eq!(outcome.stations, stations);
     assert_eq!(outcome.charges, charges);
@@ -68,6 +82,54 @@ fn of_equal_totals_the_lower_ticket_stands_first() {
     seats([u32::MAX, 0, u32::MAX - 1, 1], [0, 1, 0, 1]);
     // the higher total stands first, whatever the tickets
     clears(&one_bay(&[2, 6], &[3, 3], &[8, 0, 9, 0]), 6, &[0, 1], &[0, 24], &[(3, 18), (0, 0)], 6);
+}
+
+#[test]
+fn quiet_rounds() {
+    let none = (0, 0);
+    let sales = [none, (10, 30), none, (8, 24), none];
+    clears_quiet(&samples::table_i(), 3, &[4, 0, 2, 2, 4], &[15, 0, 18, 12, 9], &sales, 0);
+    // guest 2 is turned away at station 1, which sets the floor there, and is seated at station 2 later
+    let later = one_bay(&[0, 0, 1, 1], &[1, 1], &[10, 0, 0, 0, 9, 5, 0, 0]);
+    clears_quiet(&later, 1, &[1, 2], &[9, 1], &[(1, 1), (1, 1), none, none], 8);
+    // of two that are turned away the first sets the floor
+    let two = one_bay(&[0, 1], &[1, 1, 1], &[7, 0, 9, 0, 8, 0]);
+    clears_quiet(&two, 1, &[0, 1, 0], &[0, 8, 0], &[(1, 1), none], 7);
+    clears_quiet(&samples::case_e(), 6, &[1, 0], &[24, 0], &[(3, 18), none], 6);
+    clears_quiet(&one_bay(&[5], &[1], &[9]), 5, &[0], &[0], &[none], 0);
+    clears_quiet(&one_bay(&[2, 6], &[], &[]), 6, &[], &[], &[none, none], 0);
+}
+
+#[test]
+fn in_a_quiet_round_a_guest_seated_before_sets_no_floor() {
+    // as above, where guest 2 is charged 5
+    let market = one_bay(&[1, 1, 2, 2], &[1, 1], &[5, 9, 0, 0, 7, 0, 0, 0]);
+    clears_quiet(&market, 2, &[2, 1], &[2, 2], &[(1, 2), (1, 2), (0, 0), (0, 0)], 0);
+}
+
+#[test]
+fn in_a_quiet_round_the_lower_ticket_and_then_the_lower_station_stand_first() {
+    let seats = |tickets, stations: [usize; 4]| assert_eq!(clear_efficient(&tied(tickets)).stations, stations);
+    seats([3, 5, 7, 9], [1, 1, 0, 0]);
+    seats([5, 9, 3, 7], [1, 0, 1, 0]);
+    // one total everywhere
+    let mut market = one_bay(&[1, 1, 1, 2, 2, 2], &[1, 1], &[4; 12]);
+    let sold = [(1, 2), (1, 2), (0, 0), (0, 0), (0, 0), (0, 0)];
+    clears_quiet(&market, 2, &[1, 2], &[4, 2], &sold, 2);
+    market.tickets = vec![9, 4];
+    clears_quiet(&market, 2, &[2, 1], &[2, 4], &sold, 2);
+}
+
+#[test]
+fn in_a_quiet_round_a_false_bid_may_pay() {
+    // both stations are worth 2 to guest 1
+    let gain = |clear: fn(&Market) -> Outcome, row: [u32; 2]| {
+        let outcome = clear(&one_bay(&[0, 0, 1, 1], &[1, 1], &[row[0], row[1], 0, 0, 2, 0, 0, 0]));
+        assert!(outcome.stations[0] > 0);
+        2 - outcome.charges[0]
+    };
+    assert_eq!((gain(clear, [2, 2]), gain(clear, [0, 2])), (1, 1));
+    assert_eq!((gain(clear_efficient, [2, 2]), gain(clear_efficient, [0, 2])), (0, 1));
 }
 
 #[test]
@@ -149,6 +211,8 @@ fn sheet_e_and_its_text() {
         station 1 sold 3 paid 18\nstation 2 sold 0 paid 0\nmargin 6\n";
     assert_eq!(report::printed(&SHEET_E), text);
     assert_eq!(report::printed(&SHEET_E[..3]), "refused 1\n");
+    assert_eq!(report::printed_quiet(&SHEET_E), text);
+    assert_eq!(report::printed_quiet(&SHEET_E[..3]), "refused 1\n");
     assert_eq!(report::written(&stating(&samples::case_e(), |_, _| true)), SHEET_E);
     assert_eq!(report::written(&SHEET_E[..3]), b"refused 1\n");
 }

@@ -1,4 +1,5 @@
-//! Document 01, 'Clearing', by its numbers 1 to 8, and document 02, 'The longest wait goes first'.
+//! Document 01, 'Clearing', by its numbers 1 to 8, and document 02, 'The longest wait goes first' and 'A second round for
+//! quiet days'.
 
 use crate::market::Market;
 use std::cmp::Reverse;
@@ -14,8 +15,10 @@ pub struct Outcome {
     pub margin: u128,
 }
 
+/// A guest that is a candidate at a station.
 struct Candidate {
     guest: usize,
+    station: usize,
     ticket: u32,
     total: u128,
 }
@@ -28,53 +31,52 @@ struct Place {
     charge: u128,
 }
 
-/// The clearing of an accepted market.
-pub fn clear(market: &Market) -> Outcome {
-    let (n, m) = (market.guests(), market.stations());
-    let amount = |guest: usize| u128::from(market.amounts[guest - 1]);
+fn amount(market: &Market, guest: usize) -> u128 {
+    u128::from(market.amounts[guest - 1])
+}
 
-    // 1. the cut
+/// 1. The cut.
+fn cut(market: &Market) -> u128 {
     let mut rising = market.asks.clone();
     rising.sort();
-    let position = (m + 1).div_ceil(2);
-    let cut = u128::from(rising[position - 1]);
+    let position = (market.stations() + 1).div_ceil(2);
+    u128::from(rising[position - 1])
+}
 
-    let mut places: Vec<Vec<Place>> = vec![Vec::new(); n];
-    for station in 1..=m {
-        // 2. open stations
-        if u128::from(market.asks[station - 1]) >= cut {
-            continue;
-        }
-        // 3. candidates
-        let mut candidates: Vec<Candidate> = Vec::new();
-        for guest in 1..=n {
-            let bid = u128::from(market.bid(guest, station));
-            if bid >= cut {
-                candidates.push(Candidate { guest, ticket: market.tickets[guest - 1], total: bid * amount(guest) });
-            }
-        }
-        // 4. their order: falling totals, of equal ones the lower ticket first
-        candidates.sort_by_key(|candidate| (Reverse(candidate.total), candidate.ticket));
-        let bays = usize::from(market.bays[station - 1]);
-        // 5. the floor: the first candidate without a place
-        let floor = candidates.get(bays).map_or(0, |candidate| candidate.total);
-        // 6. the charge of each who holds a place
-        for candidate in candidates.iter().take(bays) {
-            let charge = floor.max(cut * amount(candidate.guest));
-            places[candidate.guest - 1].push(Place { station, total: candidate.total, charge });
+/// A station's candidates, in no order.
+fn candidates(market: &Market, cut: u128, station: usize) -> Vec<Candidate> {
+    let mut candidates = Vec::new();
+    // 2. open stations
+    if u128::from(market.asks[station - 1]) >= cut {
+        return candidates;
+    }
+    // 3. candidates
+    for guest in 1..=market.guests() {
+        let bid = u128::from(market.bid(guest, station));
+        if bid >= cut {
+            let (ticket, total) = (market.tickets[guest - 1], bid * amount(market, guest));
+            candidates.push(Candidate { guest, station, ticket, total });
         }
     }
+    candidates
+}
 
-    let mut outcome = Outcome { cut, stations: vec![0; n], charges: vec![0; n], sold: vec![0; m], paid: vec![0; m], margin: 0 };
+/// 6. The charge of a guest at a station with this floor.
+fn charge(market: &Market, cut: u128, floor: u128, guest: usize) -> u128 {
+    floor.max(cut * amount(market, guest))
+}
+
+/// The outcome where guests have these stations and stations these floors.
+fn settled(market: &Market, cut: u128, stations: Vec<usize>, floors: &[u128]) -> Outcome {
+    let (n, m) = (market.guests(), market.stations());
+    let mut outcome = Outcome { cut, stations, charges: vec![0; n], sold: vec![0; m], paid: vec![0; m], margin: 0 };
     for guest in 1..=n {
-        // 7. the place with the greatest total less charge, of equal ones at the lower station
-        let held = &mut places[guest - 1];
-        held.sort_by_key(|place| (Reverse(place.total - place.charge), place.station));
-        if let Some(seat) = held.first() {
-            outcome.stations[guest - 1] = seat.station;
-            outcome.charges[guest - 1] = seat.charge;
-            outcome.sold[seat.station - 1] += amount(guest);
-            outcome.margin += seat.charge - cut * amount(guest);
+        let station = outcome.stations[guest - 1];
+        if station > 0 {
+            let charge = charge(market, cut, floors[station - 1], guest);
+            outcome.charges[guest - 1] = charge;
+            outcome.sold[station - 1] += amount(market, guest);
+            outcome.margin += charge - cut * amount(market, guest);
         }
     }
     // 8. payments
@@ -82,4 +84,57 @@ pub fn clear(market: &Market) -> Outcome {
         outcome.paid[station - 1] = cut * outcome.sold[station - 1];
     }
     outcome
+}
+
+/// The clearing of an accepted market.
+pub fn clear(market: &Market) -> Outcome {
+    let (n, m) = (market.guests(), market.stations());
+    let cut = cut(market);
+    let mut floors = vec![0; m];
+    let mut places: Vec<Vec<Place>> = vec![Vec::new(); n];
+    for station in 1..=m {
+        let mut candidates = candidates(market, cut, station);
+        // 4. their order: falling totals, of equal ones the lower ticket first
+        candidates.sort_by_key(|candidate| (Reverse(candidate.total), candidate.ticket));
+        let bays = usize::from(market.bays[station - 1]);
+        // 5. the floor: the first candidate without a place
+        let floor = candidates.get(bays).map_or(0, |candidate| candidate.total);
+        floors[station - 1] = floor;
+        for candidate in candidates.iter().take(bays) {
+            let charge = charge(market, cut, floor, candidate.guest);
+            places[candidate.guest - 1].push(Place { station, total: candidate.total, charge });
+        }
+    }
+    let mut seats = vec![0; n];
+    for (seat, held) in seats.iter_mut().zip(&mut places) {
+        // 7. the place with the greatest total less charge, of equal ones at the lower station
+        held.sort_by_key(|place| (Reverse(place.total - place.charge), place.station));
+        *seat = held.first().map_or(0, |place| place.station);
+    }
+    settled(market, cut, seats, &floors)
+}
+
+/// The efficient clearing of an accepted market, for quiet days.
+pub fn clear_efficient(market: &Market) -> Outcome {
+    let (n, m) = (market.guests(), market.stations());
+    let cut = cut(market);
+    // all candidacies of all stations: falling total, lower ticket, lower station
+    let mut candidacies: Vec<Candidate> = (1..=m).flat_map(|station| candidates(market, cut, station)).collect();
+    candidacies.sort_by_key(|candidacy| (Reverse(candidacy.total), candidacy.ticket, candidacy.station));
+    let mut seats = vec![0; n];
+    let mut left = market.bays.clone();
+    let mut floors = vec![None; m];
+    for Candidate { guest, station, total, .. } in candidacies {
+        if seats[guest - 1] > 0 {
+            continue; // a seated guest's later one
+        }
+        if left[station - 1] > 0 {
+            left[station - 1] -= 1;
+            seats[guest - 1] = station;
+        } else if floors[station - 1].is_none() {
+            floors[station - 1] = Some(total);
+        }
+    }
+    let floors: Vec<u128> = floors.into_iter().map(|floor| floor.unwrap_or(0)).collect();
+    settled(market, cut, seats, &floors)
 }

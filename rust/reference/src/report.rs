@@ -1,7 +1,8 @@
 //! What the clearing program prints, and what it writes.
 
-use crate::clearing::{Outcome, clear};
+use crate::clearing::{Outcome, clear, clear_efficient};
 use crate::faults::market_fault;
+use crate::market::Market;
 use crate::sheet::{GREATEST, read, write};
 use std::fmt::Write;
 
@@ -19,6 +20,15 @@ pub fn outcome(outcome: &Outcome) -> String {
 
 /// What the program prints for a sheet.
 pub fn printed(sheet: &[u8]) -> String {
+    printed_by(clear, sheet)
+}
+
+/// What the program prints for a sheet where a quiet round is asked for.
+pub fn printed_quiet(sheet: &[u8]) -> String {
+    printed_by(clear_efficient, sheet)
+}
+
+fn printed_by(clear: fn(&Market) -> Outcome, sheet: &[u8]) -> String {
     let cleared = read(sheet, GREATEST).and_then(|market| market_fault(&market).map(|()| clear(&market)));
     match cleared {
         Ok(cleared) => outcome(&cleared),

@@ -7,19 +7,21 @@ use native.Mathlib.Numerals.{add-one}
 use native.Mathlib.Omega.{arith}
 use lib.ListN.{getD, length, take, replicate}
 use Rattle.model.specs.Limits.{maxGuests, maxStations}
-use Rattle.model.specs.Counting.{_<?_, only}
-use Rattle.model.specs.market.Market.{Tables, marketBy, market, cut, Screened, screen, critical}
-use Rattle.model.specs.market.Mechanism.{at, charge, best, truthful, charged}
-use Rattle.model.specs.market.Outcome.{screened, decision, outcome, outcomeBy}
+use Rattle.model.specs.Counting.{_<?_, only, list}
+use Rattle.model.specs.market.Market.{Tables, marketBy, market, Screened, screen}
+use Rattle.model.specs.market.Mechanism.{Decision, at, charge, best, truthful, charged}
+use Rattle.model.specs.market.Outcome.{Outcome, screened, decision, outcomeBy}
 use Rattle.model.specs.claims.Meaning.{WithinLimits}
+use Rattle.model.specs.claims.Efficient.{decidedBy}
 use Rattle.model.proofs.Tests.{only-yes, only-no, is-lt, not-lt}
-use Rattle.model.proofs.market.Truthful.{assigned-at-best-place}
 use Rattle.model.proofs.Counting.{list-cong}
-use Rattle.model.proofs.Loops.{long, element, relist, zeros, zeros-are}
+use Rattle.model.proofs.Loops.{long, element, is-list, relist, zeros, zeros-are}
+use Rattle.model.proofs.market.Outcomes.{ComesOf, numbered}
 use Rattle.pricing.specs.Charges.{Chargeable, chargedAt, Charged}
 use Rattle.allocation.specs.Stages.{AtCut, stationBy, gainBy, criticalBy, After, AfterIn, turnTotals, totalsAfter}
 use Rattle.allocation.specs.Stages.{Turned}
 use Rattle.allocation.specs.Assignment.{Assigned}
+use Rattle.allocation.specs.Efficient.{of, StablyAssigned}
 
 -- the turns that a loop has taken: j of them, as far as the stations go
 pub record Turning (t : Tables) (c j : ℕ) (totals₀ totals chosen gains criticals : List ℕ) : Type 0 where
@@ -67,65 +69,82 @@ after-none {S} {n} h = record {
     critical-none zero = refl
     critical-none (suc k) = only-no _ _ (not-lt _ _ (omega arith))
 
--- the choice after the last station is the assignment
-last-choice : (t : Tables) (i : ℕ) → stationBy (screened t) (length (t .asks)) i ≡ (decision t) .assigned i
-unfolding stationBy decision truthful screened screen market marketBy
-last-choice t i = refl
+-- lists that hold a decision: each guest's number of a station, and the critical total of each
+pub record Decided (t : Tables) (D : Decision) (chosen criticals : List ℕ) : Type 0 where
+  pub chosen-are : chosen ≡ list (length (t .amounts)) (D .assigned)
+  pub criticals-long : maxStations < length criticals
+  pub criticals-are : (j : ℕ) → j < length (t .asks) → getD criticals (suc j) 0 ≡ D .critical j
 
-within : (t : Tables) (i j : ℕ) → (decision t) .assigned i ≡ suc j → j < length (t .asks)
-unfolding screened screen market marketBy
-within t i j e = assigned-at-best-place t i .somewhere j e .0
+-- after the last station
+pub truthfully :
+    (t : Tables) {chosen gains criticals : List ℕ} → WithinLimits t
+    → AfterIn t (length (t .asks)) chosen gains criticals → Decided t (decision t) chosen criticals
+unfolding stationBy criticalBy decision truthful screened screen market marketBy
+truthfully t w a = record {
+  chosen-are = a .chosen-are;
+  criticals-long = omega (arith, long _ _ (a .criticals-are));
+  criticals-are = λ j l. element _ _ (a .criticals-are) (suc j) (omega (arith, w .shape .stations-most))
+      ∙ only-yes _ _ (is-lt _ _ l);
+}
 
-pub numbered : (t : Tables) → WithinLimits t → (i s : ℕ) → (decision t) .assigned i ≡ s → s ≤ maxStations
-numbered t w i zero e = omega arith
-numbered t w i (suc j) e = omega (arith, within t i j e, w .shape .stations-most)
+-- a stable assignment
+pub stably :
+    (t : Tables) {chosen criticals : List ℕ} → WithinLimits t → StablyAssigned t chosen criticals
+    → Decided t (decidedBy (screened t) (of chosen)) chosen criticals
+unfolding at
+stably t w s = record {
+  chosen-are = is-list _ _ _ (s .chosen-long) (λ _ _. refl);
+  criticals-long = omega (arith, long _ _ (s .criticals-are));
+  criticals-are = λ j l. element _ _ (s .criticals-are) (suc j) (omega (arith, w .shape .stations-most))
+      ∙ only-yes _ _ (is-lt _ _ (omega arith));
+}
 
-module _ (t : Tables) {c : ℕ} {least chosen gains criticals : List ℕ} (A : AtCut t c least)
-    (a : After (screened t) (length (t .amounts)) (length (t .asks)) chosen gains criticals) where
-  choice : (k : ℕ) → k < length (t .amounts) → getD chosen k 0 ≡ (decision t) .assigned k
-  choice k l = element _ _ (a .chosen-are) k l ∙ last-choice t k
+module _ (t : Tables) {c : ℕ} {least chosen criticals : List ℕ} (A : AtCut t c least) {D : Decision} {o : Outcome}
+    (m : ComesOf t D o) (d : Decided t D chosen criticals) where
+  choice : (k : ℕ) → k < length (t .amounts) → getD chosen k 0 ≡ D .assigned k
+  choice k l = element _ _ (d .chosen-are) k l
 
   -- what charging asks of the choices, and what it leaves
   pub chargeable :
       {stations charges : List ℕ} → length stations ≡ length (t .amounts) → length charges ≡ length (t .amounts)
       → Chargeable chosen least criticals stations charges
   chargeable ls lc =
-      let n = long _ _ (a .chosen-are) in
+      let n = long _ _ (d .chosen-are) in
       record {
         least-long = long _ _ (A .least-are) ∙ sym n;
         stations-long = ls ∙ sym n;
         charges-long = lc ∙ sym n;
-        numbers = λ k l. numbered t (A .within) k _ (sym (choice k (omega arith)));
-        criticals-long = omega (arith, long _ _ (a .criticals-are));
+        numbers = λ k l. let lk : k < length (t .amounts) = omega arith in
+            rw (choice k lk) (numbered t m (A .within) k lk);
+        criticals-long = d .criticals-long;
       }
 
   least-here : (k : ℕ) → k < length (t .amounts) → getD least k 0 ≡ (screened t) .cut * (screened t) .amount k
   unfolding screened screen market marketBy
   least-here k l = element _ _ (A .least-are) k l ∙ ap (λ x. x * getD (t .amounts) k 0) (A .is-cut)
 
-  critical-at : (j : ℕ) → j < length (t .asks) → getD criticals (suc j) 0 ≡ (decision t) .critical j
-  unfolding decision truthful criticalBy
-  critical-at j l =
-      element _ _ (a .criticals-are) (suc j) (omega (arith, A .within .shape .stations-most))
-      ∙ only-yes _ _ (is-lt _ _ l)
+  within : (k j : ℕ) → k < length (t .amounts) → D .assigned k ≡ suc j → j < length (t .asks)
+  unfolding screened screen market marketBy
+  within k j l e = m .candidates k j l e .0
 
   charged-by :
-      (k s : ℕ) → k < length (t .amounts) → (decision t) .assigned k ≡ s
-      → only (0 <? s) (max (getD least k 0) (getD criticals s 0)) ≡ at (charge (screened t) (decision t) k) s
+      (k s : ℕ) → k < length (t .amounts) → D .assigned k ≡ s
+      → only (0 <? s) (max (getD least k 0) (getD criticals s 0)) ≡ at (charge (screened t) D k) s
   unfolding at charge
   charged-by k zero l e = only-no _ _ (not-lt 0 0 (le-refl 0))
   charged-by k (suc j) l e =
-      only-yes _ _ (is-lt 0 (suc j) (omega arith)) ∙ ap₂ max (least-here k l) (critical-at j (within t k j e))
+      only-yes _ _ (is-lt 0 (suc j) (omega arith)) ∙ ap₂ max (least-here k l) (d .criticals-are j (within k j l e))
 
   charged-here :
-      (k : ℕ) → k < length (t .amounts) → chargedAt chosen least criticals k ≡ charged (screened t) (decision t) k
+      (k : ℕ) → k < length (t .amounts) → chargedAt chosen least criticals k ≡ charged (screened t) D k
   unfolding chargedAt charged
   charged-here k l = rw (choice k l) (charged-by k _ l refl)
 
   pub assigned :
-      {stations charges : List ℕ} → Charged chosen least criticals stations charges → Assigned t stations charges
-  unfolding outcome outcomeBy screened screen market marketBy
+      {stations charges : List ℕ} → Charged chosen least criticals stations charges → Assigned o stations charges
+  unfolding outcomeBy screened screen market marketBy
   assigned h = record {
-    stations-are = h .stations-are ∙ relist _ _ _ _ (a .chosen-are) refl (λ k _. last-choice t k);
-    charges-are = relist _ _ _ _ (h .charges-are) (long _ _ (a .chosen-are)) charged-here;
+    stations-are = h .stations-are ∙ d .chosen-are ∙ sym (ap (λ o. o .results .stations) (m .outcome-is));
+    charges-are = relist _ _ _ _ (h .charges-are) (long _ _ (d .chosen-are)) charged-here
+        ∙ sym (ap (λ o. o .results .charges) (m .outcome-is));
   }

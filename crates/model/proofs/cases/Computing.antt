@@ -5,9 +5,13 @@ use Rattle.model.specs.Numbers.{answerOfClearing}
 use Rattle.model.specs.Verdicts.{firstFault, giving, updated}
 use Rattle.model.specs.market.Market.{bidAt, marketBy, median, market, cut, opens, screen, queue}
 use Rattle.model.specs.market.Market.{before, rank, provisional, critical}
-use Rattle.model.specs.market.Mechanism.{at, charge, charged, obtained, sold, paid, margin, better, best, surplus}
-use Rattle.model.specs.market.Mechanism.{truthful}
-use Rattle.model.specs.market.Outcome.{outcomeBy, screened, decision, outcome}
+use Rattle.model.specs.market.Mechanism.{at, charge, charged, obtained, served, sold, paid, margin, better, best}
+use Rattle.model.specs.market.Mechanism.{surplus, truthful}
+use Rattle.model.specs.market.Stable.{sooner}
+use Rattle.model.specs.market.Efficient.{insert, insertWhere, insertGuest, candidaciesBelow, candidacies, put}
+use Rattle.model.specs.market.Efficient.{bayLeft, assign, firstOf, turnAway, takeOne, takeAll, nobody, efficient}
+use Rattle.model.specs.market.Outcome.{outcomeBy, screened, decision, outcome, efficientDecision}
+use Rattle.model.specs.market.Outcome.{efficientOutcome}
 use Rattle.model.specs.market.Faults.{outside, repeats, counts, lengths, values, listLengths, marketFaults}
 use Rattle.model.specs.market.Faults.{verdict, clearingFaults}
 use Rattle.model.specs.market.Gains.{guestGain, stationGain}
@@ -40,6 +44,11 @@ unfolding counting-computes bidAt marketBy median market cut opens screen queue 
     outcome guestGain stationGain outside repeats counts lengths values listLengths marketFaults verdict clearingFaults
     answerOfClearing
 clearing-computes = tt
+
+unfoldable pub efficient-computes : Unit {0}
+unfolding clearing-computes sooner insert insertWhere insertGuest candidaciesBelow candidacies served put bayLeft assign
+    firstOf turnAway takeOne takeAll nobody efficient efficientDecision efficientOutcome
+efficient-computes = tt
 
 unfoldable pub posting-computes : Unit {0}
 unfolding clearing-computes raised entered overLimit bookSize outOfTurn postingFaults emptyPlain answer after answers

@@ -4,17 +4,19 @@ use mathlib.Core.Path.{_≡_, refl}
 use native.Mathlib.Omega.{arith}
 use lib.IntN.{pos, negsuc}
 use lib.ListN.{getD}
+use lib.Signed.{_≤ℤ_}
 use Rattle.model.specs.Counting.{sum}
 use Rattle.model.specs.market.Market.{bidAt, median, market}
 use Rattle.model.specs.market.Mechanism.{charged, paid, margin}
-use Rattle.model.specs.market.Outcome.{screened, decision}
+use Rattle.model.specs.market.Outcome.{screened, decision, efficientDecision}
 use Rattle.model.specs.market.Faults.{Accepted}
 use Rattle.model.specs.market.Gains.{guestGain, stationGain}
 use Rattle.model.specs.claims.Truth.{AlikeButForGuest, AlikeButForStation}
-use Rattle.model.specs.cases.Cases.{pair, caseE, caseG}
+use Rattle.model.specs.claims.Efficient.{EfficientNotGuestTruthful}
+use Rattle.model.specs.cases.Cases.{pair, caseE, caseG, two}
 use Rattle.model.specs.cases.Instances.{overbid, GuestInstance, costly, underasked, StationInstance, MenuInstance}
-use Rattle.model.specs.cases.Instances.{LimitsInstance}
-use Rattle.model.proofs.cases.Computing.{clearing-computes}
+use Rattle.model.specs.cases.Instances.{LimitsInstance, contested, withheld, EfficientGuestInstance}
+use Rattle.model.proofs.cases.Computing.{clearing-computes, efficient-computes}
 use Rattle.model.proofs.market.Pivots.{without, left-out, pivot, past, bar}
 use Rattle.model.proofs.market.Menus.{menu}
 use Rattle.model.proofs.claims.Truth.{guest-truthful, station-truthful, menu-of, clearing-limits}
@@ -126,3 +128,35 @@ limits-instance = record {
   payments-are = numbers .payments-are;
   margin-is = numbers .margin-is;
 }
+
+withheld-alike : AlikeButForGuest contested withheld 0
+unfolding contested withheld two bidAt
+withheld-alike =
+    record { same-asks = refl; same-bays = refl; same-amounts = refl; same-tickets = refl; same-bids = row }
+  where
+    row : (k j : ℕ) → k < 2 → j < 4 → (k ≡ 0 → ⊥) → bidAt withheld k j ≡ bidAt contested k j
+    row zero j lk lj n = absurd (n refl)
+    row (suc (suc k)) j lk lj n = absurd (omega arith)
+    row (suc zero) zero lk lj n = refl
+    row (suc zero) (suc zero) lk lj n = refl
+    row (suc zero) (suc (suc zero)) lk lj n = refl
+    row (suc zero) (suc (suc (suc zero))) lk lj n = refl
+    row (suc zero) (suc (suc (suc (suc j)))) lk lj n = absurd (omega arith)
+
+pub efficient-guest-instance : EfficientGuestInstance
+unfolding efficient-computes contested withheld two
+efficient-guest-instance = record {
+  accepted = refl;
+  accepted′ = refl;
+  alike = withheld-alike;
+  truth-gains = refl;
+  withheld-gains = refl;
+}
+
+pub efficient-not-guest-truthful : EfficientNotGuestTruthful
+unfolding screened efficientDecision market contested two
+efficient-not-guest-truthful truth =
+    let I = efficient-guest-instance in
+    let no-more : pos 1 ≤ℤ pos 0 = rw (I .truth-gains, I .withheld-gains)
+    at (truth contested withheld 0 (I .accepted) (I .accepted′) (omega arith) (I .alike)) in
+    no-more .le

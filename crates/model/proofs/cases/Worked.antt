@@ -1,5 +1,5 @@
 -- The statements over calls at work, on case G of document 01: guest 2 overbids, then station 1
--- asks more than its cost.
+-- asks more than its cost; the latter by the efficient mechanism too.
 use Prim.Native.Nat.{ℕ, zero, suc, _<_}
 use mathlib.Core.List.{[], _∷_}
 use mathlib.Core.Path.{_≡_, refl}
@@ -9,15 +9,17 @@ use lib.IntN.{pos, negsuc}
 use lib.Signed.{_≤ℤ_}
 use Rattle.model.specs.market.Market.{Tables, tables, bidAt}
 use Rattle.model.specs.market.Mechanism.{at}
-use Rattle.model.specs.market.Outcome.{Results, results}
+use Rattle.model.specs.market.Outcome.{Results, Outcome, results}
 use Rattle.model.specs.claims.Truth.{AlikeButForGuest, AlikeButForStation}
-use Rattle.model.specs.contracts.Clears.{Clears}
+use Rattle.model.specs.contracts.Clears.{ClearsBy}
 use Rattle.model.specs.Numbers.{answerOfClearing}
 use Rattle.model.specs.declared.answers.Clearing.{Clearing}
-use Rattle.model.specs.claims.Calls.{ClearedCall, guestGainIn, stationGainIn, CallWithin}
+use Rattle.model.specs.claims.Calls.{ClearedCallBy, ClearedCall, EfficientCall, guestGainIn, stationGainIn}
+use Rattle.model.specs.claims.Calls.{CallWithin}
 use Rattle.model.specs.declared.answers.Clearing.the-variants.{Cleared}
-use Rattle.model.proofs.cases.Computing.{clearing-computes}
+use Rattle.model.proofs.cases.Computing.{clearing-computes, efficient-computes}
 use Rattle.model.proofs.claims.Calls.{guest-truthful-calls, station-truthful-calls, call-limits}
+use Rattle.model.proofs.claims.Calls.{efficient-station-truthful-calls, efficient-call-limits}
 
 abbrev lists : Results
 lists = results (9 ∷ 9 ∷ []) (9 ∷ 9 ∷ []) (9 ∷ 9 ∷ []) (9 ∷ 9 ∷ [])
@@ -39,7 +41,8 @@ cleared cut margin = Cleared (record { 0 = cut }) (record { 0 = margin })
 
 -- the three calls, by computation
 abbrev pub called :
-    (t : Tables) (cut margin : ℕ) (exit : Results) → Clears t lists (cleared cut margin) exit → ClearedCall t
+    {made : Tables → Outcome} (t : Tables) (cut margin : ℕ) (exit : Results)
+    → ClearsBy made t lists (cleared cut margin) exit → ClearedCallBy made t
 unfolding answerOfClearing
 called t cut margin exit c =
     record {
@@ -104,3 +107,23 @@ station-worked = station-truthful-calls honest overask (calls .0) (calls .2) 0 (
 pub limits-worked : CallWithin honest 2 (results (1 ∷ 0 ∷ []) (20 ∷ 0 ∷ []) (3 ∷ 0 ∷ []) (18 ∷ 0 ∷ []))
 unfolding calls
 limits-worked = call-limits honest (calls .0)
+
+-- the same of calls of `clear_efficient`
+pub efficient-calls : EfficientCall honest × EfficientCall overask
+unfolding efficient-computes
+efficient-calls = (
+  called honest 6 2 (results (1 ∷ 0 ∷ []) (20 ∷ 0 ∷ []) (3 ∷ 0 ∷ []) (18 ∷ 0 ∷ []))
+      (record { answered = refl; left = refl }),
+  called overask 7 0 (results (0 ∷ 0 ∷ []) (0 ∷ 0 ∷ []) (0 ∷ 0 ∷ []) (0 ∷ 0 ∷ []))
+      (record { answered = refl; left = refl }),
+)
+
+pub efficient-station-worked : pos 0 ≤ℤ pos 12
+unfolding efficient-calls stationGainIn
+efficient-station-worked =
+    efficient-station-truthful-calls honest overask (efficient-calls .0) (efficient-calls .1) 0 (omega arith)
+    alike-station
+
+pub efficient-limits-worked : CallWithin honest 2 (results (1 ∷ 0 ∷ []) (20 ∷ 0 ∷ []) (3 ∷ 0 ∷ []) (18 ∷ 0 ∷ []))
+unfolding efficient-calls
+efficient-limits-worked = efficient-call-limits honest (efficient-calls .0)

@@ -10,17 +10,18 @@ use lib.ListN.{getD, length, List·getD-eq-default}
 use lib.Signed.{leZ}
 use borrow.Author.Tests.{ltb-true, ltb-false}
 use Rattle.model.specs.Counting.{sum}
-use Rattle.model.specs.market.Market.{Tables, bidAt, Market, marketBy, median, market, screen}
-use Rattle.model.specs.market.Mechanism.{at, charged, obtained, sold, paid, margin, truthful}
+use Rattle.model.specs.market.Market.{Tables, bidAt, Market, marketBy, median, market, Screened, screen}
+use Rattle.model.specs.market.Mechanism.{Decision, at, charged, obtained, sold, paid, margin, truthful}
 use Rattle.model.specs.market.Outcome.{screened, decision}
 use Rattle.model.specs.market.Faults.{Accepted}
 use Rattle.model.specs.market.Gains.{guestGain, stationGain}
 use Rattle.model.specs.claims.Truth.{AlikeButForGuest, AlikeButForStation, GuestTruthful, StationTruthful}
-use Rattle.model.specs.claims.Truth.{SignedIffUnsigned, choice, MenuOf, GuestMenu, ClearingLimits}
+use Rattle.model.specs.claims.Truth.{StationTruthfulBy, SignedIffUnsigned, choice, MenuOf, GuestMenu}
+use Rattle.model.specs.claims.Truth.{ClearsWithin, ClearingLimits}
 use Rattle.model.proofs.Tests.{lt-or-le}
 use Rattle.model.proofs.market.Acceptance.{accepted-iff-within-limits}
-use Rattle.model.proofs.market.Decisions.{charged-within-bid, payment-covers-ask, balance}
-use Rattle.model.proofs.market.Truthful.{tickets-single, truthful-candidates, truthful-fair}
+use Rattle.model.proofs.market.Decisions.{Candidates, Fair, charged-within-bid, payment-covers-ask, balance}
+use Rattle.model.proofs.market.Truthful.{tickets-single, accepted-keys, truthful-candidates, truthful-fair}
 use Rattle.model.proofs.market.Menus.{choice-truth, menu, menu-below, menu-near, rebid, menu-assigned}
 use Rattle.model.proofs.market.Menus.{menu-charged}
 use Rattle.model.proofs.market.Stations.{reask, station-truth}
@@ -167,45 +168,60 @@ module _ (t t′ : Tables) (j : ℕ) (A : AlikeButForStation t t′ j) where
       ∙ sym (List·getD-eq-default (t .asks) 0 l))
       (lt-or-le k (length (t .asks)))
 
-module _ (rule : ℕ → ℕ) (t : Tables) (j : ℕ) where
+module _ (mechanism : Screened → Decision) (C : (S : Screened) → Candidates S (mechanism S)) (rule : ℕ → ℕ) where
   -- in N station j gains no more, with its ask in t as its cost
-  abbrev NoMore : Market → Type 0
-  NoMore N = let S = screen (marketBy rule t) in let S′ = screen N in
-      paid S′ (truthful S′) j + getD (t .asks) j 0 * sold S (truthful S) j
-      ≤ paid S (truthful S) j + getD (t .asks) j 0 * sold S′ (truthful S′) j
+  abbrev NoMore : Tables → ℕ → Market → Type 0
+  NoMore t j N = let S = screen (marketBy rule t) in let S′ = screen N in
+      paid S′ (mechanism S′) j + getD (t .asks) j 0 * sold S (mechanism S) j
+      ≤ paid S (mechanism S) j + getD (t .asks) j 0 * sold S′ (mechanism S′) j
 
   reask-no-more :
-      (a : ℕ → ℕ) → ((k : ℕ) → (k ≡ j → ⊥) → a k ≡ getD (t .asks) k 0) → NoMore (reask (marketBy rule t) a)
+      (t : Tables) (j : ℕ) (a : ℕ → ℕ) → ((k : ℕ) → (k ≡ j → ⊥) → a k ≡ getD (t .asks) k 0)
+      → NoMore t j (reask (marketBy rule t) a)
   unfolding marketBy
-  reask-no-more a alike =
-      station-truth truthful truthful-candidates (marketBy rule t) j a (λ k n. sym (alike k n))
+  reask-no-more t j a alike = station-truth mechanism C (marketBy rule t) j a (λ k n. sym (alike k n))
+
+  -- truth pays best for stations, under any mechanism that assigns only candidates
+  pub station-truthful-by : StationTruthfulBy mechanism rule
+  unfolding stationGain
+  station-truthful-by t t′ j a a′ lj A = signed-iff-unsigned _ _ _ _ .1
+      (subst (NoMore t j) (reask-market t t′ j A rule)
+      (reask-no-more t j (λ k. getD (t′ .asks) k 0) (asks-same t t′ j A)))
 
 pub station-truthful : StationTruthful
-unfolding stationGain
-station-truthful rule t t′ j a a′ lj A = signed-iff-unsigned _ _ _ _ .1
-    (subst (NoMore rule t j) (reask-market t t′ j A rule)
-    (reask-no-more rule t j (λ k. getD (t′ .asks) k 0) (asks-same t t′ j A)))
+station-truthful = station-truthful-by truthful truthful-candidates
 
 -- ---- the limits of every clearing
 
--- accepted or not, the charges are the payments and the margin
+-- the charges are the payments and the margin
+pub balanced-by :
+    (t : Tables) (D : Decision) → Candidates (screened t) D
+    → sum (length (t .amounts)) (charged (screened t) D)
+    ≡ sum (length (t .asks)) (paid (screened t) D) + margin (screened t) D
+unfolding screened market marketBy screen
+balanced-by t D C = balance (screened t) D C
+
+-- a fair decision keeps within the limits
+pub clears-within : (t : Tables) (D : Decision) → Fair (screened t) D → ClearsWithin t D
+unfolding screened market marketBy screen charged sold at
+clears-within t D F = record {
+  charge-within-bid = charged-within-bid (market t) D F;
+  unassigned-free = λ i e. rw e;
+  payment-covers-ask = payment-covers-ask (market t) D (F .candidates);
+  sold-as-assigned = λ j. refl;
+  within-bays = F .fits;
+  balanced = balanced-by t D (F .candidates);
+  covered = omega (arith, balanced-by t D (F .candidates));
+}
+
+-- accepted or not
 pub balanced :
     (t : Tables)
     → sum (length (t .amounts)) (charged (screened t) (decision t))
     ≡ sum (length (t .asks)) (paid (screened t) (decision t)) + margin (screened t) (decision t)
-unfolding screened decision market marketBy screen
-balanced t = balance (screened t) (decision t) (truthful-candidates (screened t))
+unfolding decision
+balanced t = balanced-by t (decision t) (truthful-candidates (screened t))
 
 pub clearing-limits : ClearingLimits
-unfolding screened decision market marketBy screen charged sold at
-clearing-limits t a =
-    let F = truthful-fair (screen (market t)) (tickets-single t a) in
-    record {
-      charge-within-bid = charged-within-bid (market t) (decision t) F;
-      unassigned-free = λ i e. rw e;
-      payment-covers-ask = payment-covers-ask (market t) (decision t) (F .candidates);
-      sold-as-assigned = λ j. refl;
-      within-bays = F .fits;
-      balanced = balanced t;
-      covered = omega (arith, balanced t);
-    }
+unfolding decision
+clearing-limits t a = clears-within t (decision t) (truthful-fair (screened t) (accepted-keys t a))

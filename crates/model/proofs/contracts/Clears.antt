@@ -1,4 +1,4 @@
--- What a caller of `clear` that lends lists of the right lengths learns from its answer.
+-- What a caller of a clearing that lends lists of the right lengths learns from its answer.
 use Prim.Native.Nat.{ℕ, _≤_}
 use mathlib.Core.Bool.{Bool, true, false, not}
 use mathlib.Core.List.{List, _∷_}
@@ -13,12 +13,12 @@ use Rattle.model.specs.declared.refusal.Refusal.{Refusal}
 use Rattle.model.specs.declared.money.UnitPrice.{UnitPrice}
 use Rattle.model.specs.declared.money.Mills.{Mills}
 use Rattle.model.specs.market.Market.{Tables}
-use Rattle.model.specs.market.Outcome.{Results, outcome, results}
+use Rattle.model.specs.market.Outcome.{Results, Outcome, results}
 use Rattle.model.specs.market.Faults.{listLengths, marketFaults, verdict, clearingFaults}
 use Rattle.model.specs.claims.Meaning.{RightLengths}
 use Rattle.model.proofs.Tests.{neither, is-eq}
 use Rattle.model.proofs.Loops.{zeros-long}
-use Rattle.model.specs.contracts.Clears.{Clears}
+use Rattle.model.specs.contracts.Clears.{ClearsBy}
 use Rattle.model.specs.declared.answers.Clearing.{Clearing}
 use Rattle.model.specs.declared.answers.Clearing.the-variants.{Cleared, Refused}
 
@@ -52,25 +52,25 @@ same-verdict t r l = without-third _ _ _ _ _
     same x y e = ap not (is-eq x y e)
 
 -- a market that was cleared
-pub record ClearedAs (t : Tables) (k m : ℕ) (exit : Results) : Type 0 where
+pub record ClearedAs (made : Tables → Outcome) (t : Tables) (k m : ℕ) (exit : Results) : Type 0 where
   pub is-accepted : verdict t ≡ accepted tt
-  pub cut-is : k ≡ (outcome t) .cut
-  pub margin-is : m ≡ (outcome t) .margin
-  pub results-are : exit ≡ (outcome t) .results
+  pub cut-is : k ≡ (made t) .cut
+  pub margin-is : m ≡ (made t) .margin
+  pub results-are : exit ≡ (made t) .results
 
-module _ (t : Tables) (entry exit : Results) (answer : Clearing) (c : Clears t entry answer exit)
-    (l : RightLengths t entry) where
-  said : answerOfClearing answer ≡ giving (verdict t) ((outcome t) .cut, (outcome t) .margin)
+module _ {made : Tables → Outcome} (t : Tables) (entry exit : Results) (answer : Clearing)
+    (c : ClearsBy made t entry answer exit) (l : RightLengths t entry) where
+  said : answerOfClearing answer ≡ giving (verdict t) ((made t) .cut, (made t) .margin)
   said = rw (← same-verdict t entry l) (c .answered)
 
-  left : exit ≡ updated (verdict t) ((outcome t) .results) entry
+  left : exit ≡ updated (verdict t) ((made t) .results) entry
   left = rw (← same-verdict t entry l) (c .left)
 
   pub clear-refused : (x : Refusal) → answer ≡ Refused x → verdict t ≡ refused (number x)
   unfolding answerOfClearing
   clear-refused x q = gave-refused _ _ _ (sym said ∙ ap answerOfClearing q)
 
-  pub clear-cleared : (k : UnitPrice) (m : Mills) → answer ≡ Cleared k m → ClearedAs t (k .0) (m .0) exit
+  pub clear-cleared : (k : UnitPrice) (m : Mills) → answer ≡ Cleared k m → ClearedAs made t (k .0) (m .0) exit
   unfolding answerOfClearing
   clear-cleared k m q =
       let (v, e) = gave-accepted (verdict t) _ (k .0, m .0) (sym said ∙ ap answerOfClearing q) in

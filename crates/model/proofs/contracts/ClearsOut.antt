@@ -1,4 +1,4 @@
--- The exported clearing's promise from that of `clear`.
+-- An exported clearing's promise from that of what it calls.
 use Prim.Native.Nat.{ℕ}
 use mathlib.Core.Path.{_≡_, sym, ap, _∙_}
 use Rattle.model.specs.Numbers.{number, answerOfClearing}
@@ -8,16 +8,17 @@ use Rattle.model.specs.declared.money.Mills.{Mills}
 use Rattle.model.proofs.Verdicts.{gave-accepted, gave-refused, number-accepted, number-refused, updated-accepted}
 use Rattle.model.proofs.Verdicts.{updated-refused}
 use Rattle.model.specs.market.Market.{Tables}
-use Rattle.model.specs.market.Outcome.{Results}
-use Rattle.model.specs.contracts.Clears.{Clears}
+use Rattle.model.specs.market.Outcome.{Results, Outcome}
+use Rattle.model.specs.contracts.Clears.{ClearsBy}
 use Rattle.model.specs.declared.answers.Clearing.{Clearing}
 use Rattle.model.specs.declared.answers.Clearing.the-variants as clearing
-use Rattle.model.specs.contracts.ClearsOut.{ClearsOut}
+use Rattle.model.specs.contracts.ClearsOut.{ClearsOutBy}
 
-module _ (t : Tables) (entry exit : Results) (answer : Clearing) (c : Clears t entry answer exit) (cut margin : ℕ) where
+module _ {made : Tables → Outcome} (t : Tables) (entry exit : Results) (answer : Clearing)
+    (c : ClearsBy made t entry answer exit) (cut margin : ℕ) where
   pub clears-refused :
       (x : Refusal) (r : ℕ) → answer ≡ clearing.Refused x → r ≡ number x
-      → ClearsOut t entry cut margin r exit cut margin
+      → ClearsOutBy made t entry cut margin r exit cut margin
   unfolding answerOfClearing
   clears-refused x r q p =
       let v = gave-refused _ _ (number x) (sym (c .answered) ∙ ap answerOfClearing q) in
@@ -29,7 +30,8 @@ module _ (t : Tables) (entry exit : Results) (answer : Clearing) (c : Clears t e
       }
 
   pub clears-market :
-      (a : UnitPrice) (b : Mills) → answer ≡ clearing.Cleared a b → ClearsOut t entry cut margin 0 exit (a .0) (b .0)
+      (a : UnitPrice) (b : Mills) → answer ≡ clearing.Cleared a b
+      → ClearsOutBy made t entry cut margin 0 exit (a .0) (b .0)
   unfolding answerOfClearing
   clears-market a b q =
       let (v, e) = gave-accepted _ _ (a .0, b .0) (sym (c .answered) ∙ ap answerOfClearing q) in

@@ -1,15 +1,16 @@
 -- What holds of every decision that assigns only candidates, whichever mechanism made it.
-use Prim.Native.Nat.{ℕ, zero, suc, _+_, _*_, _-_, _≤_, _<_}
+use Prim.Native.Nat.{ℕ, zero, suc, _+_, _*_, _-_, _≤_, _<_, max}
 use mathlib.Core.Bool.{true, false}
 use mathlib.Core.Logic.{⊎-elim}
 use mathlib.Core.Path.{_≡_, refl, sym, ap, _∙_}
 use native.Mathlib.Nat.{mul-le-mul-right}
 use native.Mathlib.Omega.{arith}
-use Rattle.model.specs.Counting.{_=?_, only, sum}
+use Rattle.model.specs.Counting.{_=?_, only, sum, list}
 use Rattle.model.specs.market.Market.{Market, cut, opens, Screened, screen}
 use Rattle.model.specs.market.Mechanism.{Decision, at, charge, charged, served, sold, paid, margin}
+use Rattle.model.specs.market.Outcome.{outcomeBy}
 use Rattle.model.proofs.Tests.{decide, clash, first, second, lt-yes, le-yes, is-eq, not-eq, only-yes, only-no}
-use Rattle.model.proofs.Counting.{sum-zero, sum-cong, sum-add, sum-scale, sum-single, sum-swap}
+use Rattle.model.proofs.Counting.{sum-zero, sum-cong, sum-add, sum-scale, sum-single, sum-swap, list-cong}
 
 -- only candidates are assigned
 abbrev pub Candidates : Screened → Decision → Type 0
@@ -93,3 +94,42 @@ unfolding charged at charge screen
 charged-within-bid M D F i j li e =
     rw e
     (omega (arith, mul-le-mul-right (M .amount i) (candidate-bid M i j (F .candidates i j li e .1)), F .under i j li e))
+
+-- two decisions that assign alike, with the same critical totals where they assign, come to the same
+module _ (S : Screened) (D E : Decision) (same : (i : ℕ) → i < S .guestCount → D .assigned i ≡ E .assigned i)
+    (level : (i j : ℕ) → i < S .guestCount → D .assigned i ≡ suc j → D .critical j ≡ E .critical j) where
+  same-at : (f g : ℕ → ℕ) (i : ℕ) → i < S .guestCount → ((j : ℕ) → D .assigned i ≡ suc j → f j ≡ g j)
+      → at f (D .assigned i) ≡ at g (E .assigned i)
+  unfolding at
+  same-at f g i li h = rw (← same i li) (go (D .assigned i) refl)
+    where
+      go : (s : ℕ) → D .assigned i ≡ s → at f s ≡ at g s
+      go zero e = refl
+      go (suc j) e = h j e
+
+  same-charge : (i j : ℕ) → i < S .guestCount → D .assigned i ≡ suc j → charge S D i j ≡ charge S E i j
+  unfolding charge
+  same-charge i j li e = ap (max (S .cut * S .amount i)) (level i j li e)
+
+  same-sold : (j : ℕ) → sold S D j ≡ sold S E j
+  unfolding sold
+  same-sold j = sum-cong (S .guestCount) _ _ (λ i li. ap (λ s. only (s =? suc j) (S .amount i)) (same i li))
+
+  pub outcome-same : outcomeBy S D ≡ outcomeBy S E
+  unfolding outcomeBy charged paid margin
+  outcome-same =
+      let margins : margin S D ≡ margin S E = sum-cong (S .guestCount) _ _ (λ i li.
+      same-at _ _ i li (λ j e. ap (λ x. x - S .cut * S .amount i) (same-charge i j li e))) in
+      let stations : list (S .guestCount) (D .assigned) ≡ list (S .guestCount) (E .assigned) =
+      list-cong (S .guestCount) _ _ same in
+      let charges : list (S .guestCount) (charged S D) ≡ list (S .guestCount) (charged S E) =
+      list-cong (S .guestCount) _ _ (λ i li. same-at _ _ i li (λ j e. same-charge i j li e)) in
+      let sales : list (S .stationCount) (sold S D) ≡ list (S .stationCount) (sold S E) =
+      list-cong (S .stationCount) _ _ (λ j lj. same-sold j) in
+      let payments : list (S .stationCount) (paid S D) ≡ list (S .stationCount) (paid S E) =
+      list-cong (S .stationCount) _ _ (λ j lj. ap (λ x. S .cut * x) (same-sold j)) in
+      λ x. record {
+        cut = S .cut;
+        margin = margins x;
+        results = record { stations = stations x; charges = charges x; sold = sales x; paid = payments x };
+      }

@@ -35,6 +35,10 @@ tickets-single t a k i lk li e =
     let long : length (t .tickets) ≡ length (t .amounts) = w .shape .tickets-length in
     same-place (t .tickets) (w .tickets-differ) k i (omega arith) (omega arith) e
 
+pub accepted-keys : (t : Tables) → Accepted t → Keys ((screened t) .key) ((screened t) .guestCount)
+unfolding screened market marketBy screen
+accepted-keys t a = tickets-single t a
+
 pub assigned-to-best : (S : Screened) (i : ℕ) → AssignedToBest S (truthful S) i
 unfolding truthful
 assigned-to-best S i = record {

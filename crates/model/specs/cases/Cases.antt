@@ -8,7 +8,8 @@ use Rattle.model.specs.Counting.{list}
 use Rattle.model.specs.Verdicts.{Answer, Verdict, accepted, refused, firstFault, giving}
 use Rattle.model.specs.market.Market.{Tables, tables, regular}
 use Rattle.model.specs.market.Mechanism.{charge}
-use Rattle.model.specs.market.Outcome.{results, Outcome, outcomeOf, screened, decision, outcome}
+use Rattle.model.specs.market.Efficient.{Candidacy, candidacy, candidacies}
+use Rattle.model.specs.market.Outcome.{results, Outcome, outcomeOf, screened, decision, outcome, efficientOutcome}
 use Rattle.model.specs.market.Faults.{verdict, clearingFaults}
 use Rattle.model.specs.book.PlainBook.{postingFaults}
 
@@ -51,10 +52,23 @@ single ask bays amount bid = numbered (ask ∷ []) (bays ∷ []) (amount ∷ [])
 unfoldable pub lone : Tables
 lone = pair (1 ∷ []) (6 ∷ 0 ∷ [])
 
+-- two guests, two open stations of one bay each: asks 0, 0, 1, 1, amounts 1
+unfoldable pub two : (bids : List ℕ) → Tables
+two bids = numbered (0 ∷ 0 ∷ 1 ∷ 1 ∷ []) (1 ∷ 1 ∷ 1 ∷ 1 ∷ []) (1 ∷ 1 ∷ []) bids
+
+-- both bid 4 at both stations, and the second has the lower ticket
+unfoldable pub allTied : Tables
+allTied = regular (0 ∷ 0 ∷ 1 ∷ 1 ∷ []) (1 ∷ 1 ∷ 1 ∷ 1 ∷ []) (1 ∷ 1 ∷ []) (8 ∷ 3 ∷ [])
+    (4 ∷ 4 ∷ 0 ∷ 0 ∷ 4 ∷ 4 ∷ 0 ∷ 0 ∷ [])
+
 -- a case, with what is expected of it
 pub data Case : Type 0 where
   -- a market clears so
   clears : Tables → Outcome → Case
+  -- and so by the efficient mechanism
+  clearsEfficient : Tables → Outcome → Case
+  -- its candidacies stand so, guests and stations from 0
+  stands : Tables → List Candidacy → Case
   -- a guest's place at a station, both from 0, costs so much
   costs : Tables → (guest station charge : ℕ) → Case
   -- a market is accepted or refused
@@ -65,14 +79,17 @@ pub data Case : Type 0 where
   posts : Tables → (round : ℕ) (guests sold paid : List ℕ) (house last : ℕ) → Verdict → Case
 
 infix 20 _is_
--- what is found: an outcome, a number or a verdict
+-- what is found: an outcome, an order, a number or a verdict
 pub data Found : Type 0 where
   outcomes : Answer Outcome → Found
+  orders : List Candidacy → Found
   numbers : ℕ → Found
   verdicts : Verdict → Found
 
 unfoldable pub found : Case → Found
 found (clears t o) = outcomes (giving (verdict t) (outcome t))
+found (clearsEfficient t o) = outcomes (giving (verdict t) (efficientOutcome t))
+found (stands t l) = orders (candidacies (screened t))
 found (costs t i j c) = numbers (charge (screened t) (decision t) i j)
 found (t is v) = verdicts (verdict t)
 found (called t stations charges sold paid v) = verdicts (firstFault
@@ -82,16 +99,19 @@ found (posts t round guests sold paid house last v) = verdicts (firstFault
 
 unfoldable pub expected : Case → Found
 expected (clears t o) = outcomes (accepted o)
+expected (clearsEfficient t o) = outcomes (accepted o)
+expected (stands t l) = orders l
 expected (costs t i j c) = numbers c
 expected (t is v) = verdicts v
 expected (called t stations charges sold paid v) = verdicts v
 expected (posts t round guests sold paid house last v) = verdicts v
 
 -- A to J, and in A guest 1's other place; E with other tickets, and ties split by tickets that fall, rise and do
--- neither, 0 and the greatest among them; the limits, and the order of two faults; tickets that repeat, or are too few
--- or too many; each result list too short and too long, with the lengths of the market before and its values after; the
--- postings of document 01's example, then the book's size, the round after the last, and the limit of each kind of
--- account
+-- neither, 0 and the greatest among them; by the efficient mechanism Table I, a critical total of 9 for guest 1 from
+-- guest 2, whose bay is at station 2, a tie of all, E, and three guests at one bay; the limits, and the order of two
+-- faults; tickets that repeat, or are too few or many; each result list too short and too long, with the lengths of the
+-- market before and its values after; the postings of document 01's example, then the book's size, the round after the
+-- last, and the limit of each kind of account
 unfoldable pub cases : List Case
 cases =
     clears tableI (outcomeOf 3 0 (4 ∷ 0 ∷ 2 ∷ 0 ∷ 0 ∷ []) (15 ∷ 0 ∷ 18 ∷ 0 ∷ 0 ∷ []) (0 ∷ 6 ∷ 0 ∷ 5 ∷ 0 ∷ [])
@@ -116,6 +136,18 @@ cases =
     (outcomeOf 6 12 (1 ∷ 1 ∷ 0 ∷ 0 ∷ []) (24 ∷ 24 ∷ 0 ∷ 0 ∷ []) (6 ∷ 0 ∷ []) (36 ∷ 0 ∷ []))
     ∷ clears (tied (5 ∷ 9 ∷ 0 ∷ 4_294_967_295 ∷ []))
     (outcomeOf 6 12 (1 ∷ 0 ∷ 1 ∷ 0 ∷ []) (24 ∷ 0 ∷ 24 ∷ 0 ∷ []) (6 ∷ 0 ∷ []) (36 ∷ 0 ∷ []))
+    ∷ clearsEfficient tableI (outcomeOf 3 0 (4 ∷ 0 ∷ 2 ∷ 2 ∷ 4 ∷ []) (15 ∷ 0 ∷ 18 ∷ 12 ∷ 9 ∷ [])
+    (0 ∷ 10 ∷ 0 ∷ 8 ∷ 0 ∷ []) (0 ∷ 30 ∷ 0 ∷ 24 ∷ 0 ∷ []))
+    ∷ stands tableI (candidacy 2 1 ∷ candidacy 0 3 ∷ candidacy 2 3 ∷ candidacy 0 1 ∷ candidacy 3 1 ∷ candidacy 3 3
+    ∷ candidacy 4 3 ∷ [])
+    ∷ clearsEfficient (two (10 ∷ 0 ∷ 0 ∷ 0 ∷ 9 ∷ 5 ∷ 0 ∷ 0 ∷ []))
+    (outcomeOf 1 8 (1 ∷ 2 ∷ []) (9 ∷ 1 ∷ []) (1 ∷ 1 ∷ 0 ∷ 0 ∷ []) (1 ∷ 1 ∷ 0 ∷ 0 ∷ []))
+    ∷ clearsEfficient allTied
+    (outcomeOf 1 3 (2 ∷ 1 ∷ []) (1 ∷ 4 ∷ []) (1 ∷ 1 ∷ 0 ∷ 0 ∷ []) (1 ∷ 1 ∷ 0 ∷ 0 ∷ []))
+    ∷ stands allTied (candidacy 1 0 ∷ candidacy 1 1 ∷ candidacy 0 0 ∷ candidacy 0 1 ∷ [])
+    ∷ clearsEfficient caseE (outcomeOf 6 6 (1 ∷ 0 ∷ []) (24 ∷ 0 ∷ []) (3 ∷ 0 ∷ []) (18 ∷ 0 ∷ []))
+    ∷ clearsEfficient (pair (1 ∷ 1 ∷ 1 ∷ []) (7 ∷ 0 ∷ 9 ∷ 0 ∷ 8 ∷ 0 ∷ []))
+    (outcomeOf 6 2 (0 ∷ 1 ∷ 0 ∷ []) (0 ∷ 8 ∷ 0 ∷ []) (1 ∷ 0 ∷ []) (6 ∷ 0 ∷ []))
     ∷ (single 1_000_000 200 1_000 1_000_000 is accepted tt)
     ∷ (single 0 1 1 0 is accepted tt)
     ∷ (numbered (1 ∷ []) (1 ∷ []) (replicate 200 1) (replicate 200 1) is accepted tt)

@@ -1,4 +1,5 @@
--- One worked instance, with its numbers, of each statement of claims/Truth.antt.
+-- One worked instance, with its numbers, of each statement of claims/Truth.antt, and the one by which guests lose the
+-- first of them in efficient rounds.
 use mathlib.Core.List.{[], _∷_}
 use mathlib.Core.Path.{_≡_}
 use lib.IntN.{pos, negsuc}
@@ -6,11 +7,11 @@ use lib.Signed.{_≤ℤ_}
 use Rattle.model.specs.Counting.{sum}
 use Rattle.model.specs.market.Market.{Tables, bidAt}
 use Rattle.model.specs.market.Mechanism.{charged, paid, margin}
-use Rattle.model.specs.market.Outcome.{screened, decision}
+use Rattle.model.specs.market.Outcome.{screened, decision, efficientDecision}
 use Rattle.model.specs.market.Faults.{Accepted}
 use Rattle.model.specs.market.Gains.{guestGain, stationGain}
 use Rattle.model.specs.claims.Truth.{AlikeButForGuest, AlikeButForStation, Menu, MenuOf, ClearsWithin}
-use Rattle.model.specs.cases.Cases.{numbered, pair, caseE, caseG}
+use Rattle.model.specs.cases.Cases.{numbered, pair, caseE, caseG, two}
 
 -- case G, where guest 2 is worth 10 per kWh and bids 14: it takes the bay for 27, and is worth 20
 unfoldable pub overbid : Tables
@@ -51,7 +52,22 @@ pub record MenuInstance : Type 0 where
 
 -- case E: charges 24, payments 18, margin 6
 pub record LimitsInstance : Type 0 where
-  pub within : ClearsWithin caseE
+  pub within : ClearsWithin caseE (decision caseE)
   pub charges-are : sum 2 (charged (screened caseE) (decision caseE)) ≡ 24
   pub payments-are : sum 2 (paid (screened caseE) (decision caseE)) ≡ 18
   pub margin-is : margin (screened caseE) (decision caseE) ≡ 6
+
+-- by the efficient mechanism: guest 1, worth 2 at stations 1 and 2, has station 1 for 2, since guest 2 finds it full;
+-- without its bid there it has station 2 for the cut, 1
+unfoldable pub contested : Tables
+contested = two (2 ∷ 2 ∷ 0 ∷ 0 ∷ 2 ∷ 0 ∷ 0 ∷ 0 ∷ [])
+
+unfoldable pub withheld : Tables
+withheld = two (0 ∷ 2 ∷ 0 ∷ 0 ∷ 2 ∷ 0 ∷ 0 ∷ 0 ∷ [])
+
+pub record EfficientGuestInstance : Type 0 where
+  pub accepted : Accepted contested
+  pub accepted′ : Accepted withheld
+  pub alike : AlikeButForGuest contested withheld 0
+  pub truth-gains : guestGain (screened contested) (efficientDecision contested) (bidAt contested 0) 0 ≡ pos 0
+  pub withheld-gains : guestGain (screened withheld) (efficientDecision withheld) (bidAt contested 0) 0 ≡ pos 1

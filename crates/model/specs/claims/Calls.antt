@@ -1,5 +1,5 @@
--- Demand 3, first two sentences, and of demand 1 that a refusal writes nothing, over calls of `clear`: from the tables,
--- the answer and the result lists at exit alone.
+-- Demand 3, first two sentences, and of demand 1 that a refusal writes nothing, over calls of `clear`, and what of it
+-- holds of `clear_efficient`: from the tables, the answer and the result lists at exit alone.
 -- Each statement is a type; its proof is a term of proofs/.
 use Prim.Native.Nat.{ℕ, suc, _+_, _*_, _≤_, _<_}
 use mathlib.Core.Path.{_≡_}
@@ -9,28 +9,35 @@ use lib.Signed.{_≤ℤ_}
 use Rattle.model.specs.Counting.{_=?_, only, sum, count}
 use Rattle.model.specs.market.Market.{Tables, bidAt}
 use Rattle.model.specs.market.Mechanism.{at}
-use Rattle.model.specs.market.Outcome.{Results}
+use Rattle.model.specs.market.Outcome.{Results, Outcome, outcome, efficientOutcome}
 use Rattle.model.specs.claims.Truth.{AlikeButForGuest, AlikeButForStation}
-use Rattle.model.specs.contracts.Clears.{Clears}
+use Rattle.model.specs.contracts.Clears.{ClearsBy}
 use Rattle.model.specs.Numbers.{answerOfClearing}
 use Rattle.model.specs.Verdicts.{accepted, refused}
 use Rattle.model.specs.declared.answers.Clearing.{Clearing}
 
--- a refused call leaves the result lists as they were
+-- a refused call leaves the result lists as they were, by whichever mechanism it would clear
 abbrev pub RefusedLeaves : Type 0
 RefusedLeaves =
-    (t : Tables) (entry exit : Results) (answer : Clearing) (k : ℕ) → answerOfClearing answer ≡ refused k
-    → Clears t entry answer exit → exit ≡ entry
+    (made : Tables → Outcome) (t : Tables) (entry exit : Results) (answer : Clearing) (k : ℕ)
+    → answerOfClearing answer ≡ refused k → ClearsBy made t entry answer exit → exit ≡ entry
 
 -- a call that was answered as cleared, whatever its result lists held before
-pub record ClearedCall (t : Tables) : Type 0 where
+pub record ClearedCallBy (made : Tables → Outcome) (t : Tables) : Type 0 where
   pub entry : Results
   pub answer : Clearing
   pub cut : ℕ
   pub margin : ℕ
   pub exit : Results
-  pub call : Clears t entry answer exit
+  pub call : ClearsBy made t entry answer exit
   pub cleared : answerOfClearing answer ≡ accepted (cut, margin)
+
+-- a call of `clear`, and one of `clear_efficient`
+abbrev pub ClearedCall : Tables → Type 0
+ClearedCall = ClearedCallBy outcome
+
+abbrev pub EfficientCall : Tables → Type 0
+EfficientCall = ClearedCallBy efficientOutcome
 
 -- guest i's gain: by its worths w per kWh, worth at the station named times amount, less charge
 unfoldable pub guestGainIn : Tables → Results → (w : ℕ → ℕ) (i : ℕ) → ℤ
@@ -48,10 +55,17 @@ GuestTruthfulCalls =
     → guestGainIn t′ (k′ .exit) (bidAt t i) i ≤ℤ guestGainIn t (k .exit) (bidAt t i) i
 
 -- two calls alike but for station j's ask, the first with its cost: it gains no more in the second
-abbrev pub StationTruthfulCalls : Type 0
-StationTruthfulCalls =
-    (t t′ : Tables) (k : ClearedCall t) (k′ : ClearedCall t′) (j : ℕ) → j < length (t .asks) → AlikeButForStation t t′ j
+abbrev pub StationTruthfulCallsBy : (made : Tables → Outcome) → Type 0
+StationTruthfulCallsBy made =
+    (t t′ : Tables) (k : ClearedCallBy made t) (k′ : ClearedCallBy made t′) (j : ℕ) → j < length (t .asks)
+    → AlikeButForStation t t′ j
     → stationGainIn (k′ .exit) (getD (t .asks) j 0) j ≤ℤ stationGainIn (k .exit) (getD (t .asks) j 0) j
+
+abbrev pub StationTruthfulCalls : Type 0
+StationTruthfulCalls = StationTruthfulCallsBy outcome
+
+abbrev pub EfficientStationTruthfulCalls : Type 0
+EfficientStationTruthfulCalls = StationTruthfulCallsBy efficientOutcome
 
 -- the limits of one accepted call
 pub record CallWithin (t : Tables) (margin : ℕ) (r : Results) : Type 0 where
@@ -74,3 +88,6 @@ pub record CallWithin (t : Tables) (margin : ℕ) (r : Results) : Type 0 where
 
 abbrev pub CallLimits : Type 0
 CallLimits = (t : Tables) (k : ClearedCall t) → CallWithin t (k .margin) (k .exit)
+
+abbrev pub EfficientCallLimits : Type 0
+EfficientCallLimits = (t : Tables) (k : EfficientCall t) → CallWithin t (k .margin) (k .exit)

@@ -8,7 +8,7 @@ use lib.ListN.{getD, length}
 use lib.Signed.{_≤ℤ_}
 use Rattle.model.specs.Counting.{_≤?_, _=?_, _and_, only, sum}
 use Rattle.model.specs.market.Market.{Tables, bidAt, marketBy, market, opens, Screened, screen}
-use Rattle.model.specs.market.Mechanism.{at, charged, served, sold, paid, margin, best, truthful}
+use Rattle.model.specs.market.Mechanism.{Decision, at, charged, served, sold, paid, margin, best, truthful}
 use Rattle.model.specs.market.Outcome.{screened, decision}
 use Rattle.model.specs.market.Faults.{Accepted}
 use Rattle.model.specs.market.Gains.{guestGain, stationGain}
@@ -30,31 +30,31 @@ pub record AlikeButForStation (t t′ : Tables) (j : ℕ) : Type 0 where
   pub same-tickets : t′ .tickets ≡ t .tickets
   pub same-bids : t′ .bids ≡ t .bids
 
--- what the mechanism sees under another rule for the position of the cut
+-- what a mechanism sees under another rule for the position of the cut
 abbrev pub screenedBy : (rule : ℕ → ℕ) → Tables → Screened
 screenedBy rule t = screen (marketBy rule t)
 
 -- where t carries guest i's worths, i gains no more in t′
-abbrev pub GuestTruthfulBy : (rule : ℕ → ℕ) → Type 0
-GuestTruthfulBy rule =
+abbrev pub GuestTruthfulBy : (mechanism : Screened → Decision) (rule : ℕ → ℕ) → Type 0
+GuestTruthfulBy mechanism rule =
     (t t′ : Tables) (i : ℕ) → Accepted t → Accepted t′ → i < length (t .amounts) → AlikeButForGuest t t′ i
-    → guestGain (screenedBy rule t′) (truthful (screenedBy rule t′)) (bidAt t i) i ≤ℤ guestGain (screenedBy rule t)
-    (truthful (screenedBy rule t)) (bidAt t i) i
+    → guestGain (screenedBy rule t′) (mechanism (screenedBy rule t′)) (bidAt t i) i ≤ℤ guestGain (screenedBy rule t)
+    (mechanism (screenedBy rule t)) (bidAt t i) i
 
 -- where t carries station j's cost, j gains no more in t′
-abbrev pub StationTruthfulBy : (rule : ℕ → ℕ) → Type 0
-StationTruthfulBy rule =
+abbrev pub StationTruthfulBy : (mechanism : Screened → Decision) (rule : ℕ → ℕ) → Type 0
+StationTruthfulBy mechanism rule =
     (t t′ : Tables) (j : ℕ) → Accepted t → Accepted t′ → j < length (t .asks) → AlikeButForStation t t′ j
-    → stationGain (screenedBy rule t′) (truthful (screenedBy rule t′)) (getD (t .asks) j 0) j ≤ℤ
+    → stationGain (screenedBy rule t′) (mechanism (screenedBy rule t′)) (getD (t .asks) j 0) j ≤ℤ
     stationGain (screenedBy rule t)
-    (truthful (screenedBy rule t)) (getD (t .asks) j 0) j
+    (mechanism (screenedBy rule t)) (getD (t .asks) j 0) j
 
 -- at any position of the cut that depends on the number of stations alone, document 01's among them
 abbrev pub GuestTruthful : Type 0
-GuestTruthful = (rule : ℕ → ℕ) → GuestTruthfulBy rule
+GuestTruthful = (rule : ℕ → ℕ) → GuestTruthfulBy truthful rule
 
 abbrev pub StationTruthful : Type 0
-StationTruthful = (rule : ℕ → ℕ) → StationTruthfulBy rule
+StationTruthful = (rule : ℕ → ℕ) → StationTruthfulBy truthful rule
 
 -- signed gains and sums without subtraction say the same
 abbrev pub SignedIffUnsigned : Type 0
@@ -84,24 +84,20 @@ pub record MenuOf (t : Tables) (i : ℕ) (U : Menu) : Type 0 where
 abbrev pub GuestMenu : Type 0
 GuestMenu = (t : Tables) (i : ℕ) → Accepted t → i < length (t .amounts) → (U : Menu) × MenuOf t i U
 
--- the limits of every clearing
-pub record ClearsWithin (t : Tables) : Type 0 where
-  pub charge-within-bid : (i j : ℕ) → i < length (t .amounts) → (decision t) .assigned i ≡ suc j
-      → charged (screened t) (decision t) i ≤ bidAt t i j * getD (t .amounts) i 0
-  pub unassigned-free : (i : ℕ) → (decision t) .assigned i ≡ 0 → charged (screened t) (decision t) i ≡ 0
-  pub payment-covers-ask :
-      (j : ℕ) → getD (t .asks) j 0 * sold (screened t) (decision t) j ≤ paid (screened t) (decision t) j
+-- the limits of every clearing, whichever mechanism decided it
+pub record ClearsWithin (t : Tables) (D : Decision) : Type 0 where
+  pub charge-within-bid : (i j : ℕ) → i < length (t .amounts) → D .assigned i ≡ suc j
+      → charged (screened t) D i ≤ bidAt t i j * getD (t .amounts) i 0
+  pub unassigned-free : (i : ℕ) → D .assigned i ≡ 0 → charged (screened t) D i ≡ 0
+  pub payment-covers-ask : (j : ℕ) → getD (t .asks) j 0 * sold (screened t) D j ≤ paid (screened t) D j
   pub sold-as-assigned :
       (j : ℕ)
-      → sold (screened t) (decision t) j
-      ≡ sum (length (t .amounts)) (λ i. only ((decision t) .assigned i =? suc j) (getD (t .amounts) i 0))
-  pub within-bays : (j : ℕ) → served (screened t) (decision t) j ≤ getD (t .bays) j 0
+      → sold (screened t) D j ≡ sum (length (t .amounts)) (λ i. only (D .assigned i =? suc j) (getD (t .amounts) i 0))
+  pub within-bays : (j : ℕ) → served (screened t) D j ≤ getD (t .bays) j 0
   pub balanced :
-      sum (length (t .amounts)) (charged (screened t) (decision t))
-      ≡ sum (length (t .asks)) (paid (screened t) (decision t)) + margin (screened t) (decision t)
-  pub covered :
-      sum (length (t .asks)) (paid (screened t) (decision t))
-      ≤ sum (length (t .amounts)) (charged (screened t) (decision t))
+      sum (length (t .amounts)) (charged (screened t) D)
+      ≡ sum (length (t .asks)) (paid (screened t) D) + margin (screened t) D
+  pub covered : sum (length (t .asks)) (paid (screened t) D) ≤ sum (length (t .amounts)) (charged (screened t) D)
 
 abbrev pub ClearingLimits : Type 0
-ClearingLimits = (t : Tables) → Accepted t → ClearsWithin t
+ClearingLimits = (t : Tables) → Accepted t → ClearsWithin t (decision t)

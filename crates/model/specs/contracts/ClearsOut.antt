@@ -1,15 +1,25 @@
--- What the exported clearing promises: 0 or the refusal's number, and every out parameter, which a
+-- What an exported clearing promises: 0 or the refusal's number, and every out parameter, which a
 -- refusal leaves as it was.
 use Prim.Native.Nat.{ℕ}
 use mathlib.Core.Path.{_≡_}
 use Rattle.model.specs.Verdicts.{firstFault, updated, numberOf}
 use Rattle.model.specs.market.Market.{Tables}
-use Rattle.model.specs.market.Outcome.{Results, outcome}
+use Rattle.model.specs.market.Outcome.{Results, Outcome, outcome, efficientOutcome}
 use Rattle.model.specs.market.Faults.{clearingFaults}
 
-pub record ClearsOut (t : Tables) (entry : Results) (cut margin r : ℕ) (exit : Results)
+pub record ClearsOutBy (made : Tables → Outcome) (t : Tables) (entry : Results) (cut margin r : ℕ) (exit : Results)
     (cut′ margin′ : ℕ) : Type 0 where
   pub number-is : r ≡ numberOf (firstFault (clearingFaults t entry))
-  pub left : exit ≡ updated (firstFault (clearingFaults t entry)) ((outcome t) .results) entry
-  pub cut-is : cut′ ≡ updated (firstFault (clearingFaults t entry)) ((outcome t) .cut) cut
-  pub margin-is : margin′ ≡ updated (firstFault (clearingFaults t entry)) ((outcome t) .margin) margin
+  pub left : exit ≡ updated (firstFault (clearingFaults t entry)) ((made t) .results) entry
+  pub cut-is : cut′ ≡ updated (firstFault (clearingFaults t entry)) ((made t) .cut) cut
+  pub margin-is : margin′ ≡ updated (firstFault (clearingFaults t entry)) ((made t) .margin) margin
+
+-- of `bay_market_clear`
+abbrev pub ClearsOut :
+    (t : Tables) (entry : Results) (cut margin r : ℕ) (exit : Results) (cut′ margin′ : ℕ) → Type 0
+ClearsOut = ClearsOutBy outcome
+
+-- of `bay_market_clear_efficient`
+abbrev pub ClearsEfficientOut :
+    (t : Tables) (entry : Results) (cut margin r : ℕ) (exit : Results) (cut′ margin′ : ℕ) → Type 0
+ClearsEfficientOut = ClearsOutBy efficientOutcome

@@ -4,6 +4,9 @@ use mathlib.Core.List.{List}
 use Rattle.model.specs.Counting.{list}
 use Rattle.model.specs.market.Market.{Tables, market, Screened, screen}
 use Rattle.model.specs.market.Mechanism.{Decision, charged, sold, paid, margin, truthful}
+use Rattle.model.specs.market.Efficient.{efficient}
+use Rattle.model.specs.declared.mechanism.Mechanism.{Mechanism}
+use Rattle.model.specs.declared.mechanism.Mechanism.the-variants.{Truthful, Efficient}
 
 -- the result lists: each guest's station (0 for none) and charge, each station's kWh sold and payment
 pub record Results : Type 0 where
@@ -46,3 +49,15 @@ decision t = truthful (screened t)
 
 unfoldable pub outcome : Tables → Outcome
 outcome t = outcomeBy (screened t) (decision t)
+
+-- and of the efficient mechanism (document 02, request 4)
+unfoldable pub efficientDecision : Tables → Decision
+efficientDecision t = efficient (screened t)
+
+unfoldable pub efficientOutcome : Tables → Outcome
+efficientOutcome t = outcomeBy (screened t) (efficientDecision t)
+
+-- by the name of the mechanism
+unfoldable pub outcomeIn : Mechanism → Tables → Outcome
+outcomeIn Truthful = outcome
+outcomeIn Efficient = efficientOutcome

@@ -1,21 +1,23 @@
--- What is printed of a market: its clearing, or its shortest sheet where the buffer has room for it; or its refusal.
+-- What is printed of a market: its clearing, by either mechanism, or its shortest sheet where the buffer has room for
+-- it; or its refusal.
 use Prim.Native.Nat.{ℕ}
 use mathlib.Core.List.{List}
 use Rattle.model.specs.Verdicts.{Verdict, accepted, refused, firstFault}
 use Rattle.model.specs.market.Market.{Tables}
-use Rattle.model.specs.market.Outcome.{outcome}
+use Rattle.model.specs.market.Outcome.{Outcome, outcome, efficientOutcome}
 use Rattle.model.specs.market.Faults.{verdict}
 use Rattle.model.specs.sheet.Shortest.{shortest, writingFaults}
 use Rattle.model.specs.text.Text.{text, refusalText}
 use Rattle.model.specs.declared.page.Page.{Page}
-use Rattle.model.specs.declared.page.Page.the-variants.{Clearing, Sheet}
+use Rattle.model.specs.declared.page.Page.the-variants.{Clearing, Efficient, Sheet}
 
-unfoldable pub marketText : Verdict → Tables → List ℕ
-marketText (accepted _) t = text (outcome t)
-marketText (refused k) t = refusalText k
+unfoldable pub marketText : Verdict → Outcome → List ℕ
+marketText (accepted _) o = text o
+marketText (refused k) o = refusalText k
 
-unfoldable pub marketTextOf : Tables → List ℕ
-marketTextOf t = marketText (verdict t) t
+-- of a market whose outcome is `made t`
+unfoldable pub marketTextOf : (made : Tables → Outcome) → Tables → List ℕ
+marketTextOf made t = marketText (verdict t) (made t)
 
 unfoldable pub sheetPage : Verdict → Tables → List ℕ
 sheetPage (accepted _) t = shortest t
@@ -25,5 +27,6 @@ unfoldable pub sheetPageOf : (room : ℕ) → Tables → List ℕ
 sheetPageOf room t = sheetPage (firstFault (writingFaults t room)) t
 
 unfoldable pub pageOf : Page → (room : ℕ) → Tables → List ℕ
-pageOf Clearing room t = marketTextOf t
+pageOf Clearing room t = marketTextOf outcome t
+pageOf Efficient room t = marketTextOf efficientOutcome t
 pageOf Sheet room t = sheetPageOf room t

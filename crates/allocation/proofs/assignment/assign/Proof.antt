@@ -1,6 +1,7 @@
 use borrow.Author.Needs.{needs}
 use Rattle.model.specs.market.Market.{regular}
-use Rattle.allocation.proofs.assignment.Assignment.{chargeable, assigned}
+use Rattle.model.proofs.market.Outcomes.{of-truthful}
+use Rattle.allocation.proofs.assignment.Assignment.{truthfully, chargeable, assigned}
 use Rattle.allocation.proofs.assignment.assign.Statement.{statement}
 use Rattle.allocation.proofs.assignment.assign.Tie as tie
 
@@ -22,7 +23,8 @@ charge-guests-requires : tie.Need-charge-guests-requires
 charge-guests-requires c κs =
     let at-all-stations = all-stations-before-charges c in
     let entry = entry-before-all-stations (at-all-stations .before) in
-    chargeable (regular _ _ _ _ _) (entry .pre .0) (at-all-stations .all-stations .ensures .after)
+    chargeable (regular _ _ _ _ _) (entry .pre .0) (of-truthful _)
+    (truthfully _ (entry .pre .0 .within) (at-all-stations .all-stations .ensures .after))
     (entry .pre .1 .1 .1 .0) (entry .pre .1 .1 .1 .1)
 
 returns : tie.Need-returns
@@ -31,7 +33,8 @@ returns c =
     let at-all-stations = all-stations-before-charges (at-charge-guests .before) in
     let entry = entry-before-all-stations (at-all-stations .before) in (
       at-all-stations .all-stations .ensures,
-      assigned (regular _ _ _ _ _) (entry .pre .0) (at-all-stations .all-stations .ensures .after)
+      assigned (regular _ _ _ _ _) (entry .pre .0) (of-truthful _)
+          (truthfully _ (entry .pre .0 .within) (at-all-stations .all-stations .ensures .after))
           (at-charge-guests .charge-guests .ensures),
     )
 

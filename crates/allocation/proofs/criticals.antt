@@ -1,0 +1,4 @@
+pub mod Criticals
+pub mod Ranks
+pub mod Renewed
+pub mod TurnedAway

@@ -1,0 +1,4 @@
+pub mod Holding
+pub mod Moves
+pub mod Order
+pub mod Start
