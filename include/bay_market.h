@@ -15,7 +15,8 @@
  *
  * MIND THE ORDER OF ARGUMENTS. bay_market_read takes amounts, tickets, asks, bays, bids, as the sheet's reader fills
  * them; bay_market_write, bay_market_clear, bay_market_clear_efficient and bay_market_post take asks, bays, amounts,
- * tickets, bids. Amounts and bays have one type, tickets, asks and bids another, so a compiler cannot see a swap.
+ * tickets, bids, the last three after the rule's number. Amounts and bays have one type, tickets, asks and bids
+ * another, so a compiler cannot see a swap.
  * bay_market_place_bids takes prices, falls, then the guests' first and second coordinates, then the stations'.
  *
  * Prices are in mills (thousandths of the currency unit) per kWh, charges and payments in mills,
@@ -32,7 +33,7 @@
 extern "C" {
 #endif
 
-#define BAY_MARKET_VERSION "0.3.0"
+#define BAY_MARKET_VERSION "0.4.0"
 
 /* Limits. Amounts and bays are at least 1, and so is the number of stations. */
 #define BAY_MARKET_MAX_GUESTS 200
@@ -46,6 +47,14 @@ extern "C" {
 #define BAY_MARKET_MAX_ACCOUNT UINT64_C(1000000000000000)
 #define BAY_MARKET_MAX_ROUND UINT32_C(4294967295)
 #define BAY_MARKET_MAX_STACK 16384                    /* bytes of stack that a call takes at most */
+
+/*
+ * The rule of a clearing or posting: the position, from 1, of the cut among the m asks in rising order. Under rule 1 it
+ * is ceil((m + 1) / 2), under rule 2 floor(2 m / 3) + 1. Asks 1, 2, 3, 4, 5, 6 give cut 4 under rule 1 and 5 under
+ * rule 2. Two markets are compared, for what a false report would gain, only under one rule.
+ */
+#define BAY_MARKET_RULE_MEDIAN 1
+#define BAY_MARKET_RULE_TWO_THIRDS 2
 
 /* scripts/refusals writes what follows from refusals.txt */
 enum bay_market_refusal {
@@ -66,7 +75,8 @@ enum bay_market_refusal {
     BAY_MARKET_OUTPUT_TOO_SHORT = 14,           /* the output is shorter than the sheet */
     BAY_MARKET_TICKETS_REPEAT = 15,             /* two guests have the same ticket */
     BAY_MARKET_CELL_OFF_GRID = 16,              /* a cell is off the grid: a coordinate is above 31 */
-    BAY_MARKET_PRICE_OR_FALL_OUT_OF_RANGE = 17  /* a price or fall is above 1,000,000 */
+    BAY_MARKET_PRICE_OR_FALL_OUT_OF_RANGE = 17, /* a price or fall is above 1,000,000 */
+    BAY_MARKET_UNKNOWN_RULE = 18                /* the number names no rule: it is neither 1 nor 2 */
 };
 
 /* What an answer says. */
@@ -91,6 +101,7 @@ static inline const char *bay_market_refusal_text(uint8_t answer)
     case BAY_MARKET_TICKETS_REPEAT: return "two guests have the same ticket";
     case BAY_MARKET_CELL_OFF_GRID: return "a cell is off the grid: a coordinate is above 31";
     case BAY_MARKET_PRICE_OR_FALL_OUT_OF_RANGE: return "a price or fall is above 1,000,000";
+    case BAY_MARKET_UNKNOWN_RULE: return "the number names no rule: it is neither 1 nor 2";
     default: return "not an answer of the engine";
     }
 }
@@ -158,13 +169,14 @@ uint8_t bay_market_place_bids(const uint32_t *prices, size_t prices_len,
  * Clears a market in a truthful round: no guest and no station gains by a false report. n is amounts_len and m is
  * asks_len; guest i's bid at station j, both from 0, is bids[i * width + j], and 0 is no bid. Result lists: for each
  * guest its station (0 for none) and its charge (0 for none), for each station the kWh sold and its payment. *cut is
- * the cut, per kWh.
+ * the cut, per kWh, by the rule of that number.
  *
- * Refusals in this order: 2 for n or m; 5 where bays_len or width is not m, tickets_len is not n or bids_len is
- * not n times m; 10 for a result list that is not n or m long; then 6 for any ask, 7 for any bays, 8 for any amount,
- * 9 for any bid out of range; 15 where two tickets are equal.
+ * Refusals in this order: 18 where rule is neither 1 nor 2; 2 for n or m; 5 where bays_len or width is not m,
+ * tickets_len is not n or bids_len is not n times m; 10 for a result list that is not n or m long; then 6 for any ask,
+ * 7 for any bays, 8 for any amount, 9 for any bid out of range; 15 where two tickets are equal.
  */
-uint8_t bay_market_clear(const uint32_t *asks, size_t asks_len,
+uint8_t bay_market_clear(uint8_t rule,
+                         const uint32_t *asks, size_t asks_len,
                          const uint16_t *bays, size_t bays_len,
                          const uint16_t *amounts, size_t amounts_len,
                          const uint32_t *tickets, size_t tickets_len,
@@ -186,7 +198,8 @@ uint8_t bay_market_clear(const uint32_t *asks, size_t asks_len,
  *
  * Arguments, result lists and refusals are those of bay_market_clear. Only truthful rounds are posted.
  */
-uint8_t bay_market_clear_efficient(const uint32_t *asks, size_t asks_len,
+uint8_t bay_market_clear_efficient(uint8_t rule,
+                                   const uint32_t *asks, size_t asks_len,
                                    const uint16_t *bays, size_t bays_len,
                                    const uint16_t *amounts, size_t amounts_len,
                                    const uint32_t *tickets, size_t tickets_len,
@@ -199,15 +212,17 @@ uint8_t bay_market_clear_efficient(const uint32_t *asks, size_t asks_len,
                                    uint32_t *cut, uint64_t *margin);
 
 /*
- * Clears a market as bay_market_clear does, in a truthful round, and posts it to the ledger as the given round:
- * charges to the guests' accounts, sales and payments to the stations', the margin to *house, the round to *last.
- * Accounts beyond the market's guests and stations stay. An empty ledger is all zeros; round 1 is first.
+ * Clears a market as bay_market_clear does, in a truthful round by the rule of that number, and posts it to the ledger
+ * as the given round: charges to the guests' accounts, sales and payments to the stations', the margin to *house, the
+ * round to *last. Accounts beyond the market's guests and stations stay. An empty ledger is all zeros; round 1 is
+ * first.
  *
- * Refusals in this order: 2, 5, 6 to 9 and 15 as in clearing; 13 for a ledger over 200 guests or 40 stations
+ * Refusals in this order: 18, 2, 5, 6 to 9 and 15 as in clearing; 13 for a ledger over 200 guests or 40 stations
  * or smaller than the market; 11 where round is not *last + 1, and always after 4,294,967,295;
  * 12 where any account or kWh sum is above 10^15 before the posting or would be after it.
  */
-uint8_t bay_market_post(const uint32_t *asks, size_t asks_len,
+uint8_t bay_market_post(uint8_t rule,
+                        const uint32_t *asks, size_t asks_len,
                         const uint16_t *bays, size_t bays_len,
                         const uint16_t *amounts, size_t amounts_len,
                         const uint32_t *tickets, size_t tickets_len,

@@ -137,7 +137,6 @@ expect 2 '' 'clear: no such file: -x' './clear -- -x'
 expect 2 '' 'clear: a folder, not a file: examples' './clear examples'
 expect 0 'usage: ./clear*' '' './clear --write --help'
 expect 2 '' 'clear: no such option: -x*' './clear --write -x'
-expect 2 '' 'clear: only one of --quiet and --write*' './clear --quiet --write examples/case_e.sheet'
 expect 2 '' 'clear: more than one FILE*' './clear --write a b'
 expect 2 '' 'clear: more than one FILE*' './clear examples/case_e.sheet --write'
 expect 2 '' 'clear: no such file: nofile' './clear --write nofile'
@@ -152,6 +151,29 @@ expect 2 '' 'clear: more than one FILE*' './clear --quiet a b'
 expect 2 '' 'clear: more than one FILE*' './clear examples/case_e.sheet --quiet'
 expect 2 '' 'clear: no such file: nofile' './clear --quiet nofile'
 expect 2 '' 'clear: no such file: --quiet' './clear -- --quiet'
+
+# rules: asks 1 to 6, one bay each, one guest that bids 9 at station 4, which is open under rule 2 alone
+printf '\1\0\6\0' >"$work/six"
+for ask in 1 2 3 4 5 6; do
+    printf "\\$ask\\0\\0\\0\\1\\0" >>"$work/six"
+done
+printf '\1\0\1\0\0\0\10\11\0\0\0' >>"$work/six"
+for first in '' '--rule 1' --quiet '--quiet --rule 1' '--rule 1 --quiet'; do
+    expect 0 $'cut 4\nguest 1 station 0 charge 0\n*' '' "./clear $first $work/six"
+done
+for second in '--rule 2' '--quiet --rule 2' '--rule 2 --quiet'; do
+    expect 0 $'cut 5\nguest 1 station 4 charge 5\n*station 4 sold 1 paid 5\n*' '' "./clear $second $work/six"
+    expect 0 $'cut 5\nguest 1 station 4 charge 5\n*' '' "./clear $second <$work/six"
+done
+expect 0 "$(cat examples/table_i.txt)" '' './clear --rule 1 examples/table_i.sheet'
+expect 1 "$(cat examples/refused.txt)" '' './clear --rule 2 examples/refused.sheet'
+for wrong in 0 3 255 12 x "''" --quiet; do
+    expect 2 '' 'clear: no such rule: *' "./clear --rule $wrong examples/case_e.sheet"
+done
+expect 2 '' 'clear: no such rule: none*' './clear --rule'
+expect 2 '' 'clear: more than one --rule*' './clear --rule 1 --rule 2 examples/case_e.sheet'
+expect 2 '' 'clear: --write clears nothing*' './clear --write --rule 2 examples/case_e.sheet'
+expect 2 '' 'clear: --write clears nothing*' './clear --rule 2 --write examples/case_e.sheet'
 
 # input and output that fail
 expect 3 '' 'clear: cannot read standard input' './clear </'
@@ -179,7 +201,9 @@ program=$(scripts/current)/clear
 expect 3 '' 'clear: cannot write standard output' "$program <examples/case_e.sheet >/dev/full; exit 3"
 expect 3 '' 'clear: cannot write standard output' "$program --write <examples/case_e.sheet >/dev/full; exit 3"
 expect 3 '' 'clear: cannot write standard output' "$program --quiet <examples/case_e.sheet >/dev/full; exit 3"
-for arguments in -- --writ --write1 --writes.. --quie --quiet1 --quiets.. "''" - '--quiet --write' '--write --quiet'; do
+for arguments in -- --writ --write1 --writes.. --quie --quiet1 --quiets.. "''" - '--quiet --write' '--write --quiet' --rule \
+    '--rule 0' '--rule 3' '--rule 12' '--rule x' '--rules 2' '--rule 2 --quiet' '--quiet --rule' '--quiet --rule 3' \
+    '--write --rule 2' '--rule 2 --write' '--quiet --rule 2 x'; do
     expect 3 '' 'clear: no such argument' "$program $arguments <examples/case_e.sheet; exit 3"
 done
 if [ "$(id -u)" != 0 ]; then

@@ -123,6 +123,15 @@ done
 for way in c slices; do
     finds 'write repeat-late' 'answered 14, expected 15' write $way
 done
+# faults of the rule; the types know no other rule than two
+for function in clear clear_efficient post; do
+    for way in c slices owned; do
+        finds "$function first" 'differ|answered 0, expected 18' $function $way
+        finds "$function second" 'differ' $function $way
+    done
+    finds "$function any" 'answered [0-9]+, expected 18' $function c
+    finds "$function counts" 'answered 2, expected 18' $function c
+done
 # faults of efficient clearing
 for way in c slices owned; do
     for fault in truthful rising far later skipped last unseated full no-floor untouched; do
@@ -162,7 +171,7 @@ finds 'clear_efficient sold first accepted' 'sold other kWh' truth_efficient
 
 export BAY_MARKET_PROGRAM=$PWD/tests/wrong_program BAY_MARKET_REAL=$real/clear
 BAY_MARKET_FAULT='' "$compare" $seed print >/dev/null
-for fault in text refusal repeat stderr line status quiet truthful sheet byte refused-sheet repeat-sheet; do
+for fault in text refusal repeat stderr line status quiet truthful rule sheet byte refused-sheet repeat-sheet; do
     finds $fault 'differs' print
 done
 status=0

@@ -22,6 +22,10 @@
  *   FUNCTION equal               equal tickets are accepted; of a market, as the next two
  *   FUNCTION repeat-early        15 goes before 9
  *   FUNCTION repeat-late         15 comes after 13 or 14, the next refusal of a posting or a writing
+ *   FUNCTION first               what clears or posts does so by rule 1, whatever number it is given
+ *   FUNCTION any                 a number of no rule is taken as rule 1
+ *   FUNCTION second              rule 1 is taken as rule 2
+ *   FUNCTION counts              2 for the stations' count goes before 18
  *   read place                   a ticket is read from the row's first bytes, where the amount stands
  *   read untouched               the tickets stay as they were
  *   read second                  every second market that is read has another first ask
@@ -55,10 +59,10 @@ uint8_t REAL(bay_market_read)(const uint8_t *, size_t, uint16_t *, size_t, uint3
 uint8_t REAL(bay_market_write)(MARKET_TYPES, uint8_t *, size_t, size_t *);
 #define RESULT_TYPES uint16_t *, size_t, uint32_t *, size_t, uint32_t *, size_t, uint64_t *, size_t, uint32_t *, \
     uint64_t *
-uint8_t REAL(bay_market_clear)(MARKET_TYPES, RESULT_TYPES);
-uint8_t REAL(bay_market_clear_efficient)(MARKET_TYPES, RESULT_TYPES);
-uint8_t REAL(bay_market_post)(MARKET_TYPES, uint32_t, uint64_t *, size_t, struct bay_market_station_account *, size_t,
-                              uint64_t *, uint32_t *);
+uint8_t REAL(bay_market_clear)(uint8_t, MARKET_TYPES, RESULT_TYPES);
+uint8_t REAL(bay_market_clear_efficient)(uint8_t, MARKET_TYPES, RESULT_TYPES);
+uint8_t REAL(bay_market_post)(uint8_t, MARKET_TYPES, uint32_t, uint64_t *, size_t,
+                              struct bay_market_station_account *, size_t, uint64_t *, uint32_t *);
 uint8_t REAL(bay_market_place_bids)(const uint32_t *, size_t, const uint32_t *, size_t, const uint16_t *, size_t,
                                     const uint16_t *, size_t, const uint16_t *, size_t, const uint16_t *, size_t,
                                     uint32_t *, size_t);
@@ -312,12 +316,32 @@ static void own_price(const char *whose, const uint32_t *asks, size_t asks_len, 
     }
 }
 
-uint8_t bay_market_clear(MARKET_PARAMETERS, RESULT_PARAMETERS)
+/* The rule that a call is given, or with a fault the one that it would then clear by. */
+static uint8_t other_rule(const char *function, uint8_t rule, size_t asks_len)
+{
+    char words[4][16];
+
+    if (!fault(function, words)) {
+        return rule;
+    }
+    if (strcmp(words[1], "first") == 0 || (strcmp(words[1], "any") == 0 && rule != BAY_MARKET_RULE_TWO_THIRDS)) {
+        return BAY_MARKET_RULE_MEDIAN;
+    }
+    if (strcmp(words[1], "second") == 0 && rule == BAY_MARKET_RULE_MEDIAN) {
+        return BAY_MARKET_RULE_TWO_THIRDS;
+    }
+    if (strcmp(words[1], "counts") == 0 && (asks_len == 0 || asks_len > BAY_MARKET_MAX_STATIONS)) {
+        return BAY_MARKET_RULE_MEDIAN;
+    }
+    return rule;
+}
+
+uint8_t bay_market_clear(uint8_t rule, MARKET_PARAMETERS, RESULT_PARAMETERS)
 {
     const struct part parts[] = {MARKET_LISTS, RESULT_LISTS};
     const uint32_t *seen = others("clear", tickets, tickets_len);
     char words[4][16];
-    uint8_t answer = REAL(bay_market_clear)(MARKET(seen), RESULTS);
+    uint8_t answer = REAL(bay_market_clear)(other_rule("clear", rule, asks_len), MARKET(seen), RESULTS);
 
     answer = out_of_place("clear", answer, tickets, tickets_len, 0);
     if (answer == 0 && fault("clear", words)) {
@@ -451,18 +475,18 @@ static int is_own(const char *wrong)
 }
 
 /* An accepted call whose result lists stay as they were. */
-static uint8_t untouched(MARKET_PARAMETERS, RESULT_PARAMETERS)
+static uint8_t untouched(uint8_t rule, MARKET_PARAMETERS, RESULT_PARAMETERS)
 {
     uint16_t seats[BAY_MARKET_MAX_GUESTS];
     uint32_t charged[BAY_MARKET_MAX_GUESTS], kwh[BAY_MARKET_MAX_STATIONS];
     uint64_t earned[BAY_MARKET_MAX_STATIONS];
 
     (void)stations, (void)charges, (void)sold, (void)paid;
-    return REAL(bay_market_clear_efficient)(MARKET(tickets), seats, stations_len, charged, charges_len, kwh, sold_len,
-                                            earned, paid_len, cut, margin);
+    return REAL(bay_market_clear_efficient)(rule, MARKET(tickets), seats, stations_len, charged, charges_len, kwh,
+                                            sold_len, earned, paid_len, cut, margin);
 }
 
-uint8_t bay_market_clear_efficient(MARKET_PARAMETERS, RESULT_PARAMETERS)
+uint8_t bay_market_clear_efficient(uint8_t rule, MARKET_PARAMETERS, RESULT_PARAMETERS)
 {
     const struct part parts[] = {MARKET_LISTS, RESULT_LISTS};
     const uint32_t *seen = others("clear_efficient", tickets, tickets_len);
@@ -473,10 +497,11 @@ uint8_t bay_market_clear_efficient(MARKET_PARAMETERS, RESULT_PARAMETERS)
         words[1][0] = '\0';
     }
     if (strcmp(words[1], "untouched") == 0) {
-        return untouched(MARKET(tickets), RESULTS);
+        return untouched(rule, MARKET(tickets), RESULTS);
     }
-    answer = strcmp(words[1], "truthful") == 0 ? REAL(bay_market_clear)(MARKET(seen), RESULTS)
-             : REAL(bay_market_clear_efficient)(MARKET(seen), RESULTS);
+    rule = other_rule("clear_efficient", rule, asks_len);
+    answer = strcmp(words[1], "truthful") == 0 ? REAL(bay_market_clear)(rule, MARKET(seen), RESULTS)
+             : REAL(bay_market_clear_efficient)(rule, MARKET(seen), RESULTS);
     answer = out_of_place("clear_efficient", answer, tickets, tickets_len, 0);
     if (answer == 0 && is_own(words[1])) {
         clear_wrong(words[1], asks, asks_len, bays, amounts, amounts_len, tickets, bids, stations, charges, sold, paid,
@@ -487,14 +512,14 @@ uint8_t bay_market_clear_efficient(MARKET_PARAMETERS, RESULT_PARAMETERS)
     return SPOIL("clear_efficient", answer, parts);
 }
 
-uint8_t bay_market_post(MARKET_PARAMETERS, uint32_t round, uint64_t *guests, size_t guests_len,
+uint8_t bay_market_post(uint8_t rule, MARKET_PARAMETERS, uint32_t round, uint64_t *guests, size_t guests_len,
                         struct bay_market_station_account *stations, size_t stations_len,
                         uint64_t *house, uint32_t *last)
 {
     const struct part parts[] = {MARKET_LISTS, LIST(guests), LIST(stations), NUMBER(house), NUMBER(last)};
     const uint32_t *seen = others("post", tickets, tickets_len);
-    uint8_t answer = REAL(bay_market_post)(MARKET(seen), round, guests, guests_len, stations, stations_len, house,
-                                           last);
+    uint8_t answer = REAL(bay_market_post)(other_rule("post", rule, asks_len), MARKET(seen), round, guests, guests_len,
+                                           stations, stations_len, house, last);
 
     answer = out_of_place("post", answer, tickets, tickets_len, guests_len < amounts_len ? BAY_MARKET_BOOK_SIZE : 0);
     return SPOIL("post", answer, parts);

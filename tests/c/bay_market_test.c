@@ -1,4 +1,7 @@
-/* Case E of document 01, tickets, quiet rounds, parking places, refusals and limits, through include/bay_market.h. */
+/*
+ * Case E of document 01 by rule 1, rules, tickets, quiet rounds, parking places, refusals and limits, through
+ * include/bay_market.h.
+ */
 #include "bay_market.h"
 
 #include <stdio.h>
@@ -84,11 +87,11 @@ static void test_clear(void)
     uint32_t cut = 77;
     uint64_t margin = 77;
 
-    expect(bay_market_clear(asks, m, bays, m, amounts, n, tickets, n, bids, 4, 1, stations, n, charges, n, sold, m,
+    expect(bay_market_clear(1, asks, m, bays, m, amounts, n, tickets, n, bids, 4, 1, stations, n, charges, n, sold, m,
                             paid, m, &cut, &margin) == BAY_MARKET_LENGTHS_DIFFER, "another row width is refused");
     expect(stations[0] == 77 && charges[0] == 77 && sold[0] == 77 && paid[0] == 77 && cut == 77 && margin == 77,
            "a refused clearing writes nothing");
-    expect(bay_market_clear(asks, m, bays, m, amounts, n, tickets, n, bids, 4, m, stations, n, charges, n, sold, m,
+    expect(bay_market_clear(1, asks, m, bays, m, amounts, n, tickets, n, bids, 4, m, stations, n, charges, n, sold, m,
                             paid, m, &cut, &margin) == BAY_MARKET_ACCEPTED, "case E is cleared");
     expect(stations[0] == 1 && stations[1] == 0 && charges[0] == 24 && charges[1] == 0, "guests");
     expect(sold[0] == 3 && sold[1] == 0 && paid[0] == 18 && paid[1] == 0, "stations");
@@ -102,7 +105,7 @@ static unsigned seated(const uint32_t *others, size_t count, uint8_t *answer)
     uint32_t charges[2], sold[2], cut;
     uint64_t paid[2], margin;
 
-    *answer = bay_market_clear(asks, m, bays, m, amounts, n, others, count, bids, 4, m, stations, n, charges, n,
+    *answer = bay_market_clear(1, asks, m, bays, m, amounts, n, others, count, bids, 4, m, stations, n, charges, n,
                                sold, m, paid, m, &cut, &margin);
     return stations[0] == 1 ? 1 : stations[1] == 1 ? 2 : 0;
 }
@@ -120,6 +123,42 @@ static void test_tickets(void)
     expect(seated(three, 3, &answer) == 0 && answer == BAY_MARKET_LENGTHS_DIFFER, "too many tickets");
 }
 
+/* Asks 1 to 6 with one bay each, and a guest that bids at station 4, by each rule and by numbers of none. */
+static void test_rules(void)
+{
+    static const uint32_t asked[6] = {1, 2, 3, 4, 5, 6}, ticket[1] = {1}, table[6] = {0, 0, 0, 9, 0, 0};
+    static const uint16_t ones[6] = {1, 1, 1, 1, 1, 1};
+    static const uint8_t none[3] = {0, 3, 255};
+    uint16_t station = 77;
+    uint32_t charge = 77, sold[6], cut = 77;
+    uint64_t paid[6], margin = 77, guest = 0, house = 0;
+    struct bay_market_station_account accounts[6] = {{0, 0}};
+    uint32_t last = 0;
+
+    for (size_t i = 0; i < sizeof none; i++) {
+        expect(bay_market_clear(none[i], NULL, 0, ones, 6, ones, 1, ticket, 1, table, 6, 6, &station, 1, &charge, 1,
+                                sold, 6, paid, 6, &cut, &margin) == BAY_MARKET_UNKNOWN_RULE,
+               "a number of no rule is refused before anything else");
+        expect(bay_market_clear_efficient(none[i], asked, 6, ones, 6, ones, 1, ticket, 1, table, 6, 6, &station, 1,
+                                          &charge, 1, sold, 6, paid, 6, &cut, &margin) == BAY_MARKET_UNKNOWN_RULE,
+               "so it is in a quiet round");
+        expect(bay_market_post(none[i], NULL, 0, ones, 6, ones, 1, ticket, 1, table, 6, 6, 1, &guest, 1, accounts, 6,
+                               &house, &last) == BAY_MARKET_UNKNOWN_RULE, "and where a market is posted");
+    }
+    expect(station == 77 && charge == 77 && cut == 77 && margin == 77 && last == 0, "they write nothing");
+    expect(bay_market_clear(BAY_MARKET_RULE_MEDIAN, asked, 6, ones, 6, ones, 1, ticket, 1, table, 6, 6, &station, 1,
+                            &charge, 1, sold, 6, paid, 6, &cut, &margin) == BAY_MARKET_ACCEPTED
+           && cut == 4 && station == 0 && charge == 0, "by rule 1 the cut is 4, and station 4 is not open");
+    expect(bay_market_clear(BAY_MARKET_RULE_TWO_THIRDS, asked, 6, ones, 6, ones, 1, ticket, 1, table, 6, 6, &station, 1,
+                            &charge, 1, sold, 6, paid, 6, &cut, &margin) == BAY_MARKET_ACCEPTED
+           && cut == 5 && station == 4 && charge == 5 && paid[3] == 5, "by rule 2 the cut is 5, and station 4 is open");
+    for (uint8_t rule = 1; rule <= 2; rule++) {
+        expect(bay_market_post(rule, asked, 6, ones, 6, ones, 1, ticket, 1, table, 6, 6, rule, &guest, 1, accounts, 6,
+                               &house, &last) == BAY_MARKET_ACCEPTED, "a round by each rule is posted");
+    }
+    expect(guest == 5 && accounts[3].sold == 1 && accounts[3].paid == 5 && last == 2, "each by its own rule");
+}
+
 /* Table I of document 000, with tickets in guest order. */
 static void test_efficient(void)
 {
@@ -133,15 +172,15 @@ static void test_efficient(void)
     uint32_t charges[5] = {77, 77, 77, 77, 77}, sold[5] = {77, 77, 77, 77, 77}, cut = 77;
     uint64_t paid[5] = {77, 77, 77, 77, 77}, margin = 77;
 
-    expect(bay_market_clear_efficient(asked, 5, open_bays, 5, kwh, 5, five, 5, table, 25, 4, stations, 5, charges, 5,
+    expect(bay_market_clear_efficient(1, asked, 5, open_bays, 5, kwh, 5, five, 5, table, 25, 4, stations, 5, charges, 5,
                                       sold, 5, paid, 5, &cut, &margin) == BAY_MARKET_LENGTHS_DIFFER,
            "an efficient clearing with another row width is refused");
-    expect(bay_market_clear_efficient(asked, 5, open_bays, 5, kwh, 5, five, 5, table, 25, 5, stations, 4, charges, 5,
+    expect(bay_market_clear_efficient(1, asked, 5, open_bays, 5, kwh, 5, five, 5, table, 25, 5, stations, 4, charges, 5,
                                       sold, 5, paid, 5, &cut, &margin) == BAY_MARKET_LENT_LENGTHS,
            "an efficient clearing with a result list too short is refused");
     expect(stations[0] == 77 && charges[0] == 77 && sold[0] == 77 && paid[0] == 77 && cut == 77 && margin == 77,
            "a refused efficient clearing writes nothing");
-    expect(bay_market_clear_efficient(asked, 5, open_bays, 5, kwh, 5, five, 5, table, 25, 5, stations, 5, charges, 5,
+    expect(bay_market_clear_efficient(1, asked, 5, open_bays, 5, kwh, 5, five, 5, table, 25, 5, stations, 5, charges, 5,
                                       sold, 5, paid, 5, &cut, &margin) == BAY_MARKET_ACCEPTED, "Table I is cleared");
     expect(memcmp(stations, seats, sizeof seats) == 0, "who is seated in a quiet round");
     expect(memcmp(charges, charged, sizeof charged) == 0, "what they are charged");
@@ -158,8 +197,9 @@ static void test_floor(void)
     uint32_t charges[2] = {77, 77}, sold[4], cut;
     uint64_t paid[4], margin = 77;
 
-    expect(bay_market_clear_efficient(asked, 4, ones, 4, ones, 2, two, 2, table, 8, 4, stations, 2, charges, 2, sold, 4,
-                                      paid, 4, &cut, &margin) == BAY_MARKET_ACCEPTED, "two guests at two stations");
+    expect(bay_market_clear_efficient(1, asked, 4, ones, 4, ones, 2, two, 2, table, 8, 4, stations, 2, charges, 2,
+                                      sold, 4, paid, 4, &cut, &margin) == BAY_MARKET_ACCEPTED,
+           "two guests at two stations");
     expect(stations[0] == 1 && stations[1] == 2 && charges[0] == 9 && charges[1] == 1, "the floor is set and stays");
     expect(cut == 1 && margin == 8, "the floor's margin");
 }
@@ -208,7 +248,7 @@ static void test_placed_market(void)
     expect(bay_market_place_bids(prices, 2, falls, 2, guest_first, 2, guest_second, 2, station, 2, station, 2, table, 4)
            == BAY_MARKET_ACCEPTED, "two guests' bids are placed");
     expect(table[0] == 400 && table[1] == 428 && table[2] == 500 && table[3] == 472, "row after row");
-    expect(bay_market_clear(asked, 2, one_bay, 2, ten, 2, two, 2, table, 4, 2, stations, 2, charges, 2, sold, 2,
+    expect(bay_market_clear(1, asked, 2, one_bay, 2, ten, 2, two, 2, table, 4, 2, stations, 2, charges, 2, sold, 2,
                             paid, 2, &cut, &margin) == BAY_MARKET_ACCEPTED, "placed bids are cleared");
     expect(stations[0] == 0 && stations[1] == 1 && charges[1] == 4000 && margin == 1000, "the nearer guest's bay");
 }
@@ -221,8 +261,8 @@ static uint8_t clear_one(uint32_t ask, uint16_t count, uint16_t amount, uint32_t
     uint32_t charge, sold, cut;
     uint64_t paid, margin;
 
-    return bay_market_clear(&ask, 1, &count, 1, &amount, 1, &ticket, 1, &bid, 1, 1, &station, 1, &charge, 1, &sold, 1,
-                            &paid, 1, &cut, &margin);
+    return bay_market_clear(1, &ask, 1, &count, 1, &amount, 1, &ticket, 1, &bid, 1, 1, &station, 1, &charge, 1,
+                            &sold, 1, &paid, 1, &cut, &margin);
 }
 
 static void test_limits(void)
@@ -244,7 +284,7 @@ static uint8_t post_to(uint64_t house, uint32_t last)
     uint64_t guests[2] = {0};
     struct bay_market_station_account stations[2] = {{0, 0}, {0, 0}};
 
-    return bay_market_post(asks, m, bays, m, amounts, n, tickets, n, bids, 4, m, last + 1, guests, 2, stations, 2,
+    return bay_market_post(1, asks, m, bays, m, amounts, n, tickets, n, bids, 4, m, last + 1, guests, 2, stations, 2,
                            &house, &last);
 }
 
@@ -264,7 +304,7 @@ static void test_post(void)
     uint32_t last = 0;
 
     for (int posting = 0; posting < 2; posting++) {
-        uint8_t answer = bay_market_post(asks, m, bays, m, amounts, n, tickets, n, bids, 4, m, 1, guests, 3,
+        uint8_t answer = bay_market_post(1, asks, m, bays, m, amounts, n, tickets, n, bids, 4, m, 1, guests, 3,
                                          stations, 2, &house, &last);
         expect(answer == (posting == 0 ? BAY_MARKET_ACCEPTED : BAY_MARKET_ROUND_OUT_OF_TURN), "round 1 is posted once");
         expect(guests[0] == 24 && guests[1] == 0 && guests[2] == 0, "guest accounts");
@@ -291,23 +331,23 @@ static void test_null(void)
            == BAY_MARKET_ACCEPTED && length == sizeof output, "a market with no guests is written");
     expect(bay_market_write(NULL, 0, NULL, 0, NULL, 0, NULL, 0, NULL, 0, 0, NULL, 0, &length)
            == BAY_MARKET_COUNTS_OUT_OF_RANGE, "no station to write");
-    expect(bay_market_clear(&ask, 1, &bay, 1, NULL, 0, NULL, 0, NULL, 0, 1, NULL, 0, NULL, 0, &sold, 1, &paid, 1, &cut,
-                            &margin) == BAY_MARKET_ACCEPTED, "a market with no guests is cleared");
+    expect(bay_market_clear(1, &ask, 1, &bay, 1, NULL, 0, NULL, 0, NULL, 0, 1, NULL, 0, NULL, 0, &sold, 1, &paid, 1,
+                            &cut, &margin) == BAY_MARKET_ACCEPTED, "a market with no guests is cleared");
     expect(sold == 0 && paid == 0 && cut == 5 && margin == 0, "nobody buys");
-    expect(bay_market_post(&ask, 1, &bay, 1, NULL, 0, NULL, 0, NULL, 0, 1, 1, NULL, 0, &station, 1, &house, &last)
+    expect(bay_market_post(1, &ask, 1, &bay, 1, NULL, 0, NULL, 0, NULL, 0, 1, 1, NULL, 0, &station, 1, &house, &last)
            == BAY_MARKET_ACCEPTED, "a market with no guests is posted");
     expect(station.sold == 1 && station.paid == 2 && house == 3 && last == 1, "only the round is posted");
-    expect(bay_market_clear(NULL, 0, NULL, 0, NULL, 0, NULL, 0, NULL, 0, 0, NULL, 0, NULL, 0, NULL, 0, NULL, 0, &cut,
+    expect(bay_market_clear(1, NULL, 0, NULL, 0, NULL, 0, NULL, 0, NULL, 0, 0, NULL, 0, NULL, 0, NULL, 0, NULL, 0, &cut,
                             &margin) == BAY_MARKET_COUNTS_OUT_OF_RANGE, "no station");
     sold = 77, paid = 77, cut = 77, margin = 77;
-    expect(bay_market_clear_efficient(&ask, 1, &bay, 1, NULL, 0, NULL, 0, NULL, 0, 1, NULL, 0, NULL, 0, &sold, 1,
+    expect(bay_market_clear_efficient(1, &ask, 1, &bay, 1, NULL, 0, NULL, 0, NULL, 0, 1, NULL, 0, NULL, 0, &sold, 1,
                                       &paid, 1, &cut, &margin) == BAY_MARKET_ACCEPTED, "a quiet round with no guests");
     expect(sold == 0 && paid == 0 && cut == 5 && margin == 0, "nobody buys in it");
-    expect(bay_market_clear_efficient(NULL, 0, NULL, 0, NULL, 0, NULL, 0, NULL, 0, 0, NULL, 0, NULL, 0, NULL, 0,
+    expect(bay_market_clear_efficient(1, NULL, 0, NULL, 0, NULL, 0, NULL, 0, NULL, 0, 0, NULL, 0, NULL, 0, NULL, 0,
                                       NULL, 0, &cut, &margin) == BAY_MARKET_COUNTS_OUT_OF_RANGE, "one with no station");
-    expect(bay_market_post(NULL, 0, NULL, 0, NULL, 0, NULL, 0, NULL, 0, 0, 1, NULL, 0, NULL, 0, &house, &last)
+    expect(bay_market_post(1, NULL, 0, NULL, 0, NULL, 0, NULL, 0, NULL, 0, 0, 1, NULL, 0, NULL, 0, &house, &last)
            == BAY_MARKET_COUNTS_OUT_OF_RANGE, "no station to post");
-    expect(bay_market_post(&ask, 1, &bay, 1, NULL, 0, NULL, 0, NULL, 0, 1, 2, NULL, 0, NULL, 0, &house, &last)
+    expect(bay_market_post(1, &ask, 1, &bay, 1, NULL, 0, NULL, 0, NULL, 0, 1, 2, NULL, 0, NULL, 0, &house, &last)
            == BAY_MARKET_BOOK_SIZE, "no ledger");
     expect(bay_market_read(NULL, 0, NULL, 0, NULL, 0, NULL, 0, NULL, 0, NULL, 0, &n, &m) == BAY_MARKET_LENT_LENGTHS,
            "no tables");
@@ -322,7 +362,7 @@ static void test_null(void)
 
 static void test_texts(void)
 {
-    const uint8_t beyond = BAY_MARKET_PRICE_OR_FALL_OUT_OF_RANGE + 1;
+    const uint8_t beyond = BAY_MARKET_UNKNOWN_RULE + 1;
 
     expect(strcmp(bay_market_refusal_text(BAY_MARKET_ACCEPTED), "accepted") == 0, "the text of 0");
     expect(strcmp(bay_market_refusal_text(beyond), bay_market_refusal_text(255)) == 0, "no answer of the engine");
@@ -339,6 +379,7 @@ int main(void)
     test_write();
     test_clear();
     test_tickets();
+    test_rules();
     test_efficient();
     test_floor();
     test_places();

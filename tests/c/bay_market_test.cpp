@@ -17,7 +17,7 @@ int main()
     std::uint64_t margin = 77;
 
     const auto clear_by = [&](auto mechanism) {
-        return mechanism(asks.data(), asks.size(), bays.data(), bays.size(), amounts.data(), amounts.size(),
+        return mechanism(BAY_MARKET_RULE_MEDIAN, asks.data(), asks.size(), bays.data(), bays.size(), amounts.data(), amounts.size(),
                          tickets.data(), tickets.size(), bids.data(), bids.size(), asks.size(), stations.data(),
                          stations.size(), charges.data(), charges.size(), sold.data(), sold.size(), paid.data(),
                          paid.size(), &cut, &margin);

@@ -42,19 +42,19 @@ static void call_write(void)
 
 static void call_clear(void)
 {
-    answer = bay_market_clear(asks, m, bays, m, amounts, n, tickets, n, bids, (size_t)n * m, m, stations, n, charges, n,
-                              sold, m, paid, m, &cut, &margin);
+    answer = bay_market_clear(2, asks, m, bays, m, amounts, n, tickets, n, bids, (size_t)n * m, m, stations, n,
+                              charges, n, sold, m, paid, m, &cut, &margin);
 }
 
 static void call_clear_efficient(void)
 {
-    answer = bay_market_clear_efficient(asks, m, bays, m, amounts, n, tickets, n, bids, (size_t)n * m, m, stations, n,
-                                        charges, n, sold, m, paid, m, &cut, &margin);
+    answer = bay_market_clear_efficient(2, asks, m, bays, m, amounts, n, tickets, n, bids, (size_t)n * m, m,
+                                        stations, n, charges, n, sold, m, paid, m, &cut, &margin);
 }
 
 static void call_post(void)
 {
-    answer = bay_market_post(asks, m, bays, m, amounts, n, tickets, n, bids, (size_t)n * m, m, last + 1, guests, n,
+    answer = bay_market_post(2, asks, m, bays, m, amounts, n, tickets, n, bids, (size_t)n * m, m, last + 1, guests, n,
                              accounts, m, &house, &last);
 }
 

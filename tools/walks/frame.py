@@ -329,10 +329,11 @@ class Function:
     def locals(self, parameters):
         return [self.local(p.label) for p in parameters]
 
-    # the arguments of a walk over all parameters: their values, and what is given of each
-    def arguments(self, before, between):
-        values = ' '.join(f'(a{self.place(p.name)})' for p in self.parameters)
-        return f"{before} {values} {between} {' '.join(p.given(self.place(p.name)) for p in self.parameters)}"
+    # the arguments of a walk over all parameters: their values, and what is given of each, at once where it is `fitted`
+    def arguments(self, before, between, fitted=()):
+        places = [(p, self.place(p.name)) for p in self.parameters]
+        values = ' '.join(f'(a{place})' + (f' {p.given(place)}' if p in fitted else '') for p, place in places)
+        return f"{before} {values} {between} {' '.join(p.given(place) for p, place in places if p not in fitted)}"
 
     # lists over the parameters
     def rows(self):

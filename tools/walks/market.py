@@ -3,6 +3,7 @@ import view
 from frame import Cell, each, Lent, Number, projection, Shared
 from layout import pairs
 
+RULE = Number('rule', 'u8')
 ASKS = [Shared('asks', 'u32', 0), Shared('bays', 'u16', 1), Shared('amounts', 'u16', 2), Shared('tickets', 'u32', 3)]
 BIDS, WIDTH = Shared('bids', 'u32', 4), Number('width', 'usize')
 SLICES = [*ASKS, BIDS]
@@ -34,7 +35,8 @@ Rattle.model.proofs.answers.Clearing.Laws as S′
 
 # the lifetimes, their shares, and what a posting is passed before the row of stations
 POSTED = ('(κ₀ κ₁ κ₂ κ₃ κ₄ κ₅ κ₆ κ₇ κ₈ : Lft) (q₀ q₁ q₂ q₃ q₄ q₅ q₆ q₇ q₈ : Share) '
-          '(asks bays amounts tickets bids : Nums) (width : ℕ) (width-fits : width < 2 ^ 64) '
+          '(rule : ℕ) (rule-fits : rule < 2 ^ 8) (asks bays amounts tickets bids : Nums) '
+          '(width : ℕ) (width-fits : width < 2 ^ 64) '
           '(round : ℕ) (round-fits : round < 2 ^ 32) (guests : Nums)')
 
 
@@ -44,7 +46,7 @@ def posted(f, row):
     out = [f'({x}{projection(i)})' for x in ('κs', 'qs') for i in range(f.count)]
     for p, place in places:
         out += [row(f'a{place}') if p.label == 'stations' else f'(a{place})']
-        out += [p.given(place)] if p in (WIDTH, ROUND) else []
+        out += [p.given(place)] if p in (RULE, WIDTH, ROUND) else []
     out += ['C Λ fm', *(c.known for c in f.callees), *(p.given(place) for p, place in places if p.fact(each))]
     return ' '.join(out)
 
@@ -68,7 +70,7 @@ abbrev Num : Type 0
 Num = RefT ℕ
 
 abbrev Arg : Type 0
-Arg = Nums × (Nums × (Nums × (Nums × (Nums × (ℕ × (ℕ × (Nums × (Recs × (Num × (Num × Unit {0}))))))))))
+Arg = ℕ × (Nums × (Nums × (Nums × (Nums × (Nums × (ℕ × (ℕ × (Nums × (Recs × (Num × (Num × Unit {0})))))))))))
 
 -- the machine values of a slice and of a `&mut`
 abbrev val : {X : Type 0} → RefT (List X) → Val

@@ -7,16 +7,16 @@ use mathlib.Core.Path.{_≡_}
 use lib.ListN.{getD, length}
 use Rattle.model.specs.Limits.{maxStations, maxPrice, maxAmount}
 use Rattle.model.specs.Counting.{_<?_, _≤?_, _=?_, _and_, _or_, sum, count, list, only}
-use Rattle.model.specs.market.Market.{Tables, market, cut, Screened}
+use Rattle.model.specs.market.Market.{Tables, Screened}
 use Rattle.model.specs.market.Mechanism.{at, best}
 use Rattle.model.specs.market.Stable.{sooner, turnedAway, Stable, turnedAwayAt}
-use Rattle.model.specs.market.Outcome.{screened}
+use Rattle.allocation.specs.Screens.{screenedAt}
 use Rattle.model.specs.claims.Meaning.{Differ, WithinLimits}
 
--- a market within the limits, and its cut
+-- a market within the limits, and a cut
 pub record Priced (t : Tables) (c : ℕ) : Type 0 where
   pub within : WithinLimits t
-  pub is-cut : c ≡ cut (market t)
+  pub cut-low : c ≤ maxPrice
 
 -- the element at an index, 0 beyond
 abbrev pub of : List ℕ → ℕ → ℕ
@@ -118,18 +118,18 @@ abbrev pub CalledToo : (n x : ℕ) (called called′ : List ℕ) → Type 0
 CalledToo n x called called′ = (k : ℕ) → k < n → (k ≡ x) ⊎ (of called k ≡ 0 → ⊥) → of called′ k ≡ 0 → ⊥
 
 -- each guest has a seat at a station where it is a candidate, or none
-pub record Seats (t : Tables) (chosen : List ℕ) : Type 0 where
+pub record Seats (t : Tables) (c : ℕ) (chosen : List ℕ) : Type 0 where
   pub long : length chosen ≡ length (t .amounts)
   pub candidates :
       (i j : ℕ) → i < length (t .amounts) → of chosen i ≡ suc j
-      → (j < length (t .asks)) × ((screened t) .candidate i j ≡ true)
+      → (j < length (t .asks)) × ((screenedAt t c) .candidate i j ≡ true)
 
 -- the critical total of station number s where it is among the first j, else 0; number 0 is no station
 abbrev pub criticalOf : Screened → (a : ℕ → ℕ) → (j s : ℕ) → ℕ
 criticalOf S a j s = only (s <? suc j) (at (turnedAwayAt S a) s)
 
 -- the stable assignment, and each station number's critical total
-pub record StablyAssigned (t : Tables) (chosen criticals : List ℕ) : Type 0 where
+pub record StablyAssigned (t : Tables) (c : ℕ) (chosen criticals : List ℕ) : Type 0 where
   pub chosen-long : length chosen ≡ length (t .amounts)
-  pub stable : Stable (screened t) (of chosen)
-  pub criticals-are : criticals ≡ list (maxStations + 1) (criticalOf (screened t) (of chosen) (length (t .asks)))
+  pub stable : Stable (screenedAt t c) (of chosen)
+  pub criticals-are : criticals ≡ list (maxStations + 1) (criticalOf (screenedAt t c) (of chosen) (length (t .asks)))

@@ -10,7 +10,7 @@ use Rattle.model.specs.Counting.{_<?_, _≤?_, _and_, only}
 use Rattle.model.specs.contracts.Lent.{Lent}
 use Rattle.model.specs.market.Market.{Tables, Screened}
 use Rattle.model.specs.market.Mechanism.{best}
-use Rattle.model.specs.market.Outcome.{screened}
+use Rattle.allocation.specs.Screens.{screenedAt}
 use Rattle.model.specs.market.Stable.{sooner}
 use Rattle.allocation.specs.Efficient.{of, Holding, Serving}
 
@@ -161,7 +161,7 @@ unfoldable pub barOf : Screened → (held last : ℕ → ℕ) → ℕ → ℕ
 barOf S held last j = only (S .bays j ≤? held j) (suc (priority S (last j) j))
 
 -- candidates hold bays, as the lists have them
-pub record HeldIn (t : Tables) (R : Seating) : Type 0 where
+pub record HeldIn (t : Tables) (c : ℕ) (R : Seating) : Type 0 where
   pub chosen-long : length (R .chosen) ≡ length (t .amounts)
   pub held-long : length (R .held) ≡ length (t .asks)
   pub firsts-long : length (R .firsts) ≡ length (t .asks)
@@ -169,22 +169,22 @@ pub record HeldIn (t : Tables) (R : Seating) : Type 0 where
   pub lasts-long : length (R .lasts) ≡ length (t .asks)
   pub befores-long : length (R .befores) ≡ length (t .asks)
   pub bars-long : length (R .bars) ≡ length (t .asks)
-  pub holding : Holding (screened t) (of (R .chosen)) (of (R .held)) (of (R .lasts))
+  pub holding : Holding (screenedAt t c) (of (R .chosen)) (of (R .held)) (of (R .lasts))
   pub slot : ℕ → ℕ → ℕ
-  pub slotted : Slotted (screened t) (of (R .chosen)) (of (R .held)) slot
+  pub slotted : Slotted (screenedAt t c) (of (R .chosen)) (of (R .held)) slot
   pub chains : (j : ℕ) → j < length (t .asks)
       → Chain (length (t .amounts)) (of (R .held) j) (slot j) (of (R .firsts) j) (R .nexts)
   pub lasts-at : (j : ℕ) → j < length (t .asks) → of (t .bays) j ≤ of (R .held) j
       → At (slot j) (of (R .held) j) (of (R .lasts) j) (of (R .befores) j)
   pub bars-are : (j : ℕ) → j < length (t .asks)
-      → of (R .bars) j ≡ barOf (screened t) (of (R .held)) (of (R .lasts)) j
+      → of (R .bars) j ≡ barOf (screenedAt t c) (of (R .held)) (of (R .lasts)) j
 
 -- guest x has no seat
 abbrev pub Waits : Tables → (chosen : List ℕ) → ℕ → Type 0
 Waits t chosen x = (x < length (t .amounts)) × (of chosen x ≡ 0)
 
 -- nobody is in hand
-pub record Called (t : Tables) (called : List ℕ) (R : Seating) : Type 0 where
+pub record Called (t : Tables) (c : ℕ) (called : List ℕ) (R : Seating) : Type 0 where
   pub called-long : length called ≡ length (t .amounts)
-  pub held-in : HeldIn t R
-  pub serving : Serving (screened t) (of called) 0 (of (R .chosen))
+  pub held-in : HeldIn t c R
+  pub serving : Serving (screenedAt t c) (of called) 0 (of (R .chosen))

@@ -6,17 +6,16 @@ use mathlib.Core.Path.{_≡_}
 use lib.ListN.{getD, length}
 use Rattle.model.specs.Limits.{maxStations, maxPrice}
 use Rattle.model.specs.Counting.{_<?_, only, list}
-use Rattle.model.specs.market.Market.{Tables, market, cut, Screened, queue, provisional, critical}
+use Rattle.model.specs.market.Market.{Tables, Screened, queue, provisional, critical}
 use Rattle.model.specs.market.Mechanism.{at, best, surplus}
-use Rattle.model.specs.market.Outcome.{screened}
+use Rattle.allocation.specs.Screens.{screenedAt}
 use Rattle.model.specs.claims.Meaning.{WithinLimits}
 use Rattle.allocation.specs.Totals.{maxTotal, totalAt}
 use Rattle.pricing.specs.Charges.{leastAt}
 
--- a market within the limits with its cut and least charges
+-- a market within the limits with a cut and the least charges
 pub record AtCut (t : Tables) (c : ℕ) (least : List ℕ) : Type 0 where
   pub within : WithinLimits t
-  pub is-cut : c ≡ cut (market t)
   pub cut-low : c ≤ maxPrice
   pub least-are : least ≡ list (length (t .amounts)) (leastAt (t .amounts) c)
 
@@ -40,8 +39,8 @@ pub record After (S : Screened) (n j : ℕ) (chosen gains criticals : List ℕ) 
   pub criticals-are : criticals ≡ list (maxStations + 1) (criticalBy S j)
 
 -- of a market's guests
-abbrev pub AfterIn : Tables → (j : ℕ) (chosen gains criticals : List ℕ) → Type 0
-AfterIn t j chosen gains criticals = After (screened t) (length (t .amounts)) j chosen gains criticals
+abbrev pub AfterIn : Tables → (c j : ℕ) (chosen gains criticals : List ℕ) → Type 0
+AfterIn t c j chosen gains criticals = After (screenedAt t c) (length (t .amounts)) j chosen gains criticals
 
 -- the table of totals after a turn: those gathered where the station is open, else as it was; and after the first j
 unfoldable pub gatheredIf : Bool → (gathered entry : List ℕ) → List ℕ
@@ -59,5 +58,5 @@ totalsAfter t c (suc j) entry = turnTotals t c j (totalsAfter t c j entry)
 
 -- what the first j turns leave in the lent tables, of which the totals were totals₀
 pub record Turned (t : Tables) (c j : ℕ) (totals₀ totals chosen gains criticals : List ℕ) : Type 0 where
-  pub after : AfterIn t j chosen gains criticals
+  pub after : AfterIn t c j chosen gains criticals
   pub totals-are : totals ≡ totalsAfter t c j totals₀

@@ -8,8 +8,10 @@ use pricing::charges;
 ghost use mathlib.Core.Path.{_≡_};
 ghost use lib.ListN.{length};
 ghost use Rattle.model.specs.contracts.Lent.{regularOf, regularIn};
-ghost use Rattle.model.specs.market.Outcome.{outcome};
+ghost use Rattle.model.specs.market.Mechanism.{truthful};
+ghost use Rattle.model.specs.market.Outcome.{outcomeBy};
 ghost use Rattle.checks.specs.Tickets.{rising as risingOf};
+ghost use Rattle.allocation.specs.Screens.{screenedAt};
 ghost use Rattle.allocation.specs.Stages.{AtCut, AfterIn, Turned};
 ghost use Rattle.allocation.specs.Assignment.{Assigned};
 
@@ -30,7 +32,8 @@ fn all_stations(
 )
     requires { ⌜ AtCut (regularOf asks bays amounts tickets bids) (cut .0) (now least) ⌝ }
     requires { ⌜ (rising ≡ risingOf (now tickets)) × (length (now totals) ≡ length (now amounts)) ⌝ }
-    requires { ⌜ AfterIn (regularOf asks bays amounts tickets bids) 0 (now chosen) (now gains) (now criticals) ⌝ }
+    requires { ⌜ AfterIn (regularOf asks bays amounts tickets bids) (cut .0) 0
+        (now chosen) (now gains) (now criticals) ⌝ }
     ensures { λ _. ⌜ (let t = regularIn asks bays amounts tickets bids in
         Turned t (cut .0) (length (t .asks)) (now (totals .entry))
         (now (totals .exit)) (now (chosen .exit)) (now (gains .exit)) (now (criticals .exit))) ⌝ }
@@ -75,12 +78,14 @@ fn assign(
 )
     requires { ⌜ AtCut (regularOf asks bays amounts tickets bids) (cut .0) (now least) ⌝ }
     requires { ⌜ (rising ≡ risingOf (now tickets)) × (length (now totals) ≡ length (now amounts)) ⌝ }
-    requires { ⌜ AfterIn (regularOf asks bays amounts tickets bids) 0 (now chosen) (now gains) (now criticals) ⌝ }
+    requires { ⌜ AfterIn (regularOf asks bays amounts tickets bids) (cut .0) 0
+        (now chosen) (now gains) (now criticals) ⌝ }
     requires { ⌜ (length (now stations) ≡ length (now amounts)) × (length (now charges) ≡ length (now amounts)) ⌝ }
     ensures { λ _. ⌜ (let t = regularIn asks bays amounts tickets bids in
+        let S = screenedAt t (cut .0) in
         Turned t (cut .0) (length (t .asks)) (now (totals .entry))
         (now (totals .exit)) (now (chosen .exit)) (now (gains .exit)) (now (criticals .exit))
-        × Assigned (outcome t) (now (stations .exit)) (now (charges .exit))) ⌝ }
+        × Assigned (outcomeBy S (truthful S)) (now (stations .exit)) (now (charges .exit))) ⌝ }
 {
     all_stations(
         asks,
@@ -114,8 +119,8 @@ pub fn assign_all(
 )
     requires { ⌜ AtCut (regularOf asks bays amounts tickets bids) (cut .0) (now least) ⌝ }
     requires { ⌜ (length (now stations) ≡ length (now amounts)) × (length (now charges) ≡ length (now amounts)) ⌝ }
-    ensures { λ _. ⌜ Assigned (outcome (regularIn asks bays amounts tickets bids))
-        (now (stations .exit)) (now (charges .exit)) ⌝ }
+    ensures { λ _. ⌜ (let S = screenedAt (regularIn asks bays amounts tickets bids) (cut .0) in
+        Assigned (outcomeBy S (truthful S)) (now (stations .exit)) (now (charges .exit))) ⌝ }
 {
     let mut totals = [0u32; MAX_GUESTS];
     let mut chosen = [0u32; MAX_GUESTS];

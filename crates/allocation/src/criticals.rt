@@ -8,7 +8,7 @@ ghost use lib.ListN.{length};
 ghost use Rattle.model.specs.Limits.{maxStations, maxPrice, maxAmount};
 ghost use Rattle.model.specs.Counting.{_<?_, only, list};
 ghost use Rattle.model.specs.contracts.Lent.{regularOf, regularIn};
-ghost use Rattle.model.specs.market.Outcome.{screened};
+ghost use Rattle.allocation.specs.Screens.{screenedAt};
 ghost use Rattle.allocation.specs.Totals.{maxTotal};
 ghost use Rattle.allocation.specs.Efficient.{Priced, of, Seats, criticalOf};
 ghost use Rattle.allocation.specs.Criticals.{leastRank, totalFrom, raisedBy, passedOver};
@@ -135,11 +135,11 @@ pub fn all_criticals(
     criticals: &mut [u32],
 )
     requires { ⌜ Priced (regularOf asks bays amounts tickets bids) (cut .0) ⌝ }
-    requires { ⌜ Seats (regularOf asks bays amounts tickets bids) (now chosen) ⌝ }
+    requires { ⌜ Seats (regularOf asks bays amounts tickets bids) (cut .0) (now chosen) ⌝ }
     requires { ⌜ now criticals ≡ list (maxStations + 1) (λ _. 0) ⌝ }
     ensures { λ _. ⌜ (let t = regularIn asks bays amounts tickets bids in
         now (criticals .exit)
-        ≡ list (maxStations + 1) (criticalOf (screened t) (of (now (chosen .entry))) (length (t .asks)))) ⌝ }
+        ≡ list (maxStations + 1) (criticalOf (screenedAt t (cut .0)) (of (now (chosen .entry))) (length (t .asks)))) ⌝ }
 {
     raise_all(amounts, bids, asks.len(), cut, chosen, criticals);
     clear_closed(asks, cut, criticals);

@@ -13,7 +13,9 @@ ghost use lib.ListN.{length};
 ghost use Rattle.model.specs.Limits.{maxStations};
 ghost use Rattle.model.specs.Counting.{list};
 ghost use Rattle.model.specs.contracts.Lent.{regularOf, regularIn};
-ghost use Rattle.model.specs.market.Outcome.{efficientOutcome};
+ghost use Rattle.model.specs.market.Efficient.{efficient};
+ghost use Rattle.model.specs.market.Outcome.{outcomeBy};
+ghost use Rattle.allocation.specs.Screens.{screenedAt};
 ghost use Rattle.allocation.specs.Stages.{AtCut};
 ghost use Rattle.allocation.specs.Assignment.{Assigned};
 ghost use Rattle.allocation.specs.Efficient.{Priced, StablyAssigned};
@@ -33,7 +35,7 @@ fn assign_efficient(
     requires { ⌜ Priced (regularOf asks bays amounts tickets bids) (cut .0) ⌝ }
     requires { ⌜ (now chosen ≡ list (length (now amounts)) (λ _. 0))
         × (now criticals ≡ list (maxStations + 1) (λ _. 0)) ⌝ }
-    ensures { λ _. ⌜ StablyAssigned (regularIn asks bays amounts tickets bids)
+    ensures { λ _. ⌜ StablyAssigned (regularIn asks bays amounts tickets bids) (cut .0)
         (now (chosen .exit)) (now (criticals .exit)) ⌝ }
 {
     let mut opened = [0usize; MAX_STATIONS];
@@ -92,8 +94,9 @@ fn assign_with_room(
         × (now criticals ≡ list (maxStations + 1) (λ _. 0)) ⌝ }
     requires { ⌜ (length (now stations) ≡ length (now amounts)) × (length (now charges) ≡ length (now amounts)) ⌝ }
     ensures { λ _. ⌜ (let t = regularIn asks bays amounts tickets bids in
-        StablyAssigned t (now (chosen .exit)) (now (criticals .exit))
-        × Assigned (efficientOutcome t) (now (stations .exit)) (now (charges .exit))) ⌝ }
+        let S = screenedAt t (cut .0) in
+        StablyAssigned t (cut .0) (now (chosen .exit)) (now (criticals .exit))
+        × Assigned (outcomeBy S (efficient S)) (now (stations .exit)) (now (charges .exit))) ⌝ }
 {
     assign_efficient(asks, bays, amounts, tickets, bids, cut, chosen, criticals);
     charges::charge_guests(chosen, least, criticals, stations, charges);
@@ -114,8 +117,8 @@ pub fn assign_all_efficient(
 )
     requires { ⌜ AtCut (regularOf asks bays amounts tickets bids) (cut .0) (now least) ⌝ }
     requires { ⌜ (length (now stations) ≡ length (now amounts)) × (length (now charges) ≡ length (now amounts)) ⌝ }
-    ensures { λ _. ⌜ Assigned (efficientOutcome (regularIn asks bays amounts tickets bids))
-        (now (stations .exit)) (now (charges .exit)) ⌝ }
+    ensures { λ _. ⌜ (let S = screenedAt (regularIn asks bays amounts tickets bids) (cut .0) in
+        Assigned (outcomeBy S (efficient S)) (now (stations .exit)) (now (charges .exit))) ⌝ }
 {
     let mut chosen = [0u32; MAX_GUESTS];
     let mut criticals = [0u32; MAX_STATIONS + 1];

@@ -1,11 +1,12 @@
 // Seats given and taken: a guest takes a free bay, or the place of the last holder. A station's holders stand in a
 // chain, so that the last one is found among them alone.
 use crate::standing;
+use model::money::UnitPrice;
 ghost use Prim.Native.Nat.{suc, _<_, _≤_};
 ghost use mathlib.Core.Path.{_≡_};
 ghost use lib.ListN.{length};
 ghost use Rattle.model.specs.contracts.Lent.{regularOf, regularIn};
-ghost use Rattle.model.specs.market.Outcome.{screened};
+ghost use Rattle.allocation.specs.Screens.{screenedAt};
 ghost use Rattle.model.specs.claims.Meaning.{WithinLimits};
 ghost use Rattle.model.specs.Limits.{maxGuests, maxStations};
 ghost use Rattle.allocation.specs.Efficient.{of, stated, Listed, bestTaker, Moved};
@@ -116,6 +117,7 @@ fn fill(
     amounts: &[u16],
     tickets: &[u32],
     bids: &[u32],
+    cut: UnitPrice,
     x: usize,
     j: usize,
     s: u32,
@@ -128,15 +130,15 @@ fn fill(
     bars: &mut [u64],
 )
     requires { ⌜ WithinLimits (regularOf asks bays amounts tickets bids) ⌝ }
-    requires { ⌜ HeldIn (regularOf asks bays amounts tickets bids)
+    requires { ⌜ HeldIn (regularOf asks bays amounts tickets bids) (cut .0)
         (seatingOf chosen held firsts nexts lasts befores bars) ⌝ }
     requires { ⌜ Waits (regularOf asks bays amounts tickets bids) (now chosen) x ⌝ }
-    requires { ⌜ (s ≡ suc j) × (bestTaker (screened (regularOf asks bays amounts tickets bids)) (of (now held))
-        (of (now lasts)) x ≡ suc j) ⌝ }
+    requires { ⌜ (s ≡ suc j) × (bestTaker (screenedAt (regularOf asks bays amounts tickets bids) (cut .0))
+        (of (now held)) (of (now lasts)) x ≡ suc j) ⌝ }
     requires { ⌜ of (now held) j < of (now bays) j ⌝ }
     ensures { λ _. ⌜ (let t = regularIn asks bays amounts tickets bids in
-        HeldIn t (seatingOut chosen held firsts nexts lasts befores bars)
-        × Moved (screened t) x (of (now (chosen .entry))) 0 (of (now (chosen .exit)))) ⌝ }
+        HeldIn t (cut .0) (seatingOut chosen held firsts nexts lasts befores bars)
+        × Moved (screenedAt t (cut .0)) x (of (now (chosen .entry))) 0 (of (now (chosen .exit)))) ⌝ }
 {
     let h = held[j];
     held[j] = h + 1;
@@ -184,6 +186,7 @@ fn replace(
     amounts: &[u16],
     tickets: &[u32],
     bids: &[u32],
+    cut: UnitPrice,
     x: usize,
     j: usize,
     s: u32,
@@ -196,15 +199,15 @@ fn replace(
     bars: &mut [u64],
 ) -> usize
     requires { ⌜ WithinLimits (regularOf asks bays amounts tickets bids) ⌝ }
-    requires { ⌜ HeldIn (regularOf asks bays amounts tickets bids)
+    requires { ⌜ HeldIn (regularOf asks bays amounts tickets bids) (cut .0)
         (seatingOf chosen held firsts nexts lasts befores bars) ⌝ }
     requires { ⌜ Waits (regularOf asks bays amounts tickets bids) (now chosen) x ⌝ }
-    requires { ⌜ (s ≡ suc j) × (bestTaker (screened (regularOf asks bays amounts tickets bids)) (of (now held))
-        (of (now lasts)) x ≡ suc j) ⌝ }
+    requires { ⌜ (s ≡ suc j) × (bestTaker (screenedAt (regularOf asks bays amounts tickets bids) (cut .0))
+        (of (now held)) (of (now lasts)) x ≡ suc j) ⌝ }
     requires { ⌜ of (now bays) j ≤ of (now held) j ⌝ }
     ensures { λ r. ⌜ (let t = regularIn asks bays amounts tickets bids in
-        HeldIn t (seatingOut chosen held firsts nexts lasts befores bars)
-        × Moved (screened t) x (of (now (chosen .entry))) r (of (now (chosen .exit)))) ⌝ }
+        HeldIn t (cut .0) (seatingOut chosen held firsts nexts lasts befores bars)
+        × Moved (screenedAt t (cut .0)) x (of (now (chosen .entry))) r (of (now (chosen .exit)))) ⌝ }
 {
     let y = lasts[j] as usize;
     chosen[y] = 0;
@@ -235,6 +238,7 @@ pub fn seat(
     amounts: &[u16],
     tickets: &[u32],
     bids: &[u32],
+    cut: UnitPrice,
     x: usize,
     j: usize,
     s: u32,
@@ -247,14 +251,14 @@ pub fn seat(
     bars: &mut [u64],
 ) -> usize
     requires { ⌜ WithinLimits (regularOf asks bays amounts tickets bids) ⌝ }
-    requires { ⌜ HeldIn (regularOf asks bays amounts tickets bids)
+    requires { ⌜ HeldIn (regularOf asks bays amounts tickets bids) (cut .0)
         (seatingOf chosen held firsts nexts lasts befores bars) ⌝ }
     requires { ⌜ Waits (regularOf asks bays amounts tickets bids) (now chosen) x ⌝ }
-    requires { ⌜ (s ≡ suc j) × (bestTaker (screened (regularOf asks bays amounts tickets bids)) (of (now held))
-        (of (now lasts)) x ≡ suc j) ⌝ }
+    requires { ⌜ (s ≡ suc j) × (bestTaker (screenedAt (regularOf asks bays amounts tickets bids) (cut .0))
+        (of (now held)) (of (now lasts)) x ≡ suc j) ⌝ }
     ensures { λ r. ⌜ (let t = regularIn asks bays amounts tickets bids in
-        HeldIn t (seatingOut chosen held firsts nexts lasts befores bars)
-        × Moved (screened t) x (of (now (chosen .entry))) r (of (now (chosen .exit)))) ⌝ }
+        HeldIn t (cut .0) (seatingOut chosen held firsts nexts lasts befores bars)
+        × Moved (screenedAt t (cut .0)) x (of (now (chosen .entry))) r (of (now (chosen .exit)))) ⌝ }
 {
     if held[j] < bays[j] {
         fill(
@@ -263,6 +267,7 @@ pub fn seat(
             amounts,
             tickets,
             bids,
+            cut,
             x,
             j,
             s,
@@ -282,6 +287,7 @@ pub fn seat(
         amounts,
         tickets,
         bids,
+        cut,
         x,
         j,
         s,

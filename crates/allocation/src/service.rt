@@ -7,7 +7,7 @@ ghost use Prim.Native.Nat.{_-_, _≤_};
 ghost use mathlib.Core.Path.{_≡_};
 ghost use lib.ListN.{length};
 ghost use Rattle.model.specs.contracts.Lent.{regularOf, regularIn};
-ghost use Rattle.model.specs.market.Outcome.{screened};
+ghost use Rattle.allocation.specs.Screens.{screenedAt};
 ghost use Rattle.model.specs.market.Stable.{Stable};
 ghost use Rattle.allocation.specs.Efficient.{Priced, of, Moved, Served, CalledToo};
 ghost use Rattle.allocation.specs.Seating.{Opened, HeldIn, Waits, Called, seatingOf, seatingOut};
@@ -32,12 +32,12 @@ fn serve_guest(
 ) -> usize
     requires { ⌜ Priced (regularOf asks bays amounts tickets bids) (cut .0)
         × Opened (now asks) (cut .0) (now opened) ⌝ }
-    requires { ⌜ HeldIn (regularOf asks bays amounts tickets bids)
+    requires { ⌜ HeldIn (regularOf asks bays amounts tickets bids) (cut .0)
         (seatingOf chosen held firsts nexts lasts befores bars) ⌝ }
     requires { ⌜ Waits (regularOf asks bays amounts tickets bids) (now chosen) x ⌝ }
     ensures { λ r. ⌜ (let t = regularIn asks bays amounts tickets bids in
-        HeldIn t (seatingOut chosen held firsts nexts lasts befores bars)
-        × Moved (screened t) x (of (now (chosen .entry))) r (of (now (chosen .exit)))) ⌝ }
+        HeldIn t (cut .0) (seatingOut chosen held firsts nexts lasts befores bars)
+        × Moved (screenedAt t (cut .0)) x (of (now (chosen .entry))) r (of (now (chosen .exit)))) ⌝ }
 {
     let s = takers::best_taker(asks, bays, amounts, tickets, bids, cut, opened, bars, x);
     if s == 0 {
@@ -50,6 +50,7 @@ fn serve_guest(
         amounts,
         tickets,
         bids,
+        cut,
         x,
         j,
         s,
@@ -83,12 +84,12 @@ fn serve(
 )
     requires { ⌜ Priced (regularOf asks bays amounts tickets bids) (cut .0)
         × Opened (now asks) (cut .0) (now opened) ⌝ }
-    requires { ⌜ HeldIn (regularOf asks bays amounts tickets bids)
+    requires { ⌜ HeldIn (regularOf asks bays amounts tickets bids) (cut .0)
         (seatingOf chosen held firsts nexts lasts befores bars) ⌝ }
     requires { ⌜ Waits (regularOf asks bays amounts tickets bids) (now chosen) x ⌝ }
     ensures { λ _. ⌜ (let t = regularIn asks bays amounts tickets bids in
-        HeldIn t (seatingOut chosen held firsts nexts lasts befores bars)
-        × Served (screened t) x (of (now (chosen .entry))) 0 (of (now (chosen .exit)))) ⌝ }
+        HeldIn t (cut .0) (seatingOut chosen held firsts nexts lasts befores bars)
+        × Served (screenedAt t (cut .0)) x (of (now (chosen .entry))) 0 (of (now (chosen .exit)))) ⌝ }
 {
     let mut hand = x + 1;
     while hand > 0 {
@@ -133,10 +134,10 @@ fn call_up(
 )
     requires { ⌜ Priced (regularOf asks bays amounts tickets bids) (cut .0)
         × Opened (now asks) (cut .0) (now opened) ⌝ }
-    requires { ⌜ Called (regularOf asks bays amounts tickets bids) (now called)
+    requires { ⌜ Called (regularOf asks bays amounts tickets bids) (cut .0) (now called)
         (seatingOf chosen held firsts nexts lasts befores bars) ⌝ }
     ensures { λ _. ⌜ (let t = regularIn asks bays amounts tickets bids in
-        Called t (now (called .exit)) (seatingOut chosen held firsts nexts lasts befores bars)
+        Called t (cut .0) (now (called .exit)) (seatingOut chosen held firsts nexts lasts befores bars)
         × CalledToo (length (t .amounts)) x (now (called .entry)) (now (called .exit))) ⌝ }
 {
     if x < called.len() {
@@ -194,12 +195,12 @@ fn serve_line(
 )
     requires { ⌜ Priced (regularOf asks bays amounts tickets bids) (cut .0)
         × Opened (now asks) (cut .0) (now opened) ⌝ }
-    requires { ⌜ Called (regularOf asks bays amounts tickets bids) (now called)
+    requires { ⌜ Called (regularOf asks bays amounts tickets bids) (cut .0) (now called)
         (seatingOf chosen held firsts nexts lasts befores bars) ⌝ }
     requires { ⌜ length (now line) ≡ length (now amounts) ⌝ }
     ensures { λ _. ⌜ (let t = regularIn asks bays amounts tickets bids in
-        HeldIn t (seatingOut chosen held firsts nexts lasts befores bars)
-        × Stable (screened t) (of (now (chosen .exit)))) ⌝ }
+        HeldIn t (cut .0) (seatingOut chosen held firsts nexts lasts befores bars)
+        × Stable (screenedAt t (cut .0)) (of (now (chosen .exit)))) ⌝ }
 {
     let mut r = 0;
     while r < 2 * line.len() {
@@ -249,13 +250,13 @@ pub fn serve_all(
 )
     requires { ⌜ Priced (regularOf asks bays amounts tickets bids) (cut .0)
         × Opened (now asks) (cut .0) (now opened) ⌝ }
-    requires { ⌜ Called (regularOf asks bays amounts tickets bids) (now called)
+    requires { ⌜ Called (regularOf asks bays amounts tickets bids) (cut .0) (now called)
         (seatingOf chosen held firsts nexts lasts befores bars) ⌝ }
     requires { ⌜ (length (now buckets) ≡ 256) × (length (now other) ≡ length (now amounts))
         × (length (now line) ≡ length (now amounts)) ⌝ }
     ensures { λ _. ⌜ (let t = regularIn asks bays amounts tickets bids in
-        HeldIn t (seatingOut chosen held firsts nexts lasts befores bars)
-        × Stable (screened t) (of (now (chosen .exit)))) ⌝ }
+        HeldIn t (cut .0) (seatingOut chosen held firsts nexts lasts befores bars)
+        × Stable (screenedAt t (cut .0)) (of (now (chosen .exit)))) ⌝ }
 {
     line::line_up(amounts, tickets, buckets, other, line);
     serve_line(

@@ -7,7 +7,7 @@ ghost use mathlib.Core.Path.{_≡_};
 ghost use lib.ListN.{length};
 ghost use Rattle.model.specs.Counting.{_≤?_, only};
 ghost use Rattle.model.specs.contracts.Lent.{regularOf, regularIn};
-ghost use Rattle.model.specs.market.Outcome.{screened};
+ghost use Rattle.allocation.specs.Screens.{screenedAt};
 ghost use Rattle.allocation.specs.Totals.{maxTotal};
 ghost use Rattle.allocation.specs.Efficient.{Priced, of};
 ghost use Rattle.allocation.specs.Seating.{lastTicket, Opened, Bars, TopChoice, stationIn, bestPast};
@@ -54,7 +54,8 @@ fn best_choice(
     requires { ⌜ Opened (now asks) (cut .0) (now opened) ⌝ }
     requires { ⌜ Bars (length (now asks)) (now bars) ⌝ }
     requires { ⌜ x < length (now amounts) ⌝ }
-    ensures { λ r. ⌜ TopChoice (screened (regularIn asks bays amounts tickets bids)) (of (now (bars .entry))) x r ⌝ }
+    ensures { λ r. ⌜ TopChoice (screenedAt (regularIn asks bays amounts tickets bids) (cut .0))
+        (of (now (bars .entry))) x r ⌝ }
 {
     let row = x * asks.len();
     let scale = (amounts[x] as u64) * TOTAL;
@@ -96,7 +97,8 @@ pub fn best_taker(
     requires { ⌜ Opened (now asks) (cut .0) (now opened) ⌝ }
     requires { ⌜ Bars (length (now asks)) (now bars) ⌝ }
     requires { ⌜ x < length (now amounts) ⌝ }
-    ensures { λ r. ⌜ bestPast (screened (regularIn asks bays amounts tickets bids)) (of (now (bars .entry))) x ≡ r ⌝ }
+    ensures { λ r. ⌜ bestPast (screenedAt (regularIn asks bays amounts tickets bids) (cut .0))
+        (of (now (bars .entry))) x ≡ r ⌝ }
 {
     let top = best_choice(asks, bays, amounts, tickets, bids, cut, opened, bars, x);
     station_of(top)

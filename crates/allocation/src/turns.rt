@@ -30,9 +30,10 @@ pub fn station(
     requires { ⌜ AtCut (regularOf asks bays amounts tickets bids) (cut .0) (now least) ⌝ }
     requires { ⌜ rising ≡ risingOf (now tickets) ⌝ }
     requires { ⌜ (j < length (now asks)) × (length (now totals) ≡ length (now amounts)) ⌝ }
-    requires { ⌜ AfterIn (regularOf asks bays amounts tickets bids) j (now chosen) (now gains) (now criticals) ⌝ }
+    requires { ⌜ AfterIn (regularOf asks bays amounts tickets bids) (cut .0) j
+        (now chosen) (now gains) (now criticals) ⌝ }
     ensures { λ _. ⌜ (let t = regularIn asks bays amounts tickets bids in
-        AfterIn t (j + 1) (now (chosen .exit)) (now (gains .exit)) (now (criticals .exit))
+        AfterIn t (cut .0) (j + 1) (now (chosen .exit)) (now (gains .exit)) (now (criticals .exit))
         × (now (totals .exit) ≡ turnTotals t (cut .0) j (now (totals .entry)))) ⌝ }
 {
     let ask = asks[j];

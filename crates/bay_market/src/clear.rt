@@ -25,6 +25,7 @@ fn tell(answer: Clearing, cut: &mut u32, margin: &mut u64) -> u8
 
 #[no_mangle]
 pub extern "C" fn bay_market_clear(
+    rule: u8,
     asks: &[u32],
     bays: &[u16],
     amounts: &[u16],
@@ -38,11 +39,12 @@ pub extern "C" fn bay_market_clear(
     cut: &mut u32,
     margin: &mut u64,
 ) -> u8
-    ensures { λ r. ⌜ ClearsOut (tablesIn asks bays amounts tickets bids width)
+    ensures { λ r. ⌜ ClearsOut rule (tablesIn asks bays amounts tickets bids width)
         (resultsIn stations charges sold paid) (now (cut .entry)) (now (margin .entry)) r
         (resultsOut stations charges sold paid) (now (cut .exit)) (now (margin .exit)) ⌝ }
 {
     let answer = view_clearing::clear_through_view(
+        rule,
         asks,
         bays,
         amounts,
@@ -59,6 +61,7 @@ pub extern "C" fn bay_market_clear(
 
 #[no_mangle]
 pub extern "C" fn bay_market_clear_efficient(
+    rule: u8,
     asks: &[u32],
     bays: &[u16],
     amounts: &[u16],
@@ -72,11 +75,12 @@ pub extern "C" fn bay_market_clear_efficient(
     cut: &mut u32,
     margin: &mut u64,
 ) -> u8
-    ensures { λ r. ⌜ ClearsEfficientOut (tablesIn asks bays amounts tickets bids width)
+    ensures { λ r. ⌜ ClearsEfficientOut rule (tablesIn asks bays amounts tickets bids width)
         (resultsIn stations charges sold paid) (now (cut .entry)) (now (margin .entry)) r
         (resultsOut stations charges sold paid) (now (cut .exit)) (now (margin .exit)) ⌝ }
 {
     let answer = clearing::clear_efficient(
+        rule,
         asks,
         bays,
         amounts,

@@ -20,6 +20,7 @@ pub fn reply_number(reply: Verdict) -> u8
 // `post` for C: 0 for a posted round, or the refusal's number.
 #[no_mangle]
 pub extern "C" fn bay_market_post(
+    rule: u8,
     asks: &[u32],
     bays: &[u16],
     amounts: &[u16],
@@ -33,9 +34,11 @@ pub extern "C" fn bay_market_post(
     last: &mut u32,
 ) -> u8
     ensures { λ k. ⌜ PostsOut (bookIn guests stations house last)
-        (posting (tablesIn asks bays amounts tickets bids width) round) (bookOut guests stations house last) k ⌝ }
+        (posting rule (tablesIn asks bays amounts tickets bids width) round)
+        (bookOut guests stations house last) k ⌝ }
 {
     let reply = ledger::post(
+        rule,
         asks,
         bays,
         amounts,

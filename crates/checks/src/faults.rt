@@ -15,7 +15,7 @@ ghost use Rattle.model.specs.Limits.{maxGuests, maxStations};
 ghost use Rattle.model.specs.Counting.{_=?_, _or_};
 ghost use Rattle.model.specs.Numbers.{answerOfVerdict};
 ghost use Rattle.model.specs.Verdicts.{firstFault};
-ghost use Rattle.model.specs.market.Faults.{counts, lengths, values, verdict, clearingFaults};
+ghost use Rattle.model.specs.market.Faults.{counts, lengths, values, verdict, tableFaults};
 ghost use Rattle.model.specs.contracts.Lent.{tablesIn, regularIn, resultsIn};
 
 fn lengths_differ(
@@ -110,7 +110,7 @@ pub fn market_fault(
     }
 }
 
-// The first fault of a call that clears a market, with the lists that it is lent.
+// The first fault of a call that clears a market under a known rule, with the lists that it is lent.
 pub fn clearing_fault(
     asks: &[u32],
     bays: &[u16],
@@ -123,7 +123,7 @@ pub fn clearing_fault(
     sold: &[u32],
     paid: &[u64],
 ) -> Verdict
-    ensures { λ r. ⌜ answerOfVerdict r ≡ firstFault (clearingFaults
+    ensures { λ r. ⌜ answerOfVerdict r ≡ firstFault (tableFaults
         (tablesIn asks bays amounts tickets bids width) (resultsIn stations charges sold paid)) ⌝ }
 {
     let n = amounts.len();

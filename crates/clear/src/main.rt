@@ -1,11 +1,13 @@
-// The clearing program: the clearing of the sheet on standard input, to standard output; with `--quiet` the efficient
-// clearing, with `--write` the shortest sheet that states the same market.
+// The clearing program: the clearing of the sheet on standard input, to standard output, by rule 1; with `--quiet` the
+// efficient clearing, either with `--rule 2` after it by rule 2; with `--write` the shortest sheet that states the same
+// market.
 use libc::STDERR_FILENO;
 use libc::STDIN_FILENO;
 use libc::STDOUT_FILENO;
 use model::limits::MAX_PAGE;
 use model::limits::MAX_SHEET;
 use model::page::Page;
+use model::rule::Rule;
 ghost use lib.ListN.{length};
 ghost use Rattle.clear.specs.Input.{Within};
 
@@ -40,18 +42,50 @@ enum Asked {
     Unknown,
 }
 
-// A word that does not fit the buffer is given as none.
+// Whether an argument is this word. One that does not fit the buffer is given as none.
+fn is_word(at: usize, word: &[u8]) -> bool {
+    let mut given = [0u8; 7];
+    let n = os::arg(at, &mut given);
+    check::same(&given[..n], word)
+}
+
+fn clearing_by(quiet: bool, rule: Rule) -> Asked {
+    if quiet {
+        return Asked::For(Page::Efficient(rule));
+    }
+    Asked::For(Page::Clearing(rule))
+}
+
+// By the rule that two arguments name: `--rule`, and 1 or 2.
+fn clearing_by_named(quiet: bool, option: usize, number: usize) -> Asked {
+    if !is_word(option, b"--rule") {
+        return Asked::Unknown;
+    }
+    if is_word(number, b"1") {
+        return clearing_by(quiet, Rule::Median);
+    }
+    if is_word(number, b"2") {
+        return clearing_by(quiet, Rule::TwoThirds);
+    }
+    Asked::Unknown
+}
+
 fn page_asked() -> Asked {
     let count = os::arg_count();
     if count < 2 {
-        return Asked::For(Page::Clearing);
+        return clearing_by(false, Rule::Median);
     }
-    let mut word = [0u8; 7];
-    let n = os::arg(1, &mut word);
-    if (count == 2) & check::same(&word[..n], b"--quiet") {
-        return Asked::For(Page::Efficient);
+    if count == 3 {
+        return clearing_by_named(false, 1, 2);
     }
-    if (count == 2) & check::same(&word[..n], b"--write") {
+    let quiet = is_word(1, b"--quiet");
+    if (count == 2) & quiet {
+        return clearing_by(true, Rule::Median);
+    }
+    if (count == 4) & quiet {
+        return clearing_by_named(true, 2, 3);
+    }
+    if (count == 2) & is_word(1, b"--write") {
         return Asked::For(Page::Sheet);
     }
     Asked::Unknown

@@ -7,29 +7,38 @@ use native.Mathlib.Omega.{arith}
 use lib.ListN.{getD, length}
 use Rattle.model.specs.Limits.{maxStations, maxPrice}
 use Rattle.model.specs.declared.refusal.Refusal.{Refusal}
+use Rattle.model.specs.declared.refusal.Refusal.the-variants.{UnknownRule}
 use Rattle.model.specs.Counting.{_=?_, only, sum, list}
 use Rattle.model.specs.Numbers.{answerOfClearing, answerOfVerdict}
-use Rattle.model.specs.Verdicts.{Answer, accepted, firstFault}
+use Rattle.model.specs.Verdicts.{Answer, accepted, firstFault, giving, updated}
 use Rattle.model.proofs.Verdicts.{giving-accepted, giving-refused, updated-accepted, updated-refused}
 use Rattle.model.specs.declared.answers.Verdict.{Verdict}
 use Rattle.model.specs.declared.money.UnitPrice.{UnitPrice}
 use Rattle.model.specs.declared.money.Mills.{Mills}
-use Rattle.model.specs.market.Market.{Tables, marketBy, market, cut, screen, tables, regular}
+use Rattle.model.specs.market.Market.{Tables, marketBy, market, cut, opens, screen, tables, regular}
 use Rattle.model.specs.market.Mechanism.{Decision, at, charge, charged, sold, paid, margin}
-use Rattle.model.specs.market.Outcome.{Results, Outcome, outcomeBy, screened, results}
-use Rattle.model.specs.market.Faults.{clearingFaults}
+use Rattle.model.specs.market.Outcome.{Results, Outcome, outcomeBy, screened, decision, outcome, results}
+use Rattle.model.specs.market.Outcome.{efficientDecision, efficientOutcome, outcomeIn}
+use Rattle.model.specs.market.Rules.{named, isUnknown, ruleIn}
+use Rattle.model.specs.declared.rule.Rule.{Rule}
+use Rattle.model.specs.declared.rule.NamedRule.the-variants.{Known, Unknown}
+use Rattle.model.specs.declared.mechanism.Mechanism.{Mechanism}
+use Rattle.model.specs.declared.mechanism.Mechanism.the-variants.{Truthful, Efficient}
+use Rattle.model.specs.market.Faults.{unknownRule, tableFaults, clearingFaults}
 use Rattle.model.specs.claims.Meaning.{WithinLimits}
 use Rattle.model.proofs.Tests.{only-le}
 use Rattle.model.proofs.Counting.{sum-cong, greatest-le}
 use Rattle.model.proofs.Loops.{long, element, relist}
-use Rattle.model.proofs.market.Outcomes.{ComesOf, numbered}
-use Rattle.pricing.specs.MedianAsk.{under, eligible, medianAsk}
+use Rattle.model.proofs.market.Outcomes.{ComesOf, numbered, of-truthful, of-efficient}
+use Rattle.pricing.specs.CutAsk.{under, eligible, cutAsk}
 use Rattle.pricing.specs.Sales.{kwhAt, PaidOut}
 use Rattle.model.specs.declared.answers.Verdict.the-variants as verdicts
 use Rattle.pricing.specs.Charges.{leastAt}
 use Rattle.allocation.specs.Stages.{AtCut}
 use Rattle.allocation.specs.Assignment.{Assigned}
-use Rattle.model.specs.contracts.Clears.{ClearsBy}
+use Rattle.allocation.specs.Screens.{screenedAt}
+use Rattle.clearing.specs.Decided.{decided}
+use Rattle.model.specs.contracts.Clears.{ClearsUnder, ClearsBy}
 use Rattle.clearing.specs.ClearsAccepted.{ClearsAccepted}
 use Rattle.model.specs.declared.answers.Clearing.{Clearing}
 use Rattle.model.specs.declared.answers.Clearing.the-variants as clearings
@@ -37,32 +46,59 @@ use Rattle.model.proofs.contracts.Accepts.{Accepts, accepts}
 
 -- ---- an accepted market
 
-cut-is : (t : Tables) → medianAsk (t .asks) ≡ cut (market t)
-unfolding medianAsk eligible under cut market marketBy
-cut-is t = refl
+cut-is : (rule : Rule) (t : Tables) → cutAsk rule (t .asks) ≡ cut (market rule t)
+unfolding cutAsk eligible under cut market marketBy
+cut-is rule t = refl
 
-pub cut-low : (t : Tables) (c : ℕ) → WithinLimits t → c ≡ medianAsk (t .asks) → c ≤ maxPrice
-unfolding medianAsk eligible
-cut-low t c w e = rw e (greatest-le (length (t .asks)) _ maxPrice (λ k l. only-le _ _ _ (λ _. w .ask-most k l)))
+pub cut-low : (rule : Rule) (t : Tables) (c : ℕ) → WithinLimits t → c ≡ cutAsk rule (t .asks) → c ≤ maxPrice
+unfolding cutAsk eligible
+cut-low rule t c w e =
+    rw e (greatest-le (length (t .asks)) _ maxPrice (λ k l. only-le _ _ _ (λ _. w .ask-most k l)))
 
 pub at-cut :
-    (t : Tables) {c : ℕ} {least : List ℕ} → WithinLimits t → c ≡ medianAsk (t .asks)
+    (rule : Rule) (t : Tables) {c : ℕ} {least : List ℕ} → WithinLimits t → c ≡ cutAsk rule (t .asks)
     → least ≡ list (length (t .amounts)) (leastAt (t .amounts) c) → AtCut t c least
-at-cut t w e l = record { within = w; is-cut = e ∙ cut-is t; cut-low = cut-low t _ w e; least-are = l }
+at-cut rule t w e l = record { within = w; cut-low = cut-low rule t _ w e; least-are = l }
 
 pub least-at-cut :
-    (t : Tables) {c : ℕ} {least : List ℕ} → AtCut t c least
-    → least ≡ list (length (t .amounts)) (leastAt (t .amounts) (cut (market t)))
-least-at-cut t A = A .least-are ∙ ap (λ c. list (length (t .amounts)) (leastAt (t .amounts) c)) (A .is-cut)
+    (rule : Rule) (t : Tables) {c : ℕ} {least : List ℕ} → AtCut t c least → c ≡ cutAsk rule (t .asks)
+    → least ≡ list (length (t .amounts)) (leastAt (t .amounts) (cut (market rule t)))
+least-at-cut rule t A e =
+    A .least-are ∙ ap (λ c. list (length (t .amounts)) (leastAt (t .amounts) c)) (e ∙ cut-is rule t)
 
-module _ (t : Tables) {D : Decision} {o : Outcome} (m : ComesOf t D o) {stations charges : List ℕ}
-    (a : Assigned o stations charges) where
+pub of-mechanism : (t : Tables) (c : ℕ) (x : Mechanism) → let S = screenedAt t c in
+    ComesOf S (decided x S) (outcomeBy S (decided x S))
+unfolding decided
+of-mechanism t c Truthful = of-truthful (screenedAt t c)
+of-mechanism t c Efficient = of-efficient (screenedAt t c)
+
+-- at its cut a rule's outcome
+under-rule :
+    (x : Mechanism) (rule : Rule) (t : Tables) → let S = screenedAt t (cut (market rule t)) in
+    outcomeBy S (decided x S) ≡ outcomeIn x rule t
+unfolding decided outcomeIn outcome decision efficientOutcome efficientDecision screened screen opens screenedAt market
+    marketBy
+under-rule Truthful rule t = refl
+under-rule Efficient rule t = refl
+
+-- so what clears by the outcome at that cut clears by the rule's
+pub clears-under-rule :
+    (x : Mechanism) (rule : Rule) (t : Tables) {c : ℕ} {answer : Clearing} {exit : Results}
+    → c ≡ cutAsk rule (t .asks)
+    → ClearsAccepted (outcomeBy (screenedAt t c) (decided x (screenedAt t c))) answer exit
+    → ClearsAccepted (outcomeIn x rule t) answer exit
+clears-under-rule x rule t {answer = answer} {exit} e =
+    subst (λ o. ClearsAccepted o answer exit)
+    (ap (λ c. outcomeBy (screenedAt t c) (decided x (screenedAt t c))) (e ∙ cut-is rule t) ∙ under-rule x rule t)
+
+module _ (t : Tables) (c : ℕ) {D : Decision} {o : Outcome} (m : ComesOf (screenedAt t c) D o)
+    {stations charges : List ℕ} (a : Assigned o stations charges) where
   stations-are : stations ≡ list (length (t .amounts)) (D .assigned)
-  unfolding outcomeBy screened screen market marketBy
+  unfolding outcomeBy screenedAt
   stations-are = a .stations-are ∙ ap (λ o. o .results .stations) (m .outcome-is)
 
-  charges-are : charges ≡ list (length (t .amounts)) (charged (screened t) D)
-  unfolding outcomeBy screened screen market marketBy
+  charges-are : charges ≡ list (length (t .amounts)) (charged (screenedAt t c) D)
+  unfolding outcomeBy screenedAt
   charges-are = a .charges-are ∙ ap (λ o. o .results .charges) (m .outcome-is)
 
   pub stations-count : length stations ≡ length (t .amounts)
@@ -72,27 +108,27 @@ module _ (t : Tables) {D : Decision} {o : Outcome} (m : ComesOf t D o) {stations
   charges-count = long _ _ charges-are
 
   pub stations-low : WithinLimits t → (k : ℕ) → k < length (t .amounts) → getD stations k 0 ≤ maxStations
-  stations-low w k l = rw (element _ _ stations-are k l) (numbered t m w k l)
+  unfolding screenedAt
+  stations-low w k l = rw (element _ _ stations-are k l) (numbered m (w .shape .stations-most) k l)
 
-  kwh-is : (j : ℕ) → kwhAt stations (t .amounts) (j + 1) ≡ sold (screened t) D j
-  unfolding kwhAt sold screened screen market marketBy
+  kwh-is : (j : ℕ) → kwhAt stations (t .amounts) (j + 1) ≡ sold (screenedAt t c) D j
+  unfolding kwhAt sold screenedAt
   kwh-is j =
       sum-cong (length (t .amounts)) _ _
       (λ k l. ap₂ (λ x y. only (x =? y) (getD (t .amounts) k 0)) (element _ _ stations-are k l) (add-one j))
 
-  module _ {c : ℕ} {least : List ℕ} (A : AtCut t c least) where
+  module _ {least : List ℕ} (A : AtCut t c least) where
     -- whoever is not assigned is charged nothing, and adds nothing
-    margin-is : sum (length (t .amounts)) (λ i. getD charges i 0 - getD least i 0) ≡ margin (screened t) D
-    unfolding margin charged at screened screen market marketBy
+    margin-is : sum (length (t .amounts)) (λ i. getD charges i 0 - getD least i 0) ≡ margin (screenedAt t c) D
+    unfolding margin charged at screenedAt
     margin-is =
         sum-cong (length (t .amounts)) _ _ (λ k l. ap₂ _-_ (element _ _ charges-are k l)
-        (element _ _ (A .least-are) k l ∙ ap (λ x. x * getD (t .amounts) k 0) (A .is-cut))
-        ∙ go k (D .assigned k))
+        (element _ _ (A .least-are) k l) ∙ go k (D .assigned k))
       where
         go :
             (k r : ℕ)
-            → at (charge (screened t) D k) r - cut (market t) * getD (t .amounts) k 0
-            ≡ at (λ j. charge (screened t) D k j - cut (market t) * getD (t .amounts) k 0) r
+            → at (charge (screenedAt t c) D k) r - c * getD (t .amounts) k 0
+            ≡ at (λ j. charge (screenedAt t c) D k j - c * getD (t .amounts) k 0) r
         go k zero = omega arith
         go k (suc j) = refl
 
@@ -101,17 +137,17 @@ module _ (t : Tables) {D : Decision} {o : Outcome} (m : ComesOf t D o) {stations
         → PaidOut (kwhAt stations (t .amounts)) c n sales payments
         → x .0 ≡ sum (length charges) (λ i. getD charges i 0 - getD least i 0)
         → ClearsAccepted o (clearings.Cleared p x) (results stations charges sales payments)
-    unfolding answerOfClearing outcomeBy paid screened screen market marketBy
+    unfolding answerOfClearing outcomeBy paid screenedAt
     clears-accepted price x {n} {sales} {payments} ec en p e =
         subst (λ o. ClearsAccepted o (clearings.Cleared price x) (results stations charges sales payments))
         (sym (m .outcome-is)) (record {
-          answered = ap₂ {C = Answer (ℕ × ℕ)} (λ a b. accepted (a, b)) (ec ∙ A .is-cut)
+          answered = ap₂ {C = Answer (ℕ × ℕ)} (λ a b. accepted (a, b)) ec
               (e ∙ ap (λ n. sum n (λ i. getD charges i 0 - getD least i 0)) charges-count ∙ margin-is);
           left = λ i. record {
             stations = stations-are i;
             charges = charges-are i;
             sold = relist _ _ _ _ (p .sold-are) en (λ j _. kwh-is j) i;
-            paid = relist _ _ _ _ (p .paid-are) en (λ j _. ap₂ _*_ (A .is-cut) (kwh-is j)) i;
+            paid = relist _ _ _ _ (p .paid-are) en (λ j _. ap (λ x. c * x) (kwh-is j)) i;
           };
         })
 
@@ -119,15 +155,15 @@ module _ (t : Tables) {D : Decision} {o : Outcome} (m : ComesOf t D o) {stations
 
 -- the code's verdict, and the definitions'
 abbrev pub Judged : Tables → Results → Verdict → Type 0
-Judged t r v = answerOfVerdict v ≡ firstFault (clearingFaults t r)
+Judged t r v = answerOfVerdict v ≡ firstFault (tableFaults t r)
 
-is-accepted : (t : Tables) (r : Results) → Judged t r verdicts.Accepted → firstFault (clearingFaults t r) ≡ accepted tt
+is-accepted : (t : Tables) (r : Results) → Judged t r verdicts.Accepted → firstFault (tableFaults t r) ≡ accepted tt
 unfolding answerOfVerdict
 is-accepted t r e = sym e
 
 pub refused-clears :
     {made : Tables → Outcome} (t : Tables) (r : Results) (x : Refusal) → Judged t r (verdicts.Refused x)
-    → ClearsBy made t r (clearings.Refused x) r
+    → ClearsUnder made t r (clearings.Refused x) r
 unfolding answerOfVerdict answerOfClearing
 refused-clears t r x e =
     record { answered = sym (giving-refused _ _ (sym e)); left = sym (updated-refused _ _ _ (sym e)) }
@@ -154,7 +190,7 @@ pub clear-accepted-clears :
     (made : Tables → Outcome) (asks bays amounts tickets bids : List ℕ) (width : ℕ) (r : Results) {answer : Clearing}
     {exit : Results} → let t = tables asks bays amounts tickets bids width in
     Judged t r verdicts.Accepted → ClearsAccepted (made (regular asks bays amounts tickets bids)) answer exit
-    → ClearsBy made t r answer exit
+    → ClearsUnder made t r answer exit
 clear-accepted-clears made asks bays amounts tickets bids width r e s =
     let t = tables asks bays amounts tickets bids width in
     let v = is-accepted t r e in
@@ -163,3 +199,18 @@ clear-accepted-clears made asks bays amounts tickets bids width r e s =
       answered = s .answered ∙ ap figures o ∙ sym (giving-accepted _ v);
       left = s .left ∙ ap (λ o. o .results) o ∙ sym (updated-accepted _ _ v);
     }
+
+-- the rule's number first
+
+pub unknown-clears :
+    {made : Rule → Tables → Outcome} (rule : ℕ) (t : Tables) (r : Results) → Unknown ≡ named rule
+    → ClearsBy made rule t r (clearings.Refused UnknownRule) r
+unfolding answerOfClearing clearingFaults unknownRule isUnknown firstFault giving updated
+unknown-clears rule t r e = record { answered = rw (← e) refl; left = rw (← e) refl }
+
+pub known-clears :
+    {made : Rule → Tables → Outcome} (rule : ℕ) (known : Rule) (t : Tables) (r : Results) {answer : Clearing}
+    {exit : Results} → Known known ≡ named rule → ClearsUnder (made known) t r answer exit
+    → ClearsBy made rule t r answer exit
+unfolding clearingFaults unknownRule isUnknown ruleIn firstFault
+known-clears rule known t r e c = record { answered = rw (← e) (c .answered); left = rw (← e) (c .left) }

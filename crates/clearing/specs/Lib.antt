@@ -1,1 +1,2 @@
 pub mod ClearsAccepted
+pub mod Decided

@@ -5,6 +5,7 @@ use model::answers::Clearing;
 use model::limits::MAX_GUESTS;
 use model::mechanism::Mechanism;
 use model::money::UnitPrice;
+use model::rule::Rule;
 use pricing::charges;
 use pricing::cut;
 use pricing::margin;
@@ -14,11 +15,13 @@ ghost use lib.ListN.{length};
 ghost use Rattle.model.specs.claims.Meaning.{WithinLimits, RightLengths};
 ghost use Rattle.model.specs.Counting.{list};
 ghost use Rattle.model.specs.market.Market.{market, cut};
-ghost use Rattle.model.specs.market.Outcome.{outcomeIn};
+ghost use Rattle.model.specs.market.Outcome.{outcomeBy, outcomeIn};
 ghost use Rattle.model.specs.contracts.Lent.{regularOf, regularIn, resultsOf, resultsOut};
 ghost use Rattle.pricing.specs.Charges.{leastAt};
 ghost use Rattle.allocation.specs.Stages.{AtCut};
 ghost use Rattle.allocation.specs.Assignment.{Assigned};
+ghost use Rattle.allocation.specs.Screens.{screenedAt};
+ghost use Rattle.clearing.specs.Decided.{decided};
 ghost use Rattle.clearing.specs.ClearsAccepted.{ClearsAccepted};
 
 // Every guest's station and charge.
@@ -36,8 +39,8 @@ fn assign_by(
 )
     requires { ⌜ AtCut (regularOf asks bays amounts tickets bids) (cut .0) (now least) ⌝ }
     requires { ⌜ (length (now stations) ≡ length (now amounts)) × (length (now charges) ≡ length (now amounts)) ⌝ }
-    ensures { λ _. ⌜ Assigned (outcomeIn mechanism (regularIn asks bays amounts tickets bids))
-        (now (stations .exit)) (now (charges .exit)) ⌝ }
+    ensures { λ _. ⌜ (let S = screenedAt (regularIn asks bays amounts tickets bids) (cut .0) in
+        Assigned (outcomeBy S (decided mechanism S)) (now (stations .exit)) (now (charges .exit))) ⌝ }
 {
     match mechanism {
         Mechanism::Truthful => assignment::assign_all(
@@ -68,6 +71,7 @@ fn assign_by(
 // The clearing, with room for each guest's least charge.
 fn clear_with_room(
     mechanism: Mechanism,
+    rule: Rule,
     asks: &[u32],
     bays: &[u16],
     amounts: &[u16],
@@ -83,10 +87,10 @@ fn clear_with_room(
     requires { ⌜ RightLengths (regularOf asks bays amounts tickets bids) (resultsOf stations charges sold paid) ⌝ }
     requires { ⌜ length (now least) ≡ length (now amounts) ⌝ }
     ensures { λ r. ⌜ (let t = regularIn asks bays amounts tickets bids in
-        ClearsAccepted (outcomeIn mechanism t) r (resultsOut stations charges sold paid)
-        × (now (least .exit) ≡ list (length (t .amounts)) (leastAt (t .amounts) (cut (market t))))) ⌝ }
+        ClearsAccepted (outcomeIn mechanism rule t) r (resultsOut stations charges sold paid)
+        × (now (least .exit) ≡ list (length (t .amounts)) (leastAt (t .amounts) (cut (market rule t))))) ⌝ }
 {
-    let cut = cut::cut(asks);
+    let cut = cut::cut(rule, asks);
     charges::least_charges(amounts, cut, least);
     assign_by(
         mechanism,
@@ -109,6 +113,7 @@ fn clear_with_room(
 // required.
 pub fn clear_accepted(
     mechanism: Mechanism,
+    rule: Rule,
     asks: &[u32],
     bays: &[u16],
     amounts: &[u16],
@@ -121,13 +126,14 @@ pub fn clear_accepted(
 ) -> Clearing
     requires { ⌜ WithinLimits (regularOf asks bays amounts tickets bids) ⌝ }
     requires { ⌜ RightLengths (regularOf asks bays amounts tickets bids) (resultsOf stations charges sold paid) ⌝ }
-    ensures { λ r. ⌜ ClearsAccepted (outcomeIn mechanism (regularIn asks bays amounts tickets bids)) r
+    ensures { λ r. ⌜ ClearsAccepted (outcomeIn mechanism rule (regularIn asks bays amounts tickets bids)) r
         (resultsOut stations charges sold paid) ⌝ }
 {
     let mut least = [0u32; MAX_GUESTS];
     let n = amounts.len();
     clear_with_room(
         mechanism,
+        rule,
         asks,
         bays,
         amounts,

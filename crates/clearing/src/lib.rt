@@ -7,13 +7,17 @@ use checks::faults;
 use model::answers::Clearing;
 use model::answers::Verdict;
 use model::mechanism::Mechanism;
+use model::refusal::Refusal;
+use model::rule::NamedRule;
+use model::rule::Rule;
 ghost use Rattle.model.specs.market.Outcome.{outcomeIn};
-ghost use Rattle.model.specs.contracts.Clears.{ClearsBy, Clears, ClearsEfficient};
+ghost use Rattle.model.specs.contracts.Clears.{ClearsUnder, ClearsBy, Clears, ClearsEfficient};
 ghost use Rattle.model.specs.contracts.Lent.{tablesIn, resultsIn, resultsOut};
 
-// Clears a market by a mechanism, or refuses it and writes nothing.
-pub fn clear_by(
+// Clears a market by a mechanism under a rule, or refuses it and writes nothing.
+pub fn clear_under(
     mechanism: Mechanism,
+    rule: Rule,
     asks: &[u32],
     bays: &[u16],
     amounts: &[u16],
@@ -25,7 +29,7 @@ pub fn clear_by(
     sold: &mut [u32],
     paid: &mut [u64],
 ) -> Clearing
-    ensures { λ r. ⌜ ClearsBy (outcomeIn mechanism) (tablesIn asks bays amounts tickets bids width)
+    ensures { λ r. ⌜ ClearsUnder (outcomeIn mechanism rule) (tablesIn asks bays amounts tickets bids width)
         (resultsIn stations charges sold paid) r (resultsOut stations charges sold paid) ⌝ }
 {
     let verdict = faults::clearing_fault(
@@ -44,6 +48,7 @@ pub fn clear_by(
         Verdict::Refused(refusal) => Clearing::Refused(refusal),
         Verdict::Accepted => accepted::clear_accepted(
             mechanism,
+            rule,
             asks,
             bays,
             amounts,
@@ -57,8 +62,10 @@ pub fn clear_by(
     }
 }
 
-// Clears a market, or refuses it and writes nothing.
-pub fn clear(
+// The same under the rule of a number, which is looked at first.
+fn clear_by(
+    mechanism: Mechanism,
+    rule: u8,
     asks: &[u32],
     bays: &[u16],
     amounts: &[u16],
@@ -70,11 +77,48 @@ pub fn clear(
     sold: &mut [u32],
     paid: &mut [u64],
 ) -> Clearing
-    ensures { λ r. ⌜ Clears (tablesIn asks bays amounts tickets bids width) (resultsIn stations charges sold paid) r
-        (resultsOut stations charges sold paid) ⌝ }
+    ensures { λ r. ⌜ ClearsBy (outcomeIn mechanism) rule (tablesIn asks bays amounts tickets bids width)
+        (resultsIn stations charges sold paid) r (resultsOut stations charges sold paid) ⌝ }
+{
+    match NamedRule::named(rule) {
+        NamedRule::Unknown => Clearing::Refused(Refusal::UnknownRule),
+        NamedRule::Known(known) => clear_under(
+            mechanism,
+            known,
+            asks,
+            bays,
+            amounts,
+            tickets,
+            bids,
+            width,
+            stations,
+            charges,
+            sold,
+            paid,
+        ),
+    }
+}
+
+// Clears a market under the rule of a number, or refuses it and writes nothing.
+pub fn clear(
+    rule: u8,
+    asks: &[u32],
+    bays: &[u16],
+    amounts: &[u16],
+    tickets: &[u32],
+    bids: &[u32],
+    width: usize,
+    stations: &mut [u16],
+    charges: &mut [u32],
+    sold: &mut [u32],
+    paid: &mut [u64],
+) -> Clearing
+    ensures { λ r. ⌜ Clears rule (tablesIn asks bays amounts tickets bids width)
+        (resultsIn stations charges sold paid) r (resultsOut stations charges sold paid) ⌝ }
 {
     clear_by(
         Mechanism::Truthful,
+        rule,
         asks,
         bays,
         amounts,
@@ -88,8 +132,9 @@ pub fn clear(
     )
 }
 
-// Clears a market of a quiet day, or refuses it and writes nothing.
+// Clears a market of a quiet day under the rule of a number, or refuses it and writes nothing.
 pub fn clear_efficient(
+    rule: u8,
     asks: &[u32],
     bays: &[u16],
     amounts: &[u16],
@@ -101,11 +146,12 @@ pub fn clear_efficient(
     sold: &mut [u32],
     paid: &mut [u64],
 ) -> Clearing
-    ensures { λ r. ⌜ ClearsEfficient (tablesIn asks bays amounts tickets bids width)
+    ensures { λ r. ⌜ ClearsEfficient rule (tablesIn asks bays amounts tickets bids width)
         (resultsIn stations charges sold paid) r (resultsOut stations charges sold paid) ⌝ }
 {
     clear_by(
         Mechanism::Efficient,
+        rule,
         asks,
         bays,
         amounts,

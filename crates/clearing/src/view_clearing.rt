@@ -8,6 +8,7 @@ ghost use Rattle.model.specs.contracts.Lent.{tablesIn, resultsIn, resultsOut};
 
 // Clears a market whose bids stand in a view, or refuses it and writes nothing: `clear` of what the view holds.
 pub fn clear_table(
+    rule: u8,
     asks: &[u32],
     bays: &[u16],
     amounts: &[u16],
@@ -18,12 +19,13 @@ pub fn clear_table(
     sold: &mut [u32],
     paid: &mut [u64],
 ) -> Clearing
-    ensures { λ r. ⌜ Clears
+    ensures { λ r. ⌜ Clears rule
         (tables (now (asks .entry)) (now (bays .entry)) (now (amounts .entry)) (now (tickets .entry))
         (now (table .entry .bids)) (table .entry .width))
         (resultsIn stations charges sold paid) r (resultsOut stations charges sold paid) ⌝ }
 {
     crate::clear(
+        rule,
         asks,
         bays,
         amounts,
@@ -40,6 +42,7 @@ pub fn clear_table(
 // Clears a market through the view of its bids, or refuses it and writes nothing. Its parameters are plain, so that
 // whoever calls it needs no proof by hand.
 pub fn clear_through_view(
+    rule: u8,
     asks: &[u32],
     bays: &[u16],
     amounts: &[u16],
@@ -51,10 +54,12 @@ pub fn clear_through_view(
     sold: &mut [u32],
     paid: &mut [u64],
 ) -> Clearing
-    ensures { λ r. ⌜ Clears (tablesIn asks bays amounts tickets bids width) (resultsIn stations charges sold paid) r
+    ensures { λ r. ⌜ Clears rule (tablesIn asks bays amounts tickets bids width)
+        (resultsIn stations charges sold paid) r
         (resultsOut stations charges sold paid) ⌝ }
 {
     clear_table(
+        rule,
         asks,
         bays,
         amounts,

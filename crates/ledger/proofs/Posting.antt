@@ -10,11 +10,10 @@ use Rattle.model.specs.Limits.{maxGuests, maxStations, maxAccount}
 use Rattle.model.specs.Counting.{_<?_, _or_, only, any, list}
 use Rattle.model.specs.market.Market.{Tables}
 use Rattle.model.specs.market.Mechanism.{charged, sold, paid, margin}
-use Rattle.model.specs.market.Outcome.{screened, decision}
 use Rattle.model.specs.Verdicts.{Row, _gives_, Verdict, accepted, refused, firstFault, updated}
 use Rattle.model.specs.book.PlainBook.{PlainBook, raised, entered, overLimit, bookSize, outOfTurn, postingFaults}
-use Rattle.model.specs.book.PlainBook.{answer, after}
-use Rattle.model.specs.market.Faults.{outside, marketFaults, verdict}
+use Rattle.model.specs.book.PlainBook.{enteredOf, answer, after}
+use Rattle.model.specs.market.Faults.{outside, unknownRule, marketFaults}
 use Rattle.model.proofs.Tests.{same-test, or-cases, or-left, or-right, or-no, lt-yes, is-lt, not-lt, lt-or-le, only-yes}
 use Rattle.model.proofs.Tests.{only-no}
 use Rattle.model.proofs.Counting.{some-cong, some-mono, getD-list, list-cong}
@@ -34,7 +33,7 @@ use Rattle.ledger.specs.Stations.{soldTo, paidTo, exceedingTo, creditedT
 use Rattle.model.specs.declared.account.StationAccount.{StationAccount}
 use Rattle.model.proofs.book.Records.{length-sold, length-paid}
 use Rattle.ledger.proofs.stations.Stations.{exceeding-is, sold-credited, paid-credited}
-use Rattle.model.specs.book.Posting.{Posting, posting, toGuest, toSold, toPaid, toHouse}
+use Rattle.model.specs.book.Posting.{Posting, posting, screenedOf, decisionOf, toGuest, toSold, toPaid, toHouse}
 use Rattle.model.specs.contracts.Posts.{Posts}
 use Rattle.model.proofs.book.Accounts.{length-raised, getD-raised}
 use Rattle.ledger.specs.Plans.{adding, roundBy, Planned}
@@ -72,7 +71,7 @@ over-raised n f xs e =
 -- only what is above the limit after counts
 over-after :
     (p : Posting) (B : PlainBook)
-    → (overLimit B or overLimit (entered (p .tables) (p .round) B)) ≡ overLimit (entered (p .tables) (p .round) B)
+    → (overLimit B or overLimit (enteredOf p B)) ≡ overLimit (enteredOf p B)
 unfolding overLimit entered
 over-after p B = same-test _ _
     (λ e. ⊎-elim
@@ -119,9 +118,9 @@ accepts-posted verdicts.Accepted e = refl
 accepts-posted (verdicts.Refused x) e = absurd (let z : _≡_ {A = ℕ} 0 1 = cc in omega arith)
 
 -- it does not depend on its number
-same-adding : (t : Tables) (n : ℕ) → adding (posting t 0) ≡ adding (posting t n)
+same-adding : (rule : ℕ) (t : Tables) (n : ℕ) → adding (posting rule t 0) ≡ adding (posting rule t n)
 unfolding adding posted toGuest toSold toPaid toHouse
-same-adding t n = refl
+same-adding rule t n = refl
 
 -- nothing is added past its stations
 none-past :
@@ -135,11 +134,11 @@ none-past m k f h = ⊎-elim
 module _ (p : Posting) where
   no-sales : (k : ℕ) → length (p .tables .asks) ≤ k → soldTo (adding p) k ≡ 0
   unfolding soldTo adding posted toSold
-  no-sales k h = none-past (length (p .tables .asks)) k (sold (screened (p .tables)) (decision (p .tables))) h
+  no-sales k h = none-past (length (p .tables .asks)) k (sold (screenedOf p) (decisionOf p)) h
 
   no-payments : (k : ℕ) → length (p .tables .asks) ≤ k → paidTo (adding p) k ≡ 0
   unfolding paidTo adding posted toPaid
-  no-payments k h = none-past (length (p .tables .asks)) k (paid (screened (p .tables)) (decision (p .tables))) h
+  no-payments k h = none-past (length (p .tables .asks)) k (paid (screenedOf p) (decisionOf p)) h
 
 -- a posting p to the lent book L
 module _ (p : Posting) (L : Book) where
@@ -150,7 +149,7 @@ module _ (p : Posting) (L : Book) where
   m = length (p .tables .asks)
 
   abbrev early : List Row
-  early = marketFaults (p .tables)
+  early = unknownRule (p .rule) ∷ marketFaults (p .tables)
 
   book-size-differs : Bool
   book-size-differs =
@@ -161,9 +160,9 @@ module _ (p : Posting) (L : Book) where
   late over = (book-size-differs gives 13) ∷ outOfTurn (p .round) (L .last) ∷ (over gives 12) ∷ []
 
   after-limit : Bool
-  after-limit = overLimit B or overLimit (entered (p .tables) (p .round) B)
+  after-limit = overLimit B or overLimit (enteredOf p B)
 
-  in-turn : postingFaults (p .tables) (p .round) B ≡ early ++ late after-limit
+  in-turn : postingFaults (p .rule) (p .tables) (p .round) B ≡ early ++ late after-limit
   unfolding postingFaults bookSize late book-size-differs after-limit plain
   in-turn = rw length-sold refl
 
@@ -214,18 +213,18 @@ module _ (p : Posting) (L : Book) where
     unfolding noRoom adding posted toGuest toSold toPaid toHouse overLimit entered after-limit plain
     room-is = rw (
       exceeding-is (adding p) (L .stations) (z .2),
-      exceeding-raised m (sold (screened (p .tables)) (decision (p .tables)))
+      exceeding-raised m (sold (screenedOf p) (decisionOf p))
           (soldOf (L .stations)) maxStations sold-size,
-      exceeding-raised m (paid (screened (p .tables)) (decision (p .tables)))
+      exceeding-raised m (paid (screenedOf p) (decisionOf p))
           (paidOf (L .stations)) maxStations paid-size,
-      exceeding-raised (length (p .tables .amounts)) (charged (screened (p .tables)) (decision (p .tables)))
+      exceeding-raised (length (p .tables .amounts)) (charged (screenedOf p) (decisionOf p))
           (L .guests) maxGuests (z .0),
     )
         (or-rotate _ _ _ _ ∙ sym (over-after p B))
 
-    plus-adding : (plus (L .guests) ((adding p) .charges) ≡ (entered (p .tables) (p .round) B) .guests)
-        × (plus (soldOf (L .stations)) ((adding p) .sold) ≡ (entered (p .tables) (p .round) B) .sold)
-        × (plus (paidOf (L .stations)) ((adding p) .paid) ≡ (entered (p .tables) (p .round) B) .paid)
+    plus-adding : (plus (L .guests) ((adding p) .charges) ≡ (enteredOf p B) .guests)
+        × (plus (soldOf (L .stations)) ((adding p) .sold) ≡ (enteredOf p B) .sold)
+        × (plus (paidOf (L .stations)) ((adding p) .paid) ≡ (enteredOf p B) .paid)
     unfolding adding posted toGuest toSold toPaid entered plain
     plus-adding = (
       plus-raised _ _ (L .guests) maxGuests (z .0),
@@ -248,20 +247,20 @@ module _ (p : Posting) (L : Book) where
       or-no _ _ (or-no _ _ (room-is (accepted-sized e) ∙ limit) .0) .0
 
   -- the code's verdict on the planned round is the plain book's
-  module _ (r : Round) (full : Bool) (er : Planned (p .tables) r)
+  module _ (r : Round) (full : Bool) (er : Planned (p .rule) (p .tables) r)
       (ef : full ≡ exceedingTo r (length (L .stations)) (L .stations)) where
     posted-round : firstFault early ≡ accepted tt → r ≡ adding p
-    unfolding verdict roundBy
+    unfolding roundBy
     posted-round e =
         er .round-is
-        ∙ ap (λ w. roundBy w (posting (p .tables) 0)) (accepts-posted (r .reply) (er .says ∙ e))
-        ∙ same-adding (p .tables) (p .round)
+        ∙ ap (λ w. roundBy w (posting (p .rule) (p .tables) 0)) (accepts-posted (r .reply) (er .says ∙ e))
+        ∙ same-adding (p .rule) (p .tables) (p .round)
 
     abbrev verdict-on : Verdict
     verdict-on = ruled r full (length (L .stations)) (p .round) (L .guests) (L .house) (L .last)
 
     ruled-is : verdict-on ≡ answer B p
-    unfolding verdict ruled answerOfVerdict followed late book-size-differs bookSize adding posted
+    unfolding ruled answerOfVerdict followed late book-size-differs bookSize adding posted
     ruled-is = go (firstFault early) refl
       where
         go : (v : Verdict) → firstFault early ≡ v → verdict-on ≡ answer B p
@@ -286,7 +285,7 @@ module _ (p : Posting) (L : Book) where
       left-by :
           (v : Verdict) → answer B p ≡ v
           → Settled v r (p .round) (L .guests) (L .house) (L .last) s guests′ house′ last′
-          → plain exit ≡ updated v (entered (p .tables) (p .round) B) B
+          → plain exit ≡ updated v (enteredOf p B) B
       unfolding updated plain entered adding posted toHouse creditedTo
       left-by (accepted _) e h =
           let z = accepted-sized e in

@@ -6,12 +6,16 @@ use model::answers::Verdict;
 use model::limits;
 use model::limits::MAX_GUESTS;
 use model::limits::MAX_STATIONS;
+use model::mechanism::Mechanism;
 use model::refusal::Refusal;
+use model::rule::NamedRule;
+use model::rule::Rule;
 ghost use Rattle.model.specs.contracts.Lent.{tablesIn};
-ghost use Rattle.ledger.specs.Plans.{Planned};
+ghost use Rattle.ledger.specs.Plans.{Planned, PlannedUnder};
 
-// The round that the market clears to, or a refused one.
-pub fn plan(
+// The round that the market clears to under a rule, or a refused one.
+fn plan_under(
+    rule: Rule,
     asks: &[u32],
     bays: &[u16],
     amounts: &[u16],
@@ -19,7 +23,7 @@ pub fn plan(
     bids: &[u32],
     width: usize,
 ) -> Round
-    ensures { λ r. ⌜ Planned (tablesIn asks bays amounts tickets bids width) r ⌝ }
+    ensures { λ r. ⌜ PlannedUnder rule (tablesIn asks bays amounts tickets bids width) r ⌝ }
 {
     let n = amounts.len();
     let m = asks.len();
@@ -30,7 +34,9 @@ pub fn plan(
     let mut charges = [0u32; MAX_GUESTS];
     let mut sold = [0u32; MAX_STATIONS];
     let mut paid = [0u64; MAX_STATIONS];
-    let answer = clearing::clear(
+    let answer = clearing::clear_under(
+        Mechanism::Truthful,
+        rule,
         asks,
         bays,
         amounts,
@@ -55,5 +61,23 @@ pub fn plan(
                 reply: Verdict::Accepted,
             }
         }
+    }
+}
+
+// The same under the rule of a number, which is looked at first.
+pub fn plan(
+    rule: u8,
+    asks: &[u32],
+    bays: &[u16],
+    amounts: &[u16],
+    tickets: &[u32],
+    bids: &[u32],
+    width: usize,
+) -> Round
+    ensures { λ r. ⌜ Planned rule (tablesIn asks bays amounts tickets bids width) r ⌝ }
+{
+    match NamedRule::named(rule) {
+        NamedRule::Unknown => round::refusing(Refusal::UnknownRule),
+        NamedRule::Known(known) => plan_under(known, asks, bays, amounts, tickets, bids, width),
     }
 }

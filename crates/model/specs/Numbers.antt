@@ -15,7 +15,7 @@ use Rattle.model.specs.declared.refusal.Refusal.the-variants.{TrailingBy
 use Rattle.model.specs.declared.refusal.Refusal.the-variants.{BaysOutOfRange, AmountOutOfRange, BidOutOfRange}
 use Rattle.model.specs.declared.refusal.Refusal.the-variants.{LentLengths, RoundOutOfTurn, AccountOverLimit}
 use Rattle.model.specs.declared.refusal.Refusal.the-variants.{BookSize, OutputTooShort, TicketsRepeat}
-use Rattle.model.specs.declared.refusal.Refusal.the-variants.{CellOffGrid, PriceOrFallOutOfRange}
+use Rattle.model.specs.declared.refusal.Refusal.the-variants.{CellOffGrid, PriceOrFallOutOfRange, UnknownRule}
 
 abbrev pub number : Refusal → ℕ
 number SheetEnds = 1
@@ -35,6 +35,7 @@ number OutputTooShort = 14
 number TicketsRepeat = 15
 number CellOffGrid = 16
 number PriceOrFallOutOfRange = 17
+number UnknownRule = 18
 
 -- of the reader: n and m
 unfoldable pub answerOfReading : Reading → Answer (ℕ × ℕ)

@@ -4,5 +4,6 @@ pub mod Gains
 pub mod Market
 pub mod Mechanism
 pub mod Outcome
+pub mod Rules
 pub mod Shape
 pub mod Stable

@@ -8,4 +8,5 @@ pub mod mechanism;
 pub mod money;
 pub mod page;
 pub mod refusal;
+pub mod rule;
 pub mod word;

@@ -1,9 +1,11 @@
 // What the clearing program is asked to print of a sheet.
+use crate::rule::Rule;
+
 pub enum Page {
-    // The clearing of its market.
-    Clearing,
+    // The clearing of its market by a rule.
+    Clearing(Rule),
     // Its efficient clearing.
-    Efficient,
+    Efficient(Rule),
     // The shortest sheet that states its market.
     Sheet,
 }

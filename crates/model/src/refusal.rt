@@ -21,6 +21,7 @@ pub enum Refusal {
     TicketsRepeat,
     CellOffGrid,
     PriceOrFallOutOfRange,
+    UnknownRule,
 }
 
 impl Refusal {
@@ -46,6 +47,7 @@ impl Refusal {
             Refusal::TicketsRepeat => 15,
             Refusal::CellOffGrid => 16,
             Refusal::PriceOrFallOutOfRange => 17,
+            Refusal::UnknownRule => 18,
         }
     }
 }

@@ -1,1 +1,1 @@
-pub mod MedianAsk
+pub mod CutAsk

@@ -1,3 +1,3 @@
 pub mod Charges
-pub mod MedianAsk
+pub mod CutAsk
 pub mod Sales

@@ -1,8 +1,12 @@
-// The cut: the ask at the middle place of a list of asks.
+// The cut: the ask at its rule's position in a list of asks.
 use model::money::UnitPrice;
-ghost use Prim.Native.Nat.{max};
+use model::rule::Rule;
+ghost use Prim.Native.Nat.{_≤_, max};
 ghost use mathlib.Core.Path.{_≡_};
-ghost use Rattle.pricing.specs.MedianAsk.{under, eligible, medianAsk};
+ghost use lib.ListN.{length};
+ghost use Rattle.model.specs.Limits.{maxStations};
+ghost use Rattle.model.specs.market.Rules.{position as positionOf};
+ghost use Rattle.pricing.specs.CutAsk.{under, eligible, cutAsk};
 
 // How many asks lie below x.
 fn count_below(asks: &[u32], x: UnitPrice) -> usize
@@ -30,11 +34,24 @@ fn raised(asks: &[u32], r: UnitPrice, x: UnitPrice, position: usize) -> UnitPric
     }
 }
 
-// The cut: the ask at position ceil((m + 1) / 2) in rising order, by counting.
-pub fn cut(asks: &[u32]) -> UnitPrice
-    ensures { λ r. ⌜ r .0 ≡ medianAsk (now (asks .entry)) ⌝ }
+// The position of the cut among m asks, from 1.
+fn position(rule: Rule, m: usize) -> usize
+    requires { ⌜ m ≤ maxStations ⌝ }
+    ensures { λ r. ⌜ r ≡ positionOf rule m ⌝ }
 {
-    let position = asks.len() / 2 + 1;
+    match rule {
+        Rule::Median => m / 2 + 1,
+        Rule::TwoThirds => 2 * m / 3 + 1,
+    }
+}
+
+// The cut: the ask at the rule's position in rising order, by counting. There are no more asks than a market has
+// stations.
+pub fn cut(rule: Rule, asks: &[u32]) -> UnitPrice
+    requires { ⌜ length (now asks) ≤ maxStations ⌝ }
+    ensures { λ r. ⌜ r .0 ≡ cutAsk rule (now (asks .entry)) ⌝ }
+{
+    let position = position(rule, asks.len());
     let mut r = UnitPrice(0);
     let mut i = 0;
     while i < asks.len() {

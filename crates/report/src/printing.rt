@@ -6,6 +6,7 @@ use model::limits::MAX_GUESTS;
 use model::limits::MAX_STATIONS;
 use model::mechanism::Mechanism;
 use model::page::Page;
+use model::rule::Rule;
 ghost use Prim.Native.Nat.{_≤_};
 ghost use mathlib.Core.Path.{_≡_};
 ghost use lib.ListN.{length};
@@ -18,6 +19,7 @@ ghost use Rattle.model.specs.contracts.Lent.{regularIn};
 // The text of a market, by way of lent result lists.
 fn print_cleared(
     mechanism: Mechanism,
+    rule: Rule,
     asks: &[u32],
     bays: &[u16],
     amounts: &[u16],
@@ -32,11 +34,12 @@ fn print_cleared(
     requires { ⌜ (length (now amounts) ≤ maxGuests) × (length (now asks) ≤ maxStations) ⌝ }
     requires { ⌜ (length (now stations) ≡ length (now amounts)) × (length (now charges) ≡ length (now amounts))
         × (length (now sold) ≡ length (now asks)) × (length (now paid) ≡ length (now asks)) ⌝ }
-    ensures { λ r. ⌜ Prints (marketTextOf (outcomeIn mechanism) (regularIn asks bays amounts tickets bids))
+    ensures { λ r. ⌜ Prints (marketTextOf (outcomeIn mechanism rule) (regularIn asks bays amounts tickets bids))
         (now (out .entry)) r (now (out .exit)) ⌝ }
 {
-    let answer = clearing::clear_by(
+    let answer = clearing::clear_under(
         mechanism,
+        rule,
         asks,
         bays,
         amounts,
@@ -64,6 +67,7 @@ fn print_cleared(
 
 fn print_clearing(
     mechanism: Mechanism,
+    rule: Rule,
     asks: &[u32],
     bays: &[u16],
     amounts: &[u16],
@@ -72,7 +76,7 @@ fn print_clearing(
     out: &mut [u8],
 ) -> usize
     requires { ⌜ (length (now amounts) ≤ maxGuests) × (length (now asks) ≤ maxStations) ⌝ }
-    ensures { λ r. ⌜ Prints (marketTextOf (outcomeIn mechanism) (regularIn asks bays amounts tickets bids))
+    ensures { λ r. ⌜ Prints (marketTextOf (outcomeIn mechanism rule) (regularIn asks bays amounts tickets bids))
         (now (out .entry)) r (now (out .exit)) ⌝ }
 {
     let n = amounts.len();
@@ -83,6 +87,7 @@ fn print_clearing(
     let mut paid = [0u64; MAX_STATIONS];
     print_cleared(
         mechanism,
+        rule,
         asks,
         bays,
         amounts,
@@ -128,8 +133,9 @@ pub fn print_market(
         (now (out .entry)) r (now (out .exit)) ⌝ }
 {
     match asked {
-        Page::Clearing => print_clearing(
+        Page::Clearing(rule) => print_clearing(
             Mechanism::Truthful,
+            rule,
             asks,
             bays,
             amounts,
@@ -137,8 +143,9 @@ pub fn print_market(
             bids,
             out,
         ),
-        Page::Efficient => print_clearing(
+        Page::Efficient(rule) => print_clearing(
             Mechanism::Efficient,
+            rule,
             asks,
             bays,
             amounts,

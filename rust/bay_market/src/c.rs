@@ -1,7 +1,7 @@
 //! The functions of include/bay_market.h, where each is documented.
 //!
 //! Mind the order of arguments: `bay_market_read` takes amounts, tickets, asks, bays, bids, the others that take a market
-//! asks, bays, amounts, tickets, bids. Amounts and bays have one type, tickets, asks and bids another, so the compiler
+//! asks, bays, amounts, tickets, bids, after the rule's number where they clear. Amounts and bays have one type, tickets, asks and bids another, so the compiler
 //! cannot see a swap. `bay_market_place_bids` takes prices, falls, then the guests' first and second coordinates, then
 //! the stations'. The safe functions name each.
 
@@ -41,6 +41,7 @@ unsafe extern "C" {
     ) -> u8;
 
     pub fn bay_market_clear(
+        rule: u8,
         asks: *const u32, asks_len: usize,
         bays: *const u16, bays_len: usize,
         amounts: *const u16, amounts_len: usize,
@@ -55,6 +56,7 @@ unsafe extern "C" {
     ) -> u8;
 
     pub fn bay_market_clear_efficient(
+        rule: u8,
         asks: *const u32, asks_len: usize,
         bays: *const u16, bays_len: usize,
         amounts: *const u16, amounts_len: usize,
@@ -69,6 +71,7 @@ unsafe extern "C" {
     ) -> u8;
 
     pub fn bay_market_post(
+        rule: u8,
         asks: *const u32, asks_len: usize,
         bays: *const u16, bays_len: usize,
         amounts: *const u16, amounts_len: usize,

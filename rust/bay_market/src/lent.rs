@@ -2,17 +2,18 @@
 //! call has changed none of them.
 //!
 //! ```
+//! use bay_market::Rule;
 //! use bay_market::lent::{Cleared, Market, Results, clear};
 //!
 //! let (amounts, tickets) = (&[3, 3], &[1, 2]);
 //! let market = Market { asks: &[2, 6], bays: &[1, 1], amounts, tickets, bids: &[8, 0, 8, 0], width: 2 };
 //! let (mut stations, mut charges, mut sold, mut paid) = ([0; 2], [0; 2], [0; 2], [0; 2]);
 //! let mut results = Results { stations: &mut stations, charges: &mut charges, sold: &mut sold, paid: &mut paid };
-//! assert_eq!(clear(&market, &mut results), Ok(Cleared { cut: 6, margin: 6 }));
+//! assert_eq!(clear(Rule::Median, &market, &mut results), Ok(Cleared { cut: 6, margin: 6 }));
 //! assert_eq!((stations, charges, sold, paid), ([1, 0], [24, 0], [3, 0], [18, 0]));
 //! ```
 
-use crate::{MAX_BIDS, MAX_GUESTS, MAX_STATIONS, Refusal, StationAccount, c};
+use crate::{MAX_BIDS, MAX_GUESTS, MAX_STATIONS, Refusal, Rule, StationAccount, c};
 
 /// A market: n amounts and tickets, m asks, m bays, n rows of m bids (0: no bid); `width` is the length of a row.
 #[derive(Clone, Copy, Debug)]
@@ -188,15 +189,16 @@ pub fn place_bids(places: &Places, bids: &mut [u32]) -> Result<(), Refusal> {
     })
 }
 
-/// Clears a market in a truthful round: no guest and no station gains by a false report.
-pub fn clear(market: &Market, results: &mut Results) -> Result<Cleared, Refusal> {
-    clear_by(Mechanism::Truthful, market, results)
+/// Clears a market by a rule in a truthful round: no guest and no station gains by a false report.
+pub fn clear(rule: Rule, market: &Market, results: &mut Results) -> Result<Cleared, Refusal> {
+    clear_by(Mechanism::Truthful, rule, market, results)
 }
 
-/// Clears a market by the efficient mechanism, for quiet days: whoever [`clear`] seats is seated here too, and others may
+/// Clears a market by a rule and the efficient mechanism, for quiet days: whoever [`clear`] seats is seated here too, and others may
 /// be. Stations keep the guarantee that truth pays best; guests lose it. Only truthful rounds are posted.
 ///
 /// ```
+/// use bay_market::Rule;
 /// use bay_market::lent::{Cleared, Market, Results, clear_efficient};
 ///
 /// // guest 2 is outbid at station 1, where its total becomes the floor, and is seated at station 2
@@ -204,11 +206,11 @@ pub fn clear(market: &Market, results: &mut Results) -> Result<Cleared, Refusal>
 /// let market = Market { asks: &[0, 0, 1, 1], bays: &[1; 4], amounts, tickets, bids, width: 4 };
 /// let (mut stations, mut charges, mut sold, mut paid) = ([0; 2], [0; 2], [0; 4], [0; 4]);
 /// let mut results = Results { stations: &mut stations, charges: &mut charges, sold: &mut sold, paid: &mut paid };
-/// assert_eq!(clear_efficient(&market, &mut results), Ok(Cleared { cut: 1, margin: 8 }));
+/// assert_eq!(clear_efficient(Rule::Median, &market, &mut results), Ok(Cleared { cut: 1, margin: 8 }));
 /// assert_eq!((stations, charges, sold, paid), ([1, 2], [9, 1], [1, 1, 0, 0], [1, 1, 0, 0]));
 /// ```
-pub fn clear_efficient(market: &Market, results: &mut Results) -> Result<Cleared, Refusal> {
-    clear_by(Mechanism::Efficient, market, results)
+pub fn clear_efficient(rule: Rule, market: &Market, results: &mut Results) -> Result<Cleared, Refusal> {
+    clear_by(Mechanism::Efficient, rule, market, results)
 }
 
 enum Mechanism {
@@ -217,7 +219,7 @@ enum Mechanism {
 }
 
 #[rustfmt::skip] // pointer and length on one line
-fn clear_by(mechanism: Mechanism, market: &Market, results: &mut Results) -> Result<Cleared, Refusal> {
+fn clear_by(mechanism: Mechanism, rule: Rule, market: &Market, results: &mut Results) -> Result<Cleared, Refusal> {
     let mut cleared = Cleared { cut: 0, margin: 0 };
     let clear = match mechanism {
         Mechanism::Truthful => c::bay_market_clear,
@@ -226,6 +228,7 @@ fn clear_by(mechanism: Mechanism, market: &Market, results: &mut Results) -> Res
     // SAFETY: as in `write`.
     let answer = unsafe {
         clear(
+            rule.number(),
             market.asks.as_ptr(), market.asks.len(),
             market.bays.as_ptr(), market.bays.len(),
             market.amounts.as_ptr(), market.amounts.len(),
@@ -242,12 +245,13 @@ fn clear_by(mechanism: Mechanism, market: &Market, results: &mut Results) -> Res
     Refusal::check(answer).map(|()| cleared)
 }
 
-/// Clears a market as [`clear`] does and posts it to the ledger as a round.
+/// Clears a market by a rule as [`clear`] does and posts it to the ledger as a round.
 #[rustfmt::skip] // pointer and length on one line
-pub fn post(market: &Market, round: u32, ledger: &mut Ledger) -> Result<(), Refusal> {
+pub fn post(rule: Rule, market: &Market, round: u32, ledger: &mut Ledger) -> Result<(), Refusal> {
     // SAFETY: as in `write`; StationAccount has the header's layout.
     Refusal::check(unsafe {
         c::bay_market_post(
+            rule.number(),
             market.asks.as_ptr(), market.asks.len(),
             market.bays.as_ptr(), market.bays.len(),
             market.amounts.as_ptr(), market.amounts.len(),

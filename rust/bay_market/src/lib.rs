@@ -4,18 +4,18 @@
 //! the caller lends, and [`c`] the functions of the C header.
 //!
 //! ```
-//! use bay_market::{Ledger, Market, Refusal};
+//! use bay_market::{Ledger, Market, Refusal, Rule};
 //!
 //! let (amounts, tickets) = (vec![3, 3], vec![1, 2]);
 //! let market = Market { asks: vec![2, 6], bays: vec![1, 1], amounts, tickets, bids: vec![8, 0, 8, 0] };
-//! let clearing = market.clear()?;
+//! let clearing = market.clear(Rule::Median)?;
 //! assert_eq!((clearing.cut, clearing.stations, clearing.charges), (6, vec![1, 0], vec![24, 0]));
 //! assert_eq!(Market::read(&market.to_sheet()?)?, market);
 //!
 //! let mut ledger = Ledger::new(2, 2);
-//! ledger.post(&market, 1)?;
+//! ledger.post(Rule::Median, &market, 1)?;
 //! assert_eq!((ledger.house, ledger.last), (6, 1));
-//! let refusal = ledger.post(&market, 1).unwrap_err();
+//! let refusal = ledger.post(Rule::Median, &market, 1).unwrap_err();
 //! assert_eq!(refusal, Refusal::RoundOutOfTurn);
 //! println!("refused {}: {refusal}", refusal.number());
 //! # Ok::<(), Refusal>(())
@@ -48,6 +48,32 @@ pub const MAX_ACCOUNT: u64 = 1_000_000_000_000_000;
 pub const MAX_ROUND: u32 = u32::MAX;
 /// Bytes of stack that a call of the engine takes at most.
 pub const MAX_STACK: usize = 16_384;
+
+/// The rule of a clearing or posting: the position of the cut, from 1, among the m asks in rising order.
+#[derive(Clone, Copy, Debug, PartialEq, Eq, Hash)]
+#[repr(u8)]
+pub enum Rule {
+    /// Rule 1: ceil((m + 1) / 2).
+    Median = 1,
+    /// Rule 2: floor(2 m / 3) + 1.
+    TwoThirds = 2,
+}
+
+impl Rule {
+    /// Its number in the header.
+    pub const fn number(self) -> u8 {
+        self as u8
+    }
+
+    /// The rule with a number of the header.
+    pub const fn from_number(number: u8) -> Option<Rule> {
+        match number {
+            1 => Some(Rule::Median),
+            2 => Some(Rule::TwoThirds),
+            _ => None,
+        }
+    }
+}
 
 /// A station's account.
 #[repr(C)]
@@ -99,6 +125,14 @@ mod tests {
         assert_eq!(Refusal::check(0), Ok(()));
         let beyond = Refusal::ALL.len() as u8 + 1;
         assert_eq!((Refusal::from_number(0), Refusal::from_number(beyond)), (None, None));
+    }
+
+    #[test]
+    fn rules_keep_their_numbers() {
+        for (number, rule) in [(0, None), (1, Some(Rule::Median)), (2, Some(Rule::TwoThirds)), (3, None), (255, None)] {
+            assert_eq!(Rule::from_number(number), rule);
+            assert!(rule.is_none_or(|rule| rule.number() == number));
+        }
     }
 
     #[test]

@@ -1,6 +1,6 @@
 //! The engine over lists of its own.
 
-use crate::{MAX_BIDS, MAX_GUESTS, MAX_SHEET, MAX_STATIONS, Refusal, StationAccount, lent};
+use crate::{MAX_BIDS, MAX_GUESTS, MAX_SHEET, MAX_STATIONS, Refusal, Rule, StationAccount, lent};
 
 /// A market: n amounts and tickets, m asks, m bays, and n times m bids, guest after guest (0: no bid).
 #[derive(Clone, Debug, Default, PartialEq, Eq)]
@@ -99,38 +99,51 @@ impl Market {
         Ok(sheet[..length].into())
     }
 
-    /// The truthful round: no guest and no station gains by a false report.
-    pub fn clear(&self) -> Result<Clearing, Refusal> {
-        self.clear_by(lent::clear)
+    /// The truthful round by a rule: no guest and no station gains by a false report.
+    ///
+    /// ```
+    /// use bay_market::{Market, Refusal, Rule};
+    ///
+    /// // asks 1 to 6: station 4 is open under rule 2 alone
+    /// let (asks, bays) = (vec![1, 2, 3, 4, 5, 6], vec![1; 6]);
+    /// let market = Market { asks, bays, amounts: vec![1], tickets: vec![1], bids: vec![0, 0, 0, 9, 0, 0] };
+    /// let (first, second) = (market.clear(Rule::Median)?, market.clear(Rule::TwoThirds)?);
+    /// assert_eq!((first.cut, first.stations), (4, vec![0]));
+    /// assert_eq!((second.cut, second.stations), (5, vec![4]));
+    /// # Ok::<(), Refusal>(())
+    /// ```
+    pub fn clear(&self, rule: Rule) -> Result<Clearing, Refusal> {
+        self.clear_by(rule, lent::clear)
     }
 
-    /// The efficient round, for quiet days: whoever [`clear`](Market::clear) seats is seated here too, and others may be.
+    /// The efficient round by a rule, for quiet days: whoever [`clear`](Market::clear) seats is seated here too, and others may be.
     /// Stations keep the guarantee that truth pays best; guests lose it. Only truthful rounds are posted.
     ///
     /// ```
-    /// use bay_market::{Market, Refusal};
+    /// use bay_market::{Market, Refusal, Rule};
     ///
     /// // of two stations that are open guest 1 bids at the first and guest 2 at both; each has one bay
     /// let (asks, bays) = (vec![0, 0, 1, 1], vec![1; 4]);
     /// let bids = vec![10, 0, 0, 0, 9, 5, 0, 0];
     /// let market = Market { asks, bays, amounts: vec![1, 1], tickets: vec![1, 2], bids };
-    /// let clearing = market.clear_efficient()?;
+    /// let clearing = market.clear_efficient(Rule::Median)?;
     /// assert_eq!((clearing.stations, clearing.charges), (vec![1, 2], vec![9, 1]));
     /// # Ok::<(), Refusal>(())
     /// ```
-    pub fn clear_efficient(&self) -> Result<Clearing, Refusal> {
-        self.clear_by(lent::clear_efficient)
+    pub fn clear_efficient(&self, rule: Rule) -> Result<Clearing, Refusal> {
+        self.clear_by(rule, lent::clear_efficient)
     }
 
     fn clear_by(
         &self,
-        clear: impl Fn(&lent::Market, &mut lent::Results) -> Result<lent::Cleared, Refusal>,
+        rule: Rule,
+        clear: impl Fn(Rule, &lent::Market, &mut lent::Results) -> Result<lent::Cleared, Refusal>,
     ) -> Result<Clearing, Refusal> {
         let (n, m) = within_limits(self.amounts.len(), self.asks.len());
         let (mut seats, mut charges) = (vec![0; n], vec![0; n]);
         let (mut sold, mut paid) = (vec![0; m], vec![0; m]);
         let mut results = lent::Results { stations: &mut seats, charges: &mut charges, sold: &mut sold, paid: &mut paid };
-        let lent::Cleared { cut, margin } = clear(&self.lend(), &mut results)?;
+        let lent::Cleared { cut, margin } = clear(rule, &self.lend(), &mut results)?;
         Ok(Clearing { cut, stations: seats, charges, sold, paid, margin })
     }
 
@@ -150,7 +163,7 @@ impl Places {
     /// The bids of a market, guest after guest: price less fall times walk, or 0 where that is negative.
     ///
     /// ```
-    /// use bay_market::{Cell, Market, Places, Refusal};
+    /// use bay_market::{Cell, Market, Places, Refusal, Rule};
     ///
     /// let cell = |first, second| Cell { first, second };
     /// let places = Places {
@@ -164,7 +177,7 @@ impl Places {
     ///
     /// // it clears as any other market: of two equal prices the nearer guest has the bay
     /// let (amounts, tickets) = (vec![10, 10], vec![1, 2]);
-    /// let clearing = Market { asks: vec![200, 300], bays: vec![1, 1], amounts, tickets, bids }.clear()?;
+    /// let clearing = Market { asks: vec![200, 300], bays: vec![1, 1], amounts, tickets, bids }.clear(Rule::Median)?;
     /// assert_eq!((clearing.stations, clearing.charges), (vec![0, 1], vec![0, 4_000]));
     /// # Ok::<(), Refusal>(())
     /// ```
@@ -202,9 +215,10 @@ impl Ledger {
         Ledger { guests: vec![0; guests], stations: vec![StationAccount::default(); stations], house: 0, last: 0 }
     }
 
-    /// Clears a market as [`Market::clear`] does and posts it as a round. A refused one leaves the ledger as it is.
-    pub fn post(&mut self, market: &Market, round: u32) -> Result<(), Refusal> {
-        lent::post(&market.lend(), round, &mut self.lend())
+    /// Clears a market by a rule as [`Market::clear`] does and posts it as a round. A refused one leaves the ledger as it
+    /// is.
+    pub fn post(&mut self, rule: Rule, market: &Market, round: u32) -> Result<(), Refusal> {
+        lent::post(rule, &market.lend(), round, &mut self.lend())
     }
 
     pub fn lend(&mut self) -> lent::Ledger<'_> {
@@ -230,15 +244,15 @@ mod tests {
         assert_eq!(Market::read(&SHEET_E), Ok(case_e()));
         let expected =
             Clearing { cut: 6, stations: vec![1, 0], charges: vec![24, 0], sold: vec![3, 0], paid: vec![18, 0], margin: 6 };
-        assert_eq!(case_e().clear(), Ok(expected));
+        assert_eq!(case_e().clear(Rule::Median), Ok(expected));
     }
 
     #[test]
     fn the_lower_ticket_goes_first() {
-        let clearing = Market { tickets: vec![9, 4], ..case_e() }.clear().unwrap();
+        let clearing = Market { tickets: vec![9, 4], ..case_e() }.clear(Rule::Median).unwrap();
         assert_eq!((clearing.stations, clearing.charges), (vec![0, 1], vec![0, 24]));
-        assert_eq!(Market { tickets: vec![4, 4], ..case_e() }.clear(), Err(Refusal::TicketsRepeat));
-        assert_eq!(Market { tickets: vec![4], ..case_e() }.clear(), Err(Refusal::LengthsDiffer));
+        assert_eq!(Market { tickets: vec![4, 4], ..case_e() }.clear(Rule::Median), Err(Refusal::TicketsRepeat));
+        assert_eq!(Market { tickets: vec![4], ..case_e() }.clear(Rule::Median), Err(Refusal::LengthsDiffer));
     }
 
     fn table_i() -> Market {
@@ -261,10 +275,10 @@ mod tests {
     fn clears_table_i_in_both_rounds() {
         let (stations, charges) = (vec![4, 0, 2, 0, 0], vec![15, 0, 18, 0, 0]);
         let (sold, paid) = (vec![0, 6, 0, 5, 0], vec![0, 18, 0, 15, 0]);
-        assert_eq!(table_i().clear(), Ok(Clearing { cut: 3, stations, charges, sold, paid, margin: 0 }));
+        assert_eq!(table_i().clear(Rule::Median), Ok(Clearing { cut: 3, stations, charges, sold, paid, margin: 0 }));
         let (stations, charges) = (vec![4, 0, 2, 2, 4], vec![15, 0, 18, 12, 9]);
         let (sold, paid) = (vec![0, 10, 0, 8, 0], vec![0, 30, 0, 24, 0]);
-        assert_eq!(table_i().clear_efficient(), Ok(Clearing { cut: 3, stations, charges, sold, paid, margin: 0 }));
+        assert_eq!(table_i().clear_efficient(Rule::Median), Ok(Clearing { cut: 3, stations, charges, sold, paid, margin: 0 }));
     }
 
     #[test]
@@ -288,12 +302,12 @@ mod tests {
     #[test]
     fn refuses_what_the_lists_cannot_be() {
         assert_eq!(Market::default().to_sheet(), Err(Refusal::CountsOutOfRange));
-        assert_eq!(Market::default().clear(), Err(Refusal::CountsOutOfRange));
-        assert_eq!(Market { amounts: vec![1; 201], ..case_e() }.clear(), Err(Refusal::CountsOutOfRange));
-        assert_eq!(Market { bays: vec![1], ..case_e() }.clear(), Err(Refusal::LengthsDiffer));
-        assert_eq!(Market::default().clear_efficient(), Err(Refusal::CountsOutOfRange));
-        assert_eq!(Market { amounts: vec![1; 201], ..case_e() }.clear_efficient(), Err(Refusal::CountsOutOfRange));
-        assert_eq!(Market { bays: vec![1], ..case_e() }.clear_efficient(), Err(Refusal::LengthsDiffer));
+        assert_eq!(Market::default().clear(Rule::Median), Err(Refusal::CountsOutOfRange));
+        assert_eq!(Market { amounts: vec![1; 201], ..case_e() }.clear(Rule::Median), Err(Refusal::CountsOutOfRange));
+        assert_eq!(Market { bays: vec![1], ..case_e() }.clear(Rule::Median), Err(Refusal::LengthsDiffer));
+        assert_eq!(Market::default().clear_efficient(Rule::Median), Err(Refusal::CountsOutOfRange));
+        assert_eq!(Market { amounts: vec![1; 201], ..case_e() }.clear_efficient(Rule::Median), Err(Refusal::CountsOutOfRange));
+        assert_eq!(Market { bays: vec![1], ..case_e() }.clear_efficient(Rule::Median), Err(Refusal::LengthsDiffer));
     }
 
     fn cells<const N: usize>(cells: [(u16, u16); N]) -> Vec<Cell> {
@@ -317,9 +331,23 @@ mod tests {
     #[test]
     fn posts_case_e_once() {
         let mut ledger = Ledger::new(3, 2);
-        assert_eq!(ledger.post(&case_e(), 1), Ok(()));
-        assert_eq!(ledger.post(&case_e(), 1), Err(Refusal::RoundOutOfTurn));
+        assert_eq!(ledger.post(Rule::Median, &case_e(), 1), Ok(()));
+        assert_eq!(ledger.post(Rule::Median, &case_e(), 1), Err(Refusal::RoundOutOfTurn));
         let stations = vec![StationAccount { sold: 3, paid: 18 }, StationAccount::default()];
         assert_eq!(ledger, Ledger { guests: vec![24, 0, 0], stations, house: 6, last: 1 });
+    }
+
+    #[test]
+    fn asks_1_to_6_have_a_cut_by_each_rule() {
+        let (asks, bays) = (vec![1, 2, 3, 4, 5, 6], vec![1; 6]);
+        let six = Market { asks, bays, amounts: vec![1], tickets: vec![1], bids: vec![0, 0, 0, 9, 0, 0] };
+        let cleared = |clearing: Clearing| (clearing.cut, clearing.stations[0], clearing.charges[0]);
+        assert_eq!(six.clear(Rule::Median).map(cleared), Ok((4, 0, 0)));
+        assert_eq!(six.clear(Rule::TwoThirds).map(cleared), Ok((5, 4, 5)));
+        assert_eq!(six.clear_efficient(Rule::TwoThirds).map(cleared), Ok((5, 4, 5)));
+        let mut ledger = Ledger::new(1, 6);
+        assert_eq!(ledger.post(Rule::Median, &six, 1), Ok(()));
+        assert_eq!(ledger.post(Rule::TwoThirds, &six, 2), Ok(()));
+        assert_eq!((ledger.guests[0], ledger.stations[3].paid, ledger.last), (5, 5, 2));
     }
 }

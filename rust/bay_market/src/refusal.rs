@@ -38,11 +38,13 @@ pub enum Refusal {
     CellOffGrid = 16,
     /// a price or fall is above 1,000,000
     PriceOrFallOutOfRange = 17,
+    /// the number names no rule: it is neither 1 nor 2
+    UnknownRule = 18,
 }
 
 impl Refusal {
     /// All refusals, by rising number.
-    pub const ALL: [Refusal; 17] = [
+    pub const ALL: [Refusal; 18] = [
         Refusal::SheetEnds,
         Refusal::CountsOutOfRange,
         Refusal::StrayBit,
@@ -60,6 +62,7 @@ impl Refusal {
         Refusal::TicketsRepeat,
         Refusal::CellOffGrid,
         Refusal::PriceOrFallOutOfRange,
+        Refusal::UnknownRule,
     ];
 
     /// What the refusal says.
@@ -82,6 +85,7 @@ impl Refusal {
             Refusal::TicketsRepeat => "two guests have the same ticket",
             Refusal::CellOffGrid => "a cell is off the grid: a coordinate is above 31",
             Refusal::PriceOrFallOutOfRange => "a price or fall is above 1,000,000",
+            Refusal::UnknownRule => "the number names no rule: it is neither 1 nor 2",
         }
     }
 }

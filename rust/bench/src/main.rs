@@ -4,7 +4,7 @@ mod baseline;
 
 use baseline::Scratch;
 use bay_market::lent::{self, Cleared, Counts, Results, Tables};
-use bay_market::{Ledger, MAX_BIDS, MAX_GUESTS, MAX_SHEET, MAX_STATIONS, StationAccount};
+use bay_market::{Ledger, MAX_BIDS, MAX_GUESTS, MAX_SHEET, MAX_STATIONS, Rule, StationAccount};
 use reference::clearing::{self, Outcome};
 use reference::market::Market;
 use reference::places::{self, Places};
@@ -89,22 +89,24 @@ fn lend(market: &Market) -> lent::Market<'_> {
     }
 }
 
-type Clear = fn(&mut Scratch, &lent::Market, &mut Results) -> Result<Cleared, u8>;
+type Clear = fn(&mut Scratch, Rule, &lent::Market, &mut Results) -> Result<Cleared, u8>;
 
 const TRUTHFUL: [Clear; 3] = [
-    |_, market, results| lent::clear(market, results).map_err(|refusal| refusal.number()),
-    |scratch, market, results| baseline::clear(scratch, market, results, baseline::select),
-    |scratch, market, results| baseline::clear(scratch, market, results, baseline::sort),
+    |_, rule, market, results| lent::clear(rule, market, results).map_err(|refusal| refusal.number()),
+    |scratch, rule, market, results| baseline::clear(scratch, rule, market, results, baseline::select),
+    |scratch, rule, market, results| baseline::clear(scratch, rule, market, results, baseline::sort),
 ];
 
-const EFFICIENT: [Clear; 2] =
-    [|_, market, results| lent::clear_efficient(market, results).map_err(|refusal| refusal.number()), baseline::clear_efficient];
+const EFFICIENT: [Clear; 2] = [
+    |_, rule, market, results| lent::clear_efficient(rule, market, results).map_err(|refusal| refusal.number()),
+    baseline::clear_efficient,
+];
 
 /// Every contender's outcome is the reference's.
-fn verify_clearing(scratch: &mut Scratch, market: &Market, contenders: &[Clear], expected: &Outcome) {
+fn verify_clearing(scratch: &mut Scratch, rule: Rule, market: &Market, contenders: &[Clear], expected: &Outcome) {
     for clear in contenders {
         let mut lists = Lists::new(market);
-        let cleared = clear(scratch, &lend(market), &mut lists.lend()).expect("an accepted market");
+        let cleared = clear(scratch, rule, &lend(market), &mut lists.lend()).expect("an accepted market");
         let outcome = Outcome {
             cut: cleared.cut.into(),
             stations: lists.stations.iter().map(|&station| station.into()).collect(),
@@ -123,39 +125,42 @@ fn full() -> Shape {
 }
 
 /// The cases of clearing.
-fn cases() -> [(&'static str, Shape); 11] {
+fn cases() -> [(&'static str, Rule, Shape); 12] {
     let full = full();
     let candidates = Shape { asks: 0..=500_000, bids: 500_000..=1_000_000, bays: 1..=10, ..full.clone() };
     let tied = Shape { bids: 700_000..=700_000, amounts: 50..=50, ..candidates.clone() };
     let small = Shape { guests: 100..=100, stations: 10..=10, bays: 1..=10, ..full.clone() };
     let mixed = |shape: &Shape| Shape { tickets: random::mixed, ..shape.clone() };
     [
-        ("200 by 40, bays 1 to 200", full.clone()),
-        ("200 by 40, bays 1 to 10", Shape { bays: 1..=10, ..full.clone() }),
-        ("200 by 40, bays 1", Shape { bays: 1..=1, ..full.clone() }),
-        ("200 by 40, bays 200", Shape { bays: 200..=200, ..full.clone() }),
-        ("200 by 40, all candidates, bays 1 to 10", candidates.clone()),
-        ("200 by 40, all candidates, bays 1 to 200", Shape { bays: 1..=200, ..candidates }),
-        ("200 by 40, all totals tied, bays 1 to 10", tied.clone()),
-        ("100 by 10, bays 1 to 10", small.clone()),
-        ("200 by 40, bays 1 to 200, random tickets", mixed(&full)),
-        ("200 by 40, all totals tied, bays 1 to 10, random tickets", mixed(&tied)),
-        ("100 by 10, bays 1 to 10, random tickets", mixed(&small)),
+        ("200 by 40, bays 1 to 200", Rule::Median, full.clone()),
+        ("200 by 40, bays 1 to 10", Rule::Median, Shape { bays: 1..=10, ..full.clone() }),
+        ("200 by 40, bays 1", Rule::Median, Shape { bays: 1..=1, ..full.clone() }),
+        ("200 by 40, bays 200", Rule::Median, Shape { bays: 200..=200, ..full.clone() }),
+        ("200 by 40, all candidates, bays 1 to 10", Rule::Median, candidates.clone()),
+        ("200 by 40, all candidates, bays 1 to 200", Rule::Median, Shape { bays: 1..=200, ..candidates }),
+        ("200 by 40, all totals tied, bays 1 to 10", Rule::Median, tied.clone()),
+        ("100 by 10, bays 1 to 10", Rule::Median, small.clone()),
+        ("200 by 40, bays 1 to 200, random tickets", Rule::Median, mixed(&full)),
+        ("200 by 40, all totals tied, bays 1 to 10, random tickets", Rule::Median, mixed(&tied)),
+        ("100 by 10, bays 1 to 10, random tickets", Rule::Median, mixed(&small)),
+        ("200 by 40, bays 1 to 10, rule 2", Rule::TwoThirds, Shape { bays: 1..=10, ..full }),
     ]
 }
 
 /// Times the engine, the first contender, and the baselines on every case of clearing.
-fn clearings(random: &mut Random, contenders: &[Clear], expected: fn(&Market) -> Outcome) {
-    for (name, shape) in cases() {
+fn clearings(random: &mut Random, contenders: &[Clear], expected: fn(u8, &Market) -> Outcome) {
+    for (name, rule, shape) in cases() {
         let markets: Vec<Market> = (0..MARKETS).map(|_| shape.market(random)).collect();
         let mut scratch = Scratch::new();
-        markets.iter().for_each(|market| verify_clearing(&mut scratch, market, contenders, &expected(market)));
+        for market in &markets {
+            verify_clearing(&mut scratch, rule, market, contenders, &expected(rule.number(), market));
+        }
         let mut runs: Vec<_> = contenders
             .iter()
             .map(|clear| {
                 let (mut scratch, mut lists) = (Scratch::new(), Lists::new(&markets[0]));
                 move |market: &Market| {
-                    black_box(clear(&mut scratch, &lend(market), &mut lists.lend())).expect("an accepted market");
+                    black_box(clear(&mut scratch, rule, &lend(market), &mut lists.lend())).expect("an accepted market");
                 }
             })
             .collect();
@@ -280,8 +285,10 @@ fn plain(ledger: &Ledger) -> ledger::Ledger {
 
 type Post = fn(&mut Scratch, &lent::Market, u32, &mut lent::Ledger) -> Result<(), u8>;
 
-const POSTINGS: [Post; 2] =
-    [|_, market, round, ledger| lent::post(market, round, ledger).map_err(|refusal| refusal.number()), baseline::post];
+const POSTINGS: [Post; 2] = [
+    |_, market, round, ledger| lent::post(Rule::Median, market, round, ledger).map_err(|refusal| refusal.number()),
+    |scratch, market, round, ledger| baseline::post(scratch, Rule::Median, market, round, ledger),
+];
 
 fn postings(random: &mut Random) {
     print_head("posting", &["select"]);
@@ -295,7 +302,7 @@ fn postings(random: &mut Random) {
             black_box(post(scratch, &lend(market), round, &mut ledger.lend())).expect("an accepted posting");
         };
         for (round, market) in (1..).zip(&markets) {
-            expected.post(market, round).expect("an accepted posting");
+            expected.post(1, market, round).expect("an accepted posting");
             for (post, working) in POSTINGS.iter().zip(&mut working) {
                 run(*post, market, working);
                 assert!(plain(&working.1) == expected, "a contender differs from the reference");

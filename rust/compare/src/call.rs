@@ -5,7 +5,7 @@ use crate::lent::Lent;
 use bay_market::c::{
     bay_market_clear, bay_market_clear_efficient, bay_market_place_bids, bay_market_post, bay_market_read, bay_market_write,
 };
-use bay_market::{Cell, MAX_BIDS, MAX_GUESTS, MAX_SHEET, MAX_STATIONS, Refusal, StationAccount, lent};
+use bay_market::{Cell, MAX_BIDS, MAX_GUESTS, MAX_SHEET, MAX_STATIONS, Refusal, Rule, StationAccount, lent};
 use reference::clearing::{self, Outcome};
 use reference::faults::{ListLengths, OUTPUT_TOO_SHORT};
 use reference::ledger::Ledger;
@@ -341,47 +341,49 @@ pub enum Mechanism {
 
 impl Mechanism {
     /// The reference's clearing of an accepted market.
-    pub fn expected(self, market: &Market) -> Outcome {
+    pub fn expected(self, rule: u8, market: &Market) -> Outcome {
         match self {
-            Mechanism::Truthful => clearing::clear(market),
-            Mechanism::Efficient => clearing::clear_efficient(market),
+            Mechanism::Truthful => clearing::clear(rule, market),
+            Mechanism::Efficient => clearing::clear_efficient(rule, market),
         }
     }
 
     /// The engine's clearing, by the types that own their lists.
-    pub fn clear(self, market: &Market) -> Result<bay_market::Clearing, u8> {
+    pub fn clear(self, rule: Rule, market: &Market) -> Result<bay_market::Clearing, u8> {
         let cleared = match self {
-            Mechanism::Truthful => own(market).clear(),
-            Mechanism::Efficient => own(market).clear_efficient(),
+            Mechanism::Truthful => own(market).clear(rule),
+            Mechanism::Efficient => own(market).clear_efficient(rule),
         };
         cleared.map_err(Refusal::number)
     }
 }
 
-/// What a clearing is lent: a market, and result lists of these lengths.
+/// What a clearing is lent: the number of a rule, a market, and result lists of these lengths.
 #[derive(Clone, Copy)]
 pub struct Clearing<'a> {
     pub mechanism: Mechanism,
+    pub rule: u8,
     pub market: &'a Market,
     pub lists: ListLengths,
 }
 
 /// Clears a market and holds answer and memory to what is expected.
 pub fn clear(random: &mut Random, clearing: Clearing, expected: &Result<Outcome, u8>) -> Result<(), String> {
-    let Clearing { mechanism, market, lists } = clearing;
-    each_way(|way| match way {
-        Way::C | Way::Slices => clear_lent(way, random, clearing, expected),
-        Way::Owned if market.width != market.stations() || lists != ListLengths::of(market) => Ok(()),
-        Way::Owned => {
+    let Clearing { mechanism, rule, market, lists } = clearing;
+    each_way(|way| match (way, Rule::from_number(rule)) {
+        (Way::C, _) | (Way::Slices, Some(_)) => clear_lent(way, random, clearing, expected),
+        (_, None) => Ok(()), // the types do not let it happen
+        (Way::Owned, _) if market.width != market.stations() || lists != ListLengths::of(market) => Ok(()),
+        (Way::Owned, Some(rule)) => {
             let expected = expected.as_ref().map(own_outcome).map_err(|&number| number);
-            require(mechanism.clear(market) == expected, "the owned clearing differs")
+            require(mechanism.clear(rule, market) == expected, "the owned clearing differs")
         }
     })
 }
 
 #[rustfmt::skip] // pointer and length on one line
 fn clear_lent(way: Way, random: &mut Random, clearing: Clearing, expected: &Result<Outcome, u8>) -> Result<(), String> {
-    let Clearing { mechanism, market, lists } = clearing;
+    let Clearing { mechanism, rule, market, lists } = clearing;
     let in_c = match mechanism {
         Mechanism::Truthful => bay_market_clear,
         Mechanism::Efficient => bay_market_clear_efficient,
@@ -401,6 +403,7 @@ fn clear_lent(way: Way, random: &mut Random, clearing: Clearing, expected: &Resu
         // SAFETY: as in `read_lent`.
         Way::C => unsafe {
             in_c(
+                rule,
                 tables.asks.pointer(), tables.asks.len(),
                 tables.bays.pointer(), tables.bays.len(),
                 tables.amounts.pointer(), tables.amounts.len(),
@@ -418,7 +421,7 @@ fn clear_lent(way: Way, random: &mut Random, clearing: Clearing, expected: &Resu
             let mut results = lent::Results {
                 stations: stations.slice(), charges: charges.slice(), sold: sold.slice(), paid: paid.slice(),
             };
-            numbered(in_slices(&tables.lend(market.width), &mut results), |cleared| {
+            numbered(in_slices(known(rule), &tables.lend(market.width), &mut results), |cleared| {
                 *cut.number() = cleared.cut;
                 *margin.number() = cleared.margin;
             })
@@ -438,8 +441,14 @@ fn clear_lent(way: Way, random: &mut Random, clearing: Clearing, expected: &Resu
     require(paid.holds(outcome.paid.iter().map(|&paid| narrow(paid))), "payments differ")
 }
 
+/// The rule of a number that names one.
+fn known(rule: u8) -> Rule {
+    Rule::from_number(rule).expect("a rule")
+}
+
 /// A posting to a ledger as it is before, and the ledger as it is to be after.
 pub struct Posting<'a> {
+    pub rule: u8,
     pub market: &'a Market,
     pub round: u32,
     pub before: &'a Ledger,
@@ -449,13 +458,14 @@ pub struct Posting<'a> {
 
 /// Posts a market and holds answer and memory to what is expected.
 pub fn post(random: &mut Random, posting: &Posting) -> Result<(), String> {
-    let Posting { market, round, before, expected, after } = *posting;
-    each_way(|way| match way {
-        Way::C | Way::Slices => post_lent(way, random, posting),
-        Way::Owned if market.width != market.stations() => Ok(()),
-        Way::Owned => {
+    let Posting { rule, market, round, before, expected, after } = *posting;
+    each_way(|way| match (way, Rule::from_number(rule)) {
+        (Way::C, _) | (Way::Slices, Some(_)) => post_lent(way, random, posting),
+        (_, None) => Ok(()), // the types do not let it happen
+        (Way::Owned, _) if market.width != market.stations() => Ok(()),
+        (Way::Owned, Some(rule)) => {
             let mut ledger = own_ledger(before);
-            let answer = ledger.post(&own(market), round).map_err(Refusal::number);
+            let answer = ledger.post(rule, &own(market), round).map_err(Refusal::number);
             require(answer == expected && ledger == own_ledger(after), "the owned ledger differs")
         }
     })
@@ -463,7 +473,7 @@ pub fn post(random: &mut Random, posting: &Posting) -> Result<(), String> {
 
 #[rustfmt::skip] // pointer and length on one line
 fn post_lent(way: Way, random: &mut Random, posting: &Posting) -> Result<(), String> {
-    let Posting { market, round, before, expected, after } = *posting;
+    let Posting { rule, market, round, before, expected, after } = *posting;
     let mut tables = Tables::of(random, market);
     let mut guests: Lent<u64> = Lent::holding(random, &guest_accounts(before));
     let mut stations: Lent<StationAccount> = Lent::holding(random, &station_accounts(before));
@@ -473,6 +483,7 @@ fn post_lent(way: Way, random: &mut Random, posting: &Posting) -> Result<(), Str
         // SAFETY: as in `read_lent`.
         Way::C => unsafe {
             bay_market_post(
+                rule,
                 tables.asks.pointer(), tables.asks.len(),
                 tables.bays.pointer(), tables.bays.len(),
                 tables.amounts.pointer(), tables.amounts.len(),
@@ -488,7 +499,7 @@ fn post_lent(way: Way, random: &mut Random, posting: &Posting) -> Result<(), Str
             let mut ledger = lent::Ledger {
                 guests: guests.slice(), stations: stations.slice(), house: house.number(), last: last.number(),
             };
-            numbered(lent::post(&tables.lend(market.width), round, &mut ledger), |()| ())
+            numbered(lent::post(known(rule), &tables.lend(market.width), round, &mut ledger), |()| ())
         }
     };
     require_answer(answer, &expected)?;

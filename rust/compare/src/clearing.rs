@@ -1,16 +1,16 @@
-//! Clearing against the reference, by both mechanisms.
+//! Clearing against the reference, by both mechanisms and rules, and by numbers of no rule.
 
 use crate::Tally;
 use crate::call::{self, Clearing, Mechanism};
-use crate::markets::{accepted, changes, middling, shapes, show, small, tied};
+use crate::markets::{RULES, accepted, any_rule, changes, middling, shapes, show, small, tied};
 use reference::faults::{ListLengths, clearing_fault};
 use reference::random::{Random, Shape};
 
 fn check(random: &mut Random, tally: &mut Tally, clearing: Clearing) -> Result<(), String> {
-    let Clearing { mechanism, market, lists } = clearing;
-    let expected = clearing_fault(market, lists).map(|()| mechanism.expected(market));
+    let Clearing { mechanism, rule, market, lists } = clearing;
+    let expected = clearing_fault(rule, market, lists).map(|()| mechanism.expected(rule, market));
     tally.count(&expected);
-    call::clear(random, clearing, &expected).map_err(|what| format!("{what}\n{lists:?}\n{}", show(market)))
+    call::clear(random, clearing, &expected).map_err(|what| format!("{what}\nrule {rule}\n{lists:?}\n{}", show(market)))
 }
 
 pub fn run_truthful(random: &mut Random, tally: &mut Tally, cases: usize) -> Result<(), String> {
@@ -32,7 +32,8 @@ fn run(random: &mut Random, tally: &mut Tally, cases: usize, mechanism: Mechanis
                 random.pick(&changes).apply(random, &mut market, &mut lists);
             }
         }
-        check(random, tally, Clearing { mechanism, market: &market, lists })?;
+        let rule = any_rule(random);
+        check(random, tally, Clearing { mechanism, rule, market: &market, lists })?;
     }
     // each change alone and each two together, in small markets; each alone in the largest
     let some = |shape: Shape| Shape { guests: 3..=6, stations: 2..=5, ..shape };
@@ -43,14 +44,17 @@ fn run(random: &mut Random, tally: &mut Tally, cases: usize, mechanism: Mechanis
             let mut with_one = market.clone();
             let mut lists = ListLengths::of(&market);
             first.apply(random, &mut with_one, &mut lists);
-            check(random, tally, Clearing { mechanism, market: &with_one, lists })?;
+            for rule in RULES {
+                check(random, tally, Clearing { mechanism, rule, market: &with_one, lists })?;
+            }
             for second in changes.iter().filter(|_| market.bids.len() < 1_000) {
                 let mut with_two = with_one.clone();
                 let mut lists = lists;
                 second.apply(random, &mut with_two, &mut lists);
-                check(random, tally, Clearing { mechanism, market: &with_two, lists })?;
+                let rule = any_rule(random);
+                check(random, tally, Clearing { mechanism, rule, market: &with_two, lists })?;
             }
         }
     }
-    tally.require(&[0, 2, 5, 6, 7, 8, 9, 10, 15])
+    tally.require(&[0, 2, 5, 6, 7, 8, 9, 10, 15, 18])
 }

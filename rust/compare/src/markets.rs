@@ -282,3 +282,11 @@ pub fn show(market: &Market) -> String {
 pub fn hex(bytes: &[u8]) -> String {
     bytes.iter().map(|byte| format!("{byte:02x}")).collect::<Vec<_>>().join(" ")
 }
+
+/// The numbers of rules, and others that name none.
+pub const RULES: [u8; 5] = [1, 2, 0, 3, 255];
+
+/// Mostly one of a rule.
+pub fn any_rule(random: &mut Random) -> u8 {
+    if random.chance(92) { *random.pick(&RULES[..2]) } else { *random.pick(&RULES[2..]) }
+}

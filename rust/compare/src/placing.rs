@@ -225,9 +225,10 @@ fn check_market(random: &mut Random, tally: &mut Tally, places: &Places) -> Resu
     lent::place_bids(&lent, &mut market.bids).map_err(|refusal| format!("refused {}\n{shown}", refusal.number()))?;
     let bids = place_bids(places, market.bids.len()).expect("accepted places");
     for mechanism in [Mechanism::Truthful, Mechanism::Efficient] {
-        let expected = Ok(mechanism.expected(&Market { bids: bids.clone(), ..market.clone() }));
+        let rule = *random.pick(&[1, 2]);
+        let expected = Ok(mechanism.expected(rule, &Market { bids: bids.clone(), ..market.clone() }));
         tally.count(&expected);
-        let clearing = Clearing { mechanism, market: &market, lists: ListLengths::of(&market) };
+        let clearing = Clearing { mechanism, rule, market: &market, lists: ListLengths::of(&market) };
         call::clear(random, clearing, &expected).map_err(|what| format!("{what}\n{shown}"))?;
     }
     Ok(())

@@ -2,20 +2,27 @@
 
 use crate::Tally;
 use crate::call;
-use crate::markets::{Change, PAIRS, Pair, accepted, changed, changes, middling, shapes, show};
+use crate::markets::{Change, PAIRS, Pair, RULES, accepted, any_rule, changed, changes, middling, shapes, show};
 use reference::faults::{ListLengths, MAX_GUESTS, MAX_PRICE, MAX_STATIONS};
 use reference::ledger::{Ledger, MAX_ACCOUNT, MAX_ROUND};
 use reference::market::Market;
 use reference::random::{Random, Shape};
 
 /// Posts to the engine and to the plain book, and holds one to the other.
-fn check(random: &mut Random, tally: &mut Tally, ledger: &mut Ledger, market: &Market, round: u32) -> Result<(), String> {
+fn check(
+    random: &mut Random,
+    tally: &mut Tally,
+    ledger: &mut Ledger,
+    rule: u8,
+    market: &Market,
+    round: u32,
+) -> Result<(), String> {
     let before = ledger.clone();
-    let expected = ledger.post(market, round);
+    let expected = ledger.post(rule, market, round);
     tally.count(&expected);
-    let posting = call::Posting { market, round, before: &before, expected, after: ledger };
+    let posting = call::Posting { rule, market, round, before: &before, expected, after: ledger };
     call::post(random, &posting)
-        .map_err(|what| format!("{what}\nround {round}\nledger {before:?}\nexpected {ledger:?}\n{}", show(market)))
+        .map_err(|what| format!("{what}\nrule {rule}\nround {round}\nledger {before:?}\nexpected {ledger:?}\n{}", show(market)))
 }
 
 /// How many accounts of a kind a ledger has: mostly enough for the greatest count, now and then too few or too many.
@@ -41,10 +48,10 @@ fn round(random: &mut Random, last: u128) -> u32 {
 }
 
 /// Moves one account next to the limit, so that what the market adds to it decides.
-fn to_the_limit(random: &mut Random, ledger: &mut Ledger, market: &Market) {
+fn to_the_limit(random: &mut Random, ledger: &mut Ledger, rule: u8, market: &Market) {
     // what the market adds to each account: nothing where it is refused
     let mut added = Ledger::empty(ledger.guests.len(), ledger.stations.len());
-    let _ = added.post(market, 1);
+    let _ = added.post(rule, market, 1);
     let mut accounts: Vec<(&mut u128, u128)> = ledger.guests.iter_mut().zip(added.guests).collect();
     for (account, added) in ledger.stations.iter_mut().zip(added.stations) {
         accounts.push((&mut account.sold, added.sold));
@@ -89,11 +96,12 @@ fn list(random: &mut Random, tally: &mut Tally, shapes: &[Shape], moved: bool) -
                 random.pick(&changes).apply(random, &mut market, &mut lists);
             }
         }
+        let rule = any_rule(random);
         if moved && random.chance(40) {
-            to_the_limit(random, &mut ledger, &market);
+            to_the_limit(random, &mut ledger, rule, &market);
         }
         let round = round(random, ledger.last);
-        check(random, tally, &mut ledger, &market, round)?;
+        check(random, tally, &mut ledger, rule, &market, round)?;
         if moved && random.chance(30) {
             ledger = Ledger { last: ledger.last, ..Ledger::empty(guests, stations) };
         }
@@ -117,7 +125,9 @@ fn repeated(random: &mut Random, tally: &mut Tally, pair: Pair) -> Result<(), St
         }
         let mut ledger = Ledger::empty(market.guests() - usize::from(chosen(1)), market.stations());
         ledger.house = MAX_ACCOUNT + u128::from(chosen(3));
-        check(random, tally, &mut ledger, &market, 1 + u32::from(chosen(2)))?;
+        for rule in RULES {
+            check(random, tally, &mut ledger.clone(), rule, &market, 1 + u32::from(chosen(2)))?;
+        }
     }
     Ok(())
 }
@@ -130,5 +140,5 @@ pub fn run(random: &mut Random, tally: &mut Tally, cases: usize) -> Result<(), S
     for case in 0..cases {
         list(random, tally, &shapes, case % 2 == 1)?;
     }
-    tally.require(&[0, 2, 5, 6, 7, 8, 9, 11, 12, 13, 15])
+    tally.require(&[0, 2, 5, 6, 7, 8, 9, 11, 12, 13, 15, 18])
 }

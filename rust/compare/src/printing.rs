@@ -1,5 +1,6 @@
 //! The clearing program, target/dist/clear or the one that BAY_MARKET_PROGRAM names, against the reference's text, with
-//! --quiet against its text of the efficient clearing and with --write against its sheet. It ends with 0 and writes nothing to standard error, whatever the sheet.
+//! --quiet against its text of the efficient clearing, either by rule 2 with --rule 2, and with --write against its sheet.
+//! It ends with 0 and writes nothing to standard error, whatever the sheet.
 
 use crate::Tally;
 use crate::markets::{accepted, hex, shapes, small};
@@ -82,10 +83,16 @@ pub fn run(random: &mut Random, tally: &mut Tally, cases: usize) -> Result<(), S
             13 | 17 | 21 | 25 | 29 => sheet = out_of_range(random, case % 40),
             _ => {}
         }
-        let text = printed(&sheet);
+        let text = printed(1, &sheet);
         let number = text.strip_prefix("refused ").map(|number| number.trim_end().parse().expect("a number"));
-        let quiet = printed_quiet(&sheet).into_bytes();
-        for (arguments, expected) in [(&[][..], text.into_bytes()), (&["--quiet"], quiet), (&["--write"], written(&sheet))] {
+        let asked = [
+            (&[][..], text.into_bytes()),
+            (&["--quiet"], printed_quiet(1, &sheet).into_bytes()),
+            (&["--rule", "2"], printed(2, &sheet).into_bytes()),
+            (&["--quiet", "--rule", "2"], printed_quiet(2, &sheet).into_bytes()),
+            (&["--write"], written(&sheet)),
+        ];
+        for (arguments, expected) in asked {
             tally.count(&number.map_or(Ok(()), Err));
             let first = random.below(sheet.len() + 1);
             let output = run_program(&program, arguments, &sheet, first)?;

@@ -1,15 +1,17 @@
-//! A search for a false report that pays, on small markets, and the limits of every outcome met on the way. In efficient
+//! A search for a false report that pays, on small markets, both under one rule, and the limits of every outcome met on the way. In efficient
 //! rounds no station's report pays, but some guest's does; and whoever is seated in the truthful round is seated.
 
 use crate::Tally;
 use crate::call::Mechanism;
 use crate::markets::{accepted, shapes, show, small};
-use bay_market::Clearing;
+use bay_market::{Clearing, Rule};
 use reference::market::Market;
 use reference::random::{Random, Shape};
 
-fn clear(tally: &mut Tally, mechanism: Mechanism, market: &Market) -> Result<Clearing, String> {
-    let answer = mechanism.clear(market);
+const RULES: [Rule; 2] = [Rule::Median, Rule::TwoThirds];
+
+fn clear(tally: &mut Tally, mechanism: Mechanism, rule: Rule, market: &Market) -> Result<Clearing, String> {
+    let answer = mechanism.clear(rule, market);
     tally.count(&answer);
     let clearing = answer.map_err(|number| format!("refused {number}\n{}", show(market)))?;
     within_limits(market, &clearing).map_err(|what| format!("{what}\n{}", show(market)))?;
@@ -74,9 +76,9 @@ fn next_row(digits: &mut [usize], values: usize) -> bool {
 }
 
 /// Sets the market against each one with another row, all else the same, tickets too.
-fn search_guests(tally: &mut Tally, mechanism: Mechanism, market: &Market, values: &[u32]) -> Result<(), String> {
+fn search_guests(tally: &mut Tally, rule: Rule, market: &Market, values: &[u32]) -> Result<(), String> {
     let m = market.stations();
-    let honest = clear(tally, mechanism, market)?;
+    let honest = clear(tally, Mechanism::Truthful, rule, market)?;
     let mut other = market.clone();
     for guest in 1..=market.guests() {
         let row = (guest - 1) * m..guest * m;
@@ -87,7 +89,7 @@ fn search_guests(tally: &mut Tally, mechanism: Mechanism, market: &Market, value
             for (place, &digit) in row.clone().zip(&digits) {
                 other.bids[place] = values[digit];
             }
-            let outcome = clear(tally, mechanism, &other)?;
+            let outcome = clear(tally, Mechanism::Truthful, rule, &other)?;
             if guest_gain(market, &outcome, guest, worths) > gain {
                 return Err(format!("guest {guest} gains by {:?}\n{}", &other.bids[row], show(market)));
             }
@@ -101,15 +103,15 @@ fn search_guests(tally: &mut Tally, mechanism: Mechanism, market: &Market, value
 }
 
 /// Sets the market against each one with another ask, all else the same.
-fn search_stations(tally: &mut Tally, mechanism: Mechanism, market: &Market, values: &[u32]) -> Result<(), String> {
-    let honest = clear(tally, mechanism, market)?;
+fn search_stations(tally: &mut Tally, mechanism: Mechanism, rule: Rule, market: &Market, values: &[u32]) -> Result<(), String> {
+    let honest = clear(tally, mechanism, rule, market)?;
     let mut other = market.clone();
     for station in 1..=market.stations() {
         let cost = market.asks[station - 1];
         let gain = station_gain(&honest, station, cost);
         for &ask in values {
             other.asks[station - 1] = ask;
-            let outcome = clear(tally, mechanism, &other)?;
+            let outcome = clear(tally, mechanism, rule, &other)?;
             if station_gain(&outcome, station, cost) > gain {
                 return Err(format!("station {station} gains by {ask}\n{}", show(market)));
             }
@@ -135,7 +137,7 @@ fn priced(random: &mut Random) -> (Market, [u32; 6]) {
 fn gain_by(tally: &mut Tally, mechanism: Mechanism, row: [u32; 2]) -> Result<i128, String> {
     let bids = [row[0], row[1], 0, 0, 2, 0, 0, 0];
     let market = Market::numbered(&[0, 0, 1, 1], &[1; 4], &[1, 1], &bids);
-    Ok(guest_gain(&market, &clear(tally, mechanism, &market)?, 1, &[2, 2, 0, 0]))
+    Ok(guest_gain(&market, &clear(tally, mechanism, Rule::Median, &market)?, 1, &[2, 2, 0, 0]))
 }
 
 /// By the true row it gains 1 in the truthful round and nothing in the efficient one, where a false row gains 1.
@@ -150,9 +152,9 @@ fn a_false_row_pays(tally: &mut Tally) -> Result<(), String> {
 }
 
 /// Whoever is seated in the truthful round is seated in the efficient one; how many more are.
-fn more_seated(tally: &mut Tally, market: &Market) -> Result<usize, String> {
-    let truthful = clear(tally, Mechanism::Truthful, market)?.stations;
-    let efficient = clear(tally, Mechanism::Efficient, market)?.stations;
+fn more_seated(tally: &mut Tally, rule: Rule, market: &Market) -> Result<usize, String> {
+    let truthful = clear(tally, Mechanism::Truthful, rule, market)?.stations;
+    let efficient = clear(tally, Mechanism::Efficient, rule, market)?.stations;
     if let Some(guest) = truthful.iter().zip(&efficient).position(|(&seat, &other)| seat > 0 && other == 0) {
         return Err(format!("guest {} loses its seat in the efficient round\n{}", guest + 1, show(market)));
     }
@@ -163,8 +165,9 @@ fn more_seated(tally: &mut Tally, market: &Market) -> Result<usize, String> {
 pub fn run_truthful(random: &mut Random, tally: &mut Tally, cases: usize) -> Result<(), String> {
     for _ in 0..cases {
         let (market, values) = priced(random);
-        search_guests(tally, Mechanism::Truthful, &market, &values)?;
-        search_stations(tally, Mechanism::Truthful, &market, &values)?;
+        let rule = *random.pick(&RULES);
+        search_guests(tally, rule, &market, &values)?;
+        search_stations(tally, Mechanism::Truthful, rule, &market, &values)?;
     }
     tally.require(&[0])
 }
@@ -175,8 +178,9 @@ pub fn run_efficient(random: &mut Random, tally: &mut Tally, cases: usize) -> Re
     let mut more = 0;
     for _ in 0..cases {
         let (market, values) = priced(random);
-        search_stations(tally, Mechanism::Efficient, &market, &values)?;
-        more += more_seated(tally, &accepted(random, &shapes))?;
+        let rule = *random.pick(&RULES);
+        search_stations(tally, Mechanism::Efficient, rule, &market, &values)?;
+        more += more_seated(tally, rule, &accepted(random, &shapes))?;
     }
     if more == 0 {
         return Err("the efficient round never seats more".to_string());

@@ -107,6 +107,8 @@ fn limits_and_version_agree() {
         ("MAX_STACK", bay_market::MAX_STACK as u64),
     ]);
     assert_eq!(limits, expected);
+    let rules = [defined["RULE_MEDIAN"], defined["RULE_TWO_THIRDS"]].map(number);
+    assert_eq!(rules, [bay_market::Rule::Median, bay_market::Rule::TwoThirds].map(|rule| u64::from(rule.number())));
     assert_eq!(defined["VERSION"], format!("{:?}", env!("CARGO_PKG_VERSION")));
 }
 

@@ -24,13 +24,13 @@ fn accepted(market: &Market) {
 /// An accepted market clears to the given cut, stations, charges, (sold, paid), margin.
 fn clears(market: &Market, cut: u128, stations: &[usize], charges: &[u128], sales: &[(u128, u128)], margin: u128) {
     accepted(market);
-    is_outcome(clear(market), cut, stations, charges, sales, margin);
+    is_outcome(clear(1, market), cut, stations, charges, sales, margin);
 }
 
 /// The same in a quiet round.
 fn clears_quiet(market: &Market, cut: u128, stations: &[usize], charges: &[u128], sales: &[(u128, u128)], margin: u128) {
     accepted(market);
-    is_outcome(clear_efficient(market), cut, stations, charges, sales, margin);
+    is_outcome(clear_efficient(1, market), cut, stations, charges, sales, margin);
 }
 
 fn is_outcome(outcome: Outcome, cut: u128, stations: &[usize], charges: &[u128], sales: &[(u128, u128)], margin: u128) {
@@ -109,7 +109,7 @@ fn in_a_quiet_round_a_guest_seated_before_sets_no_floor() {
 
 #[test]
 fn in_a_quiet_round_the_lower_ticket_and_then_the_lower_station_stand_first() {
-    let seats = |tickets, stations: [usize; 4]| assert_eq!(clear_efficient(&tied(tickets)).stations, stations);
+    let seats = |tickets, stations: [usize; 4]| assert_eq!(clear_efficient(1, &tied(tickets)).stations, stations);
     seats([3, 5, 7, 9], [1, 1, 0, 0]);
     seats([5, 9, 3, 7], [1, 0, 1, 0]);
     // one total everywhere
@@ -123,8 +123,8 @@ fn in_a_quiet_round_the_lower_ticket_and_then_the_lower_station_stand_first() {
 #[test]
 fn in_a_quiet_round_a_false_bid_may_pay() {
     // both stations are worth 2 to guest 1
-    let gain = |clear: fn(&Market) -> Outcome, row: [u32; 2]| {
-        let outcome = clear(&one_bay(&[0, 0, 1, 1], &[1, 1], &[row[0], row[1], 0, 0, 2, 0, 0, 0]));
+    let gain = |clear: fn(u8, &Market) -> Outcome, row: [u32; 2]| {
+        let outcome = clear(1, &one_bay(&[0, 0, 1, 1], &[1, 1], &[row[0], row[1], 0, 0, 2, 0, 0, 0]));
         assert!(outcome.stations[0] > 0);
         2 - outcome.charges[0]
     };
@@ -177,25 +177,29 @@ fn clearing_refuses_in_the_tables_order() {
     // every fault at once, mended one after the other
     let mut market = Market { width: 1, ..Market::new(&[1_000_001; 41], &[0; 40], &[0; 2], &[7; 3], &[1_000_001; 80]) };
     let mut lists = ListLengths { stations: 2, charges: 2, sold: 40, paid: 41 };
-    assert_eq!(clearing_fault(&market, lists), Err(2));
+    for rule in [0, 3, 255] {
+        assert_eq!(clearing_fault(rule, &market, lists), Err(18));
+    }
+    assert_eq!(clearing_fault(1, &market, lists), Err(2));
+    assert_eq!(clearing_fault(2, &market, lists), Err(2));
     market.asks.pop();
-    assert_eq!(clearing_fault(&market, lists), Err(5));
+    assert_eq!(clearing_fault(1, &market, lists), Err(5));
     market.width = 40;
-    assert_eq!(clearing_fault(&market, lists), Err(5));
+    assert_eq!(clearing_fault(1, &market, lists), Err(5));
     market.tickets.pop();
-    assert_eq!(clearing_fault(&market, lists), Err(10));
+    assert_eq!(clearing_fault(1, &market, lists), Err(10));
     lists.paid = 40;
-    assert_eq!(clearing_fault(&market, lists), Err(6));
+    assert_eq!(clearing_fault(1, &market, lists), Err(6));
     market.asks = vec![1; 40];
-    assert_eq!(clearing_fault(&market, lists), Err(7));
+    assert_eq!(clearing_fault(1, &market, lists), Err(7));
     market.bays = vec![1; 40];
-    assert_eq!(clearing_fault(&market, lists), Err(8));
+    assert_eq!(clearing_fault(1, &market, lists), Err(8));
     market.amounts = vec![1; 2];
-    assert_eq!(clearing_fault(&market, lists), Err(9));
+    assert_eq!(clearing_fault(1, &market, lists), Err(9));
     market.bids = vec![1; 80];
-    assert_eq!(clearing_fault(&market, lists), Err(15));
+    assert_eq!(clearing_fault(1, &market, lists), Err(15));
     market.tickets = vec![7, 6];
-    assert_eq!(clearing_fault(&market, lists), Ok(()));
+    assert_eq!(clearing_fault(1, &market, lists), Ok(()));
 }
 
 const SHEET_E: [u8; 38] = [
@@ -209,10 +213,10 @@ fn sheet_e_and_its_text() {
     assert_eq!(shortest(&samples::case_e()), SHEET_E);
     let text = "cut 6\nguest 1 station 1 charge 24\nguest 2 station 0 charge 0\n\
         station 1 sold 3 paid 18\nstation 2 sold 0 paid 0\nmargin 6\n";
-    assert_eq!(report::printed(&SHEET_E), text);
-    assert_eq!(report::printed(&SHEET_E[..3]), "refused 1\n");
-    assert_eq!(report::printed_quiet(&SHEET_E), text);
-    assert_eq!(report::printed_quiet(&SHEET_E[..3]), "refused 1\n");
+    assert_eq!(report::printed(1, &SHEET_E), text);
+    assert_eq!(report::printed(1, &SHEET_E[..3]), "refused 1\n");
+    assert_eq!(report::printed_quiet(1, &SHEET_E), text);
+    assert_eq!(report::printed_quiet(1, &SHEET_E[..3]), "refused 1\n");
     assert_eq!(report::written(&stating(&samples::case_e(), |_, _| true)), SHEET_E);
     assert_eq!(report::written(&SHEET_E[..3]), b"refused 1\n");
 }
@@ -274,7 +278,7 @@ fn the_largest_sheet_has_34_444_bytes() {
 #[test]
 fn case_e_posts_once_as_round_1() {
     let mut ledger = Ledger::empty(3, 2);
-    assert_eq!(ledger.post(&samples::case_e(), 1), Ok(()));
+    assert_eq!(ledger.post(1, &samples::case_e(), 1), Ok(()));
     let posted = Ledger {
         guests: vec![24, 0, 0],
         stations: vec![StationAccount { sold: 3, paid: 18 }, StationAccount::default()],
@@ -283,35 +287,68 @@ fn case_e_posts_once_as_round_1() {
     };
     assert_eq!(ledger, posted);
     assert!(ledger.balances());
-    assert_eq!(ledger.post(&samples::case_e(), 1), Err(11));
+    assert_eq!(ledger.post(1, &samples::case_e(), 1), Err(11));
     assert_eq!(ledger, posted);
+}
+
+/// Asks 1 to 6, one bay each, one guest of 1 kWh.
+fn six(bids: [u32; 6]) -> Market {
+    one_bay(&[1, 2, 3, 4, 5, 6], &[1], &bids)
+}
+
+#[test]
+fn asks_1_to_6_have_a_cut_by_each_rule() {
+    let fourth = six([0, 0, 0, 9, 0, 0]);
+    for clear in [clear, clear_efficient] {
+        let cleared = |rule| (clear(rule, &fourth).cut, clear(rule, &fourth).stations[0], clear(rule, &fourth).charges[0]);
+        assert_eq!((cleared(1), cleared(2)), ((4, 0, 0), (5, 4, 5)));
+    }
+    // each position lies from 1 to m
+    for m in 1..=40 {
+        let asks: Vec<u32> = (1..=m).collect();
+        let market = Market::numbered(&asks, &vec![1; asks.len()], &[], &[]);
+        let cuts = [1, 2].map(|rule| clear(rule, &market).cut);
+        assert_eq!(cuts, [u128::from(m / 2 + 1), u128::from(2 * m / 3 + 1)]);
+        assert!(1 <= cuts[0] && cuts[0] <= cuts[1] && cuts[1] <= u128::from(m));
+    }
+}
+
+#[test]
+fn rounds_of_both_rules_stand_in_one_book() {
+    let first = six([9, 0, 0, 0, 0, 0]);
+    let mut ledger = Ledger::empty(1, 6);
+    assert_eq!(ledger.post(1, &first, 1), Ok(()));
+    assert_eq!(ledger.post(2, &first, 2), Ok(()));
+    assert_eq!(ledger.post(3, &first, 3), Err(18));
+    assert_eq!((ledger.guests[0], ledger.stations[0].sold, ledger.stations[0].paid, ledger.last), (9, 2, 9, 2));
 }
 
 #[test]
 fn posting_refuses_in_the_tables_order() {
     let case_e = samples::case_e();
     let over = Ledger { house: MAX_ACCOUNT + 1, ..Ledger::empty(201, 2) };
-    assert_eq!(over.clone().post(&samples::refused(), 2), Err(6));
-    assert_eq!(over.clone().post(&Market { tickets: vec![7, 7], ..case_e.clone() }, 2), Err(15));
-    assert_eq!(over.clone().post(&case_e, 2), Err(13));
+    assert_eq!(over.clone().post(0, &samples::refused(), 2), Err(18));
+    assert_eq!(over.clone().post(1, &samples::refused(), 2), Err(6));
+    assert_eq!(over.clone().post(1, &Market { tickets: vec![7, 7], ..case_e.clone() }, 2), Err(15));
+    assert_eq!(over.clone().post(1, &case_e, 2), Err(13));
     for (guests, stations, answer) in [(200, 40, Ok(())), (2, 2, Ok(())), (1, 2, Err(13)), (2, 1, Err(13)), (2, 41, Err(13))] {
-        assert_eq!(Ledger::empty(guests, stations).post(&case_e, 1), answer);
+        assert_eq!(Ledger::empty(guests, stations).post(1, &case_e, 1), answer);
     }
     let mut over = Ledger { guests: vec![0; 2], ..over };
-    assert_eq!(over.post(&case_e, 2), Err(11));
-    assert_eq!(over.post(&case_e, 1), Err(12));
+    assert_eq!(over.post(1, &case_e, 2), Err(11));
+    assert_eq!(over.post(1, &case_e, 1), Err(12));
     over.house = MAX_ACCOUNT;
-    assert_eq!(over.post(&case_e, 1), Err(12));
+    assert_eq!(over.post(1, &case_e, 1), Err(12));
     over.house -= 6;
-    assert_eq!(over.post(&case_e, 1), Ok(()));
+    assert_eq!(over.post(1, &case_e, 1), Ok(()));
 }
 
 #[test]
 fn no_round_follows_the_last() {
     let mut ledger = Ledger { last: 4_294_967_294, ..Ledger::empty(2, 2) };
-    assert_eq!(ledger.post(&samples::case_e(), u32::MAX), Ok(()));
+    assert_eq!(ledger.post(1, &samples::case_e(), u32::MAX), Ok(()));
     for round in [0, 1, u32::MAX] {
-        assert_eq!(ledger.post(&samples::case_e(), round), Err(11));
+        assert_eq!(ledger.post(1, &samples::case_e(), round), Err(11));
     }
 }
 
@@ -380,6 +417,6 @@ fn the_sample_files_are_current() {
     let folder = std::path::Path::new(env!("CARGO_MANIFEST_DIR")).join("../../examples");
     for (name, sheet) in samples::sheets() {
         assert_eq!(std::fs::read(folder.join(format!("{name}.sheet"))).unwrap(), sheet, "{name}");
-        assert_eq!(std::fs::read_to_string(folder.join(format!("{name}.txt"))).unwrap(), report::printed(&sheet), "{name}");
+        assert_eq!(std::fs::read_to_string(folder.join(format!("{name}.txt"))).unwrap(), report::printed(1, &sheet), "{name}");
     }
 }

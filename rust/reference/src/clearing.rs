@@ -1,5 +1,5 @@
-//! Document 01, 'Clearing', by its numbers 1 to 8, and document 02, 'The longest wait goes first' and 'A second round for
-//! quiet days'.
+//! Document 01, 'Clearing', by its numbers 1 to 8, and document 02, 'The longest wait goes first', 'A second round for
+//! quiet days' and 'New trade rule for the cut'.
 
 use crate::market::Market;
 use std::cmp::Reverse;
@@ -35,11 +35,16 @@ fn amount(market: &Market, guest: usize) -> u128 {
     u128::from(market.amounts[guest - 1])
 }
 
-/// 1. The cut.
-fn cut(market: &Market) -> u128 {
+/// 1. The cut, under the rule of a number.
+fn cut(rule: u8, market: &Market) -> u128 {
     let mut rising = market.asks.clone();
     rising.sort();
-    let position = (market.stations() + 1).div_ceil(2);
+    let m = market.stations();
+    let position = match rule {
+        1 => (m + 1).div_ceil(2),
+        2 => (2 * m).div_euclid(3) + 1,
+        _ => panic!("rule {rule} is refused"),
+    };
     u128::from(rising[position - 1])
 }
 
@@ -86,10 +91,10 @@ fn settled(market: &Market, cut: u128, stations: Vec<usize>, floors: &[u128]) ->
     outcome
 }
 
-/// The clearing of an accepted market.
-pub fn clear(market: &Market) -> Outcome {
+/// The clearing of an accepted market, under rule 1 or 2.
+pub fn clear(rule: u8, market: &Market) -> Outcome {
     let (n, m) = (market.guests(), market.stations());
-    let cut = cut(market);
+    let cut = cut(rule, market);
     let mut floors = vec![0; m];
     let mut places: Vec<Vec<Place>> = vec![Vec::new(); n];
     for station in 1..=m {
@@ -114,10 +119,10 @@ pub fn clear(market: &Market) -> Outcome {
     settled(market, cut, seats, &floors)
 }
 
-/// The efficient clearing of an accepted market, for quiet days.
-pub fn clear_efficient(market: &Market) -> Outcome {
+/// The efficient clearing of an accepted market, for quiet days, under rule 1 or 2.
+pub fn clear_efficient(rule: u8, market: &Market) -> Outcome {
     let (n, m) = (market.guests(), market.stations());
-    let cut = cut(market);
+    let cut = cut(rule, market);
     // all candidacies of all stations: falling total, lower ticket, lower station
     let mut candidacies: Vec<Candidate> = (1..=m).flat_map(|station| candidates(market, cut, station)).collect();
     candidacies.sort_by_key(|candidacy| (Reverse(candidacy.total), candidacy.ticket, candidacy.station));

@@ -20,6 +20,7 @@ pub const OUTPUT_TOO_SHORT: u8 = 14;
 pub const TICKETS_REPEAT: u8 = 15;
 pub const CELL_OFF_GRID: u8 = 16;
 pub const PRICE_OR_FALL_OUT_OF_RANGE: u8 = 17;
+pub const UNKNOWN_RULE: u8 = 18;
 
 pub const MAX_GUESTS: usize = 200;
 pub const MAX_STATIONS: usize = 40;
@@ -49,8 +50,11 @@ pub fn counts_in_range(n: usize, m: usize) -> bool {
     n <= MAX_GUESTS && (1..=MAX_STATIONS).contains(&m)
 }
 
-/// The first fault of a clearing, by its number.
-pub fn clearing_fault(market: &Market, lists: ListLengths) -> Result<(), u8> {
+/// The first fault of a clearing under the rule of a number, by its own number.
+pub fn clearing_fault(rule: u8, market: &Market, lists: ListLengths) -> Result<(), u8> {
+    if ![1, 2].contains(&rule) {
+        return Err(UNKNOWN_RULE);
+    }
     let (n, m) = (market.guests(), market.stations());
     if !counts_in_range(n, m) {
         return Err(COUNTS_OUT_OF_RANGE);
@@ -91,7 +95,7 @@ fn repeats(tickets: &[u32]) -> bool {
     false
 }
 
-/// The first fault of a market: the clearing's, the row on result lists aside.
+/// The first fault of a market: the clearing's, the rows on the rule and on result lists aside.
 pub fn market_fault(market: &Market) -> Result<(), u8> {
-    clearing_fault(market, ListLengths::of(market))
+    clearing_fault(1, market, ListLengths::of(market))
 }

@@ -1,7 +1,7 @@
 //! Document 01, 'The book': the plain book, in numbers that do not run over.
 
 use crate::clearing::clear;
-use crate::faults::{self, MAX_GUESTS, MAX_STATIONS};
+use crate::faults::{self, ListLengths, MAX_GUESTS, MAX_STATIONS};
 use crate::market::Market;
 
 pub const MAX_ACCOUNT: u128 = 1_000_000_000_000_000;
@@ -27,9 +27,9 @@ impl Ledger {
         Ledger { guests: vec![0; guests], stations: vec![StationAccount::default(); stations], house: 0, last: 0 }
     }
 
-    /// Posts a market as a round, or answers the number of the first fault and changes nothing.
-    pub fn post(&mut self, market: &Market, round: u32) -> Result<(), u8> {
-        faults::market_fault(market)?;
+    /// Posts a market, cleared under the rule of a number, as a round, or answers the number of the first fault and changes nothing.
+    pub fn post(&mut self, rule: u8, market: &Market, round: u32) -> Result<(), u8> {
+        faults::clearing_fault(rule, market, ListLengths::of(market))?;
         let (guests, stations) = (self.guests.len(), self.stations.len());
         let over = guests > MAX_GUESTS || stations > MAX_STATIONS;
         let small = guests < market.guests() || stations < market.stations();
@@ -39,7 +39,7 @@ impl Ledger {
         if self.last == MAX_ROUND || u128::from(round) != self.last + 1 {
             return Err(faults::ROUND_OUT_OF_TURN);
         }
-        let after = self.with(market, round);
+        let after = self.with(rule, market, round);
         if self.above_limit() || after.above_limit() {
             return Err(faults::ACCOUNT_OVER_LIMIT);
         }
@@ -48,8 +48,8 @@ impl Ledger {
     }
 
     /// The ledger with the market's clearing added.
-    fn with(&self, market: &Market, round: u32) -> Ledger {
-        let outcome = clear(market);
+    fn with(&self, rule: u8, market: &Market, round: u32) -> Ledger {
+        let outcome = clear(rule, market);
         let mut after = self.clone();
         for guest in 0..market.guests() {
             after.guests[guest] += outcome.charges[guest];

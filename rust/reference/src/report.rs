@@ -18,18 +18,18 @@ pub fn outcome(outcome: &Outcome) -> String {
     text
 }
 
-/// What the program prints for a sheet.
-pub fn printed(sheet: &[u8]) -> String {
-    printed_by(clear, sheet)
+/// What the program prints for a sheet by a rule, 1 or 2.
+pub fn printed(rule: u8, sheet: &[u8]) -> String {
+    printed_by(clear, rule, sheet)
 }
 
-/// What the program prints for a sheet where a quiet round is asked for.
-pub fn printed_quiet(sheet: &[u8]) -> String {
-    printed_by(clear_efficient, sheet)
+/// What the program prints for a sheet by a rule, 1 or 2, where a quiet round is asked for.
+pub fn printed_quiet(rule: u8, sheet: &[u8]) -> String {
+    printed_by(clear_efficient, rule, sheet)
 }
 
-fn printed_by(clear: fn(&Market) -> Outcome, sheet: &[u8]) -> String {
-    let cleared = read(sheet, GREATEST).and_then(|market| market_fault(&market).map(|()| clear(&market)));
+fn printed_by(clear: fn(u8, &Market) -> Outcome, rule: u8, sheet: &[u8]) -> String {
+    let cleared = read(sheet, GREATEST).and_then(|market| market_fault(&market).map(|()| clear(rule, &market)));
     match cleared {
         Ok(cleared) => outcome(&cleared),
         Err(number) => refused(number),

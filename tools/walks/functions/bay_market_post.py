@@ -3,14 +3,14 @@ good; its reply goes to `reply_number`."""
 from context import Walk
 from frame import Callee, each, formulas, Function, lasts, Lent, owns, tokens
 from layout import laid
-from market import BOOK, GUESTS, HOUSE, LAST, LIFETIMES, POSTED, posted, ROUND, SLICES, WIDTH
+from market import BOOK, GUESTS, HOUSE, LAST, LIFETIMES, POSTED, posted, ROUND, RULE, SLICES, WIDTH
 
 POST = Callee('ledger', 'post', 'post', 'Post', own=False)
 NUMBER = Callee('bay_market', 'post.reply_number', 'number', 'Number')
 STATIONS = Lent('stations', 'T.the-row', 6)
 LENT = [GUESTS, STATIONS, HOUSE, LAST]
-FUNCTION = Function('bay_market', 'post.bay_market_post', 9, [*SLICES, WIDTH, ROUND, *LENT], [POST, NUMBER],
-                    naming=each, uses='''\
+FUNCTION = Function('bay_market', 'post.bay_market_post', 9, [RULE, *SLICES, WIDTH, ROUND, *LENT],
+                    [POST, NUMBER], naming=each, uses='''\
 Rattle.model.specs.Verdicts: numberOf
 Rattle.model.specs.Verdicts as answers
 Rattle.model.specs.market.Market: tables
@@ -35,11 +35,11 @@ def goes_post():
         w.fsplit('owns', p.name, 'owns')
         if p in SLICES:
             w.use([p.name], *p.twice(each, f'Own-{p.name}'), p.name, f'kept {p.name}')
-        if p in (WIDTH, ROUND):
+        if p in (RULE, WIDTH, ROUND):
             w.drop(p.name)
         w.move('owns')
     for p in reversed(FUNCTION.parameters):
-        w.add(p.name, *(p.made() if p in (WIDTH, ROUND) else ()))
+        w.add(p.name, *(p.made() if p in (RULE, WIDTH, ROUND) else ()))
     w.asked(['tokens', 'owns'], POST, 'to-post', 'post-asked').frame()
     return w.unchain('Market', *(f'kept {p.name}' for p in SLICES)).end('done !')
 
@@ -53,17 +53,17 @@ def exits():
     w = Walk('tokens', 'Market', *LEFT, 'number').step('says ! (posted-out said e)').frame()
     w.chain('Market', *(p.name for p in SLICES)).move('bids').nothing('owns')
     for p in reversed(FUNCTION.parameters):
-        w.add(p.name, *(p.made() if p in (WIDTH, ROUND) else ()))
+        w.add(p.name, *(p.made() if p in (RULE, WIDTH, ROUND) else ()))
     return w.frame().end('done !')
 
 
 def walk():
-    w = Walk('entry').allocate(19).passes(*(p.typed(each) for p in FUNCTION.parameters))
+    w = Walk('entry').allocate(20).passes(*(p.typed(each) for p in FUNCTION.parameters))
     reply = w.note('`post`').take()
     lent = [w.lend_slice(FUNCTION.local(p.name), f'g-{p.name} .0') for p in (GUESTS, STATIONS)]
     lent += [w.lend_ref(FUNCTION.local(p.name)) for p in (HOUSE, LAST)]
     w.asked(['entry'], POST, 'to-post', 'goes-post', 'Market')
-    w.call(POST, 'to-post', w.arguments(*FUNCTION.locals([*SLICES, WIDTH, ROUND]), *lent), 'u₀', 'r', 'Verdict',
+    w.call(POST, 'to-post', w.arguments(*FUNCTION.locals([RULE, *SLICES, WIDTH, ROUND]), *lent), 'u₀', 'r', 'Verdict',
            'tokens', 'S.the-row', 'κs', 'a')
     w.hear_lasts(POST, 'κs', 'a', 'ls', f'Said r {LASTS}', 'said')
     w.take_lasts([(p.last, p.name, f'l-{p.name}') for p in FUNCTION.parameters])
@@ -141,7 +141,7 @@ posted-out said e = record { number-is = e ∙ ap numberOf (said .answered); lef
   abbrev Said : Verdict → List ℕ → List StationAccount → ℕ → ℕ → Type 0
   Said r guests′ stations′ house′ last′ =
       Posts (book (now guests) (now stations) (now house) (now last))
-      (posting (tables (now asks) (now bays) (now amounts) (now tickets) (now bids) width) round) (answerOfVerdict r)
+      (posting rule (tables (now asks) (now bays) (now amounts) (now tickets) (now bids) width) round) (answerOfVerdict r)
       (book guests′ stations′ house′ last′)
 
   -- `reply_number`, on the reply r at the machine value v

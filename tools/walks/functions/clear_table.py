@@ -5,14 +5,15 @@ import view
 from context import Walk
 from frame import by_place, Callee, formulas, Function, lasts, Number, owns, rows, Shared, tokens, View
 from layout import laid, pairs
-from market import ASKS, CLEARS, had, KEEPS, LASTS, LENGTHS, RESULTS
+from market import ASKS, CLEARS, had, KEEPS, LASTS, LENGTHS, RESULTS, RULE
 
 CLEAR = Callee('clearing', 'clear', 'g', 'Plain')
 TABLE = View('d', 4, 9)
-FUNCTION = Function('clearing', 'view_clearing.clear_table', 9, [*ASKS, TABLE, *RESULTS], [CLEAR], uses=CLEARS)
+FUNCTION = Function('clearing', 'view_clearing.clear_table', 9, [RULE, *ASKS, TABLE, *RESULTS], [CLEAR],
+                    uses=CLEARS)
 # the callee's parameters: the view's fields in its place
 WIDTH = Number('(d .width)', 'usize', 'fits')
-PASSED = [*ASKS, Shared('(d .bids)', 'u32', 4), WIDTH, *RESULTS]
+PASSED = [RULE, *ASKS, Shared('(d .bids)', 'u32', 4), WIDTH, *RESULTS]
 LFT = '(namedLft 9 4 tt κs)'
 LISTS = lasts(PASSED, 'ls')
 HAD = had('r')
@@ -25,11 +26,13 @@ def apart():
         w.fsplit('owns', p.name, 'owns')
         if p in ASKS:
             w.use([p.name], *p.twice(by_place, f'Own-{p.name}'), p.name, f'kept {p.name}')
+        if p is RULE:
+            w.drop('rule')
         if p is TABLE:
             view.opened(w, 'd', 'Own-d', LFT, 'kept d', '(d .bids)')
         w.move('owns')
     for p in reversed(PASSED):
-        w.add(p.name, *(p.made() if p is WIDTH else ()))
+        w.add(p.name, *(p.made() if p in (RULE, WIDTH) else ()))
     w.asked(['tokens', 'owns'], CLEAR, 'to', 'asked').frame()
     return w.unchain('Kept', *KEPT).end('done !')
 
@@ -38,18 +41,18 @@ def exits():
     w = Walk('tokens', *(p.name for p in RESULTS), 'result', 'Kept')
     w.step('says ! e').frame().chain('Kept', *KEPT).move('kept d').nothing('owns')
     for p in reversed(FUNCTION.parameters):
-        w.add(p.name if p in RESULTS else f'kept {p.name}')
+        w.add(*([p.name] if p in RESULTS else ['rule', *p.made()] if p is RULE else [f'kept {p.name}']))
     return w.frame().end('done !')
 
 
 def walk():
-    w = Walk('entry').allocate(20)
+    w = Walk('entry').allocate(21)
     w.passes(*(p.typed(by_place) for p in FUNCTION.parameters))
     table = FUNCTION.local('d')
     fields = [w.copied(w.field(table, 0), 'tt, wt .1 .0'), w.copied(w.field(table, 1), 'tt, wt .1 .1 .0')]
     lent = [w.lend_slice(FUNCTION.local(p.name), f'g-{p.name} .0') for p in RESULTS]
     w.asked(['entry'], CLEAR, 'to', '(apart (wt .1 .1 .0 .fits))', 'Kept')
-    w.call(CLEAR, 'to', w.arguments(*FUNCTION.locals(ASKS), *fields, *lent), 'u', 'r', 'Clearing', 'tokens',
+    w.call(CLEAR, 'to', w.arguments(*FUNCTION.locals([RULE, *ASKS]), *fields, *lent), 'u', 'r', 'Clearing', 'tokens',
            'S.the-row', 'κs', 'args')
     w.hear_lasts(CLEAR, 'κs', 'args', 'ls', f'Said r {LISTS}', 'e')
     w.take_lasts([(p.last, p.name, f'l-{p.name}') for p in PASSED])
@@ -61,10 +64,11 @@ def walk():
 
 def proof():
     f = FUNCTION
-    types = ' '.join(f"({p.name} : {'BidTable' if p is TABLE else 'Nums'})" for p in f.parameters)
-    walked = f.walked(walk(), f.arguments('κs qs', 'C Λ fm known-plain'), [p.fact(by_place) for p in f.parameters],
-                      ' '.join('wt' if p is TABLE else f'g-{p.name}' for p in f.parameters))
-    return f.proof(TEMPLATE, f'(κs : Lfts 9) (qs : Shares 9) {types}', walked, apart=apart(), exits=exits(),
+    others = [p for p in f.parameters if p is not RULE]
+    types = ' '.join(f"({p.name} : {'BidTable' if p is TABLE else 'Nums'})" for p in others)
+    walked = f.walked(walk(), f.arguments('κs qs', 'C Λ fm known-plain', [RULE]), [p.fact(by_place) for p in others],
+                      ' '.join('wt' if p is TABLE else f'g-{p.name}' for p in others))
+    return f.proof(TEMPLATE, f'(κs : Lfts 9) (qs : Shares 9) (rule : ℕ) (rule-fits : rule < 2 ^ 8) {types}', walked, apart=apart(), exits=exits(),
                    owns=owns(ASKS, by_place), fields=view.FIELDS, LFT=LFT, LASTS=LASTS, LENGTHS=LENGTHS,
                    names=f.names(), at=laid([f'{p.value()} ∷ []' for p in f.parameters], 2, 'at = '),
                    tokens=[tokens(range(9), by_place)], Kept=formulas([f'Own-{p.name}' for p in [*ASKS, TABLE]]),
@@ -94,7 +98,7 @@ val x = sliceVal (x .ptr) (length (x .now))
   mach = T′.lowered d
 
   abbrev Args : Type 0
-  Args = Nums × (Nums × (Nums × (Nums × (BidTable × (Nums × (Nums × (Nums × (Nums × Unit {0}))))))))
+  Args = ℕ × (Nums × (Nums × (Nums × (Nums × (BidTable × (Nums × (Nums × (Nums × (Nums × Unit {0})))))))))
 
   abbrev a : Args
   a = «names»
@@ -121,7 +125,7 @@ val x = sliceVal (x .ptr) (length (x .now))
   «fields»
   -- what the callee is passed
   abbrev GArgs : Type 0
-  GArgs = Nums × (Nums × (Nums × (Nums × (Nums × (ℕ × (Nums × (Nums × (Nums × (Nums × Unit {0})))))))))
+  GArgs = ℕ × (Nums × (Nums × (Nums × (Nums × (Nums × (ℕ × (Nums × (Nums × (Nums × (Nums × Unit {0}))))))))))
 
   abbrev args : GArgs
   args = «args»
@@ -147,7 +151,7 @@ val x = sliceVal (x .ptr) (length (x .now))
   -- what the callee ensures of its result and its last lists
   abbrev Said : Clearing → List ℕ → List ℕ → List ℕ → List ℕ → Type 0
   Said r «LASTS» =
-      Clears (tables (now asks) (now bays) (now amounts) (now tickets) (now (d .bids)) (d .width))
+      Clears rule (tables (now asks) (now bays) (now amounts) (now tickets) (now (d .bids)) (d .width))
       (results (now stations) (now charges) (now sold) (now paid)) r (results «LASTS»)
 
   exits :

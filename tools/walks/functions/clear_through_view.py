@@ -4,15 +4,16 @@ All that the proof knows of `bid_table` and of `clear_table` is that each meets 
 from context import Walk
 from frame import by_place, Callee, formulas, Function, lasts, Number, owns, rows, tokens, View
 from layout import laid
-from market import ASKS, BIDS, CLEARS, had, KEEPS, LASTS, LENGTHS, RESULTS, SLICES
+from market import ASKS, BIDS, CLEARS, had, KEEPS, LASTS, LENGTHS, RESULTS, RULE, SLICES
 
 MAKE = Callee('clearing', 'views.bid_table', 't', 'Table')
 CLEAR = Callee('clearing', 'view_clearing.clear_table', 'g', 'Clear')
 WIDTH = Number('width', 'usize', 'fits')
-FUNCTION = Function('clearing', 'view_clearing.clear_through_view', 9, [*SLICES, WIDTH, *RESULTS], [MAKE, CLEAR],
-                    uses=CLEARS)
+FUNCTION = Function('clearing', 'view_clearing.clear_through_view', 9, [RULE, *SLICES, WIDTH, *RESULTS],
+                    [MAKE, CLEAR], uses=CLEARS)
 TABLE = View('r', 4, 9)
-PASSED = [*ASKS, TABLE, *RESULTS]
+PASSED = [RULE, *ASKS, TABLE, *RESULTS]
+NUMBERS = (RULE, WIDTH)
 TOKENS = [f'token {l}' for l in range(9)]
 κ, q = by_place(BIDS.lifetime)
 TOKEN = f'(‵ (flft {κ} {q}) ⊛ ‵ ftrue)'
@@ -21,7 +22,7 @@ HAD = had('a′')
 KEPT = [f'kept {p.name}' for p in SLICES]
 # what is kept while the view is made: the other lifetimes' tokens, and what the parameters own
 REST = [t for l, t in enumerate(TOKENS) if l != BIDS.lifetime] + [
-    f'kept {p.name}' if p is BIDS else p.name for p in FUNCTION.parameters if p is not WIDTH]
+    f'kept {p.name}' if p is BIDS else p.name for p in FUNCTION.parameters if p not in NUMBERS]
 
 
 def twice(w, p):
@@ -31,7 +32,7 @@ def twice(w, p):
 def goes_table():
     w = Walk('tokens', 'all')
     w.chain('tokens', *TOKENS, 'true', how='split').chain('all', *(p.name for p in FUNCTION.parameters), 'owns')
-    twice(w.drop('width'), BIDS)
+    twice(w.drop('rule', 'width'), BIDS)
     w.add('width', *WIDTH.made()).add('bids').join(TOKENS[BIDS.lifetime], 'true', 'token')
     w.asked(['token', 'owns'], MAKE, 'to-table', 'asked-table').frame()
     return w.unchain('Rest', *REST).end('done !')
@@ -44,7 +45,7 @@ def goes_clear():
         twice(w, p)
     w.nothing('owns')
     for p in reversed(PASSED):
-        w.add(p.name)
+        w.add(p.name, *(p.made() if p is RULE else ()))
     w.unchain('tokens', *TOKENS, 'true', how='join')
     w.asked(['tokens', 'owns'], CLEAR, '(to-clear r u)', '(asked-clear r u)')
     return w.frame().unchain('Kept', *KEPT).end('done !')
@@ -54,12 +55,12 @@ def exits():
     w = Walk('tokens', *(p.name for p in RESULTS), 'result', 'Kept')
     w.step('says ! e').frame().chain('Kept', *KEPT).nothing('owns')
     for p in reversed(FUNCTION.parameters):
-        w.add(p.name if p in RESULTS else f'kept {p.name}', *(p.made() if p is WIDTH else ()))
+        w.add(p.name if p in [*RESULTS, RULE] else f'kept {p.name}', *(p.made() if p in NUMBERS else ()))
     return w.frame().end('done !')
 
 
 def walk():
-    w = Walk('entry').allocate(20).passes(*(p.typed(by_place) for p in FUNCTION.parameters))
+    w = Walk('entry').allocate(21).passes(*(p.typed(by_place) for p in FUNCTION.parameters))
     w.asked(['entry'], MAKE, 'to-table', '(goes-table fits)', 'Rest')
     w.call(MAKE, 'to-table', w.arguments(*FUNCTION.locals([BIDS, WIDTH])), 'v', 'r', 'BidTable', TOKEN, 'B κs',
            f"({κ.strip('()')}, tt)", '(bids, (width, tt))')
@@ -70,7 +71,7 @@ def walk():
     lent = [w.lend_slice(FUNCTION.local(p.name), f'g-{p.name} .0') for p in RESULTS]
     w.join('token', 'Rest', 'token and Rest')
     w.asked(['token and Rest', 'r'], CLEAR, '(to-clear r v)', '(goes-clear r v)', 'Kept')
-    w.call(CLEAR, '(to-clear r v)', w.arguments(*FUNCTION.locals(ASKS), table, *lent), 'u', 'a′', 'Clearing', 'tokens',
+    w.call(CLEAR, '(to-clear r v)', w.arguments(*FUNCTION.locals([RULE, *ASKS]), table, *lent), 'u', 'a′', 'Clearing', 'tokens',
            'S.the-row', 'κs', '(args r)')
     w.hear_lasts(CLEAR, 'κs', '(args r)', 'ls', f'Said (r .bids) (r .width) a′ {LISTS}', 'said')
     w.take_lasts([(p.last, p.name, f'l-{p.name}') for p in PASSED])
@@ -82,17 +83,18 @@ def walk():
 
 def proof():
     f = FUNCTION
-    owning = [p for p in f.parameters if p is not WIDTH]
+    owning = [p for p in f.parameters if p not in NUMBERS]
+    others = [p for p in f.parameters if p is not RULE]
     kept = [f'(flft {by_place(l)[0]} {by_place(l)[1]})' for l in range(9) if l != BIDS.lifetime] + [
         f'Own-{p.name}' for p in owning]
     asked = f'tokens ∷ ‵ (owns ({rows(PASSED, by_place)}) (args r) (passed u)) ∷ []'
     made = (f'{TOKEN} ∷ ‵ (owns (ShrSlice (named 0) {κ} u32 ∷ usize ∷ []) (bids, (width, tt)) '
             '(val bids ∷ [], (vint w64 width ∷ [], tt))) ∷ []')
-    walked = f.walked(walk(), f.arguments('κs qs', 'C Λ fm known-table known-clear'),
-                      [p.fact(by_place) or 'width < 2 ^ 64' for p in f.parameters],
-                      ' '.join('fits' if p is WIDTH else f'g-{p.name}' for p in f.parameters))
-    return f.proof(TEMPLATE, '(κs : Lfts 9) (qs : Shares 9) (asks bays amounts tickets bids : Nums) (width : ℕ) '
-                   '(stations charges sold paid : Nums)', walked, goes_table=goes_table(), goes_clear=goes_clear(),
+    walked = f.walked(walk(), f.arguments('κs qs', 'C Λ fm known-table known-clear', [RULE]),
+                      [p.fact(by_place) or 'width < 2 ^ 64' for p in others],
+                      ' '.join('fits' if p is WIDTH else f'g-{p.name}' for p in others))
+    return f.proof(TEMPLATE, '(κs : Lfts 9) (qs : Shares 9) (rule : ℕ) (rule-fits : rule < 2 ^ 8) '
+                   '(asks bays amounts tickets bids : Nums) (width : ℕ) (stations charges sold paid : Nums)', walked, goes_table=goes_table(), goes_clear=goes_clear(),
                    exits=exits(), owns=owns(owning, by_place), LASTS=LASTS, LENGTHS=LENGTHS, names=f.names(),
                    at=laid([f'{p.value()} ∷ []' for p in f.parameters], 2, 'at = '),
                    tokens=[tokens(range(9), by_place)], Rest=[formulas(kept)], TOKEN=TOKEN,
@@ -121,7 +123,7 @@ val x = sliceVal (x .ptr) (length (x .now))
 
 «contracts»
 «module»  abbrev Args : Type 0
-  Args = Nums × (Nums × (Nums × (Nums × (Nums × (ℕ × (Nums × (Nums × (Nums × (Nums × Unit {0})))))))))
+  Args = ℕ × (Nums × (Nums × (Nums × (Nums × (Nums × (ℕ × (Nums × (Nums × (Nums × (Nums × Unit {0}))))))))))
 
   abbrev a : Args
   a = «names»
@@ -182,10 +184,10 @@ val x = sliceVal (x .ptr) (length (x .now))
 
   -- the call of `clear_table`, at the view r with the machine value u
   abbrev GArgs : Type 0
-  GArgs = Nums × (Nums × (Nums × (Nums × (BidTable × (Nums × (Nums × (Nums × (Nums × Unit {0}))))))))
+  GArgs = ℕ × (Nums × (Nums × (Nums × (Nums × (BidTable × (Nums × (Nums × (Nums × (Nums × Unit {0})))))))))
 
   abbrev args : BidTable → GArgs
-  args r = (asks, (bays, (amounts, (tickets, (r, (stations, (charges, (sold, (paid, tt)))))))))
+  args r = (rule, (asks, (bays, (amounts, (tickets, (r, (stations, (charges, (sold, (paid, tt))))))))))
 
   abbrev passed : Val → Vals g.signature κs
 «passed»
@@ -211,7 +213,7 @@ val x = sliceVal (x .ptr) (length (x .now))
   -- what is ensured of the answer and the last lists, where the bids are x and the row width is w
   abbrev Said : Nums → ℕ → Clearing → List ℕ → List ℕ → List ℕ → List ℕ → Type 0
   Said x w a′ «LASTS» =
-      Clears (tables (now asks) (now bays) (now amounts) (now tickets) (now x) w)
+      Clears rule (tables (now asks) (now bays) (now amounts) (now tickets) (now x) w)
       (results (now stations) (now charges) (now sold) (now paid)) a′ (results «LASTS»)
 
   of-view :

@@ -4,7 +4,7 @@ each for good."""
 from context import Walk
 from frame import Callee, each, formulas, Function, Lent, Number, owns, projection, Record, rows, tokens
 from layout import laid
-from market import BOOK, GUESTS, HOUSE, LAST, LIFETIMES, POSTED, posted, ROUND, SLICES, WIDTH
+from market import BOOK, GUESTS, HOUSE, LAST, LIFETIMES, POSTED, posted, ROUND, RULE, SLICES, WIDTH
 
 PLAN = Callee('ledger', 'planning.plan', 'plan', 'Plan')
 EXCEED = Callee('ledger', 'stations.stations_exceed', 'exceed', 'Exceed')
@@ -12,8 +12,8 @@ SETTLE = Callee('ledger', 'settling.settle', 'settle', 'Settle')
 ADD = Callee('ledger', 'stations.add_sales', 'add', 'Add')
 ROW = Lent('(x γ)', 'T.the-row', 6, value='s')
 ROW.label = 'stations'
-FUNCTION = Function('ledger', 'post', 9, [*SLICES, WIDTH, ROUND, GUESTS, ROW, HOUSE, LAST], [PLAN, EXCEED, SETTLE, ADD],
-                    naming=each, uses='''\
+FUNCTION = Function('ledger', 'post', 9, [RULE, *SLICES, WIDTH, ROUND, GUESTS, ROW, HOUSE, LAST],
+                    [PLAN, EXCEED, SETTLE, ADD], naming=each, uses='''\
 Rattle.model.specs.market.Market: tables
 Rattle.ledger.specs.declared.round.Round: Round
 Rattle.model.specs.declared.answers.Verdict: Verdict
@@ -51,6 +51,7 @@ def goes_plan():
     w.nothing('owns').add('width', *WIDTH.made())
     for p in reversed(SLICES):
         w.add(p.name)
+    w.add('rule', *RULE.made())
     w.asked(['tokens', 'owns'], PLAN, 'to-plan', 'plan-asked').frame()
     return w.unchain('Market', *(f'kept {p.name}' for p in SLICES)).end('done !')
 
@@ -80,7 +81,7 @@ def goes_add():
 
 def exits():
     w = Walk('of plan', 'Market', 'of add', 'stations', 'of settle', 'guests', 'house', 'last')
-    w.step('says ! (posts (posting (tables (now asks) (now bays) (now amounts) (now tickets) (now bids) width) round) '
+    w.step('says ! (posts (posting rule (tables (now asks) (now bays) (now amounts) (now tickets) (now bids) width) round) '
            'entry d (exceedingTo d n ys) e₀ refl c guests′ stations′ house′ last′ e₂ e₃)')
     token = [f'token {l}' for l in range(9)]
     w.chain('of plan', *token[:5], 'true of plan', how='split')
@@ -96,6 +97,7 @@ def exits():
     w.chain('Market', *KEPT)
     for p in reversed(SLICES):
         w.add(p.name)
+    w.owned('rule', *RULE.made()).add('rule')
     w.frame().drop('true of add', 'true of plan')
     w.owned('reply', 'S.the-row', '(EL.makes S.the-type S′.the-plain 𝓤 H A)', '(c .reply)', '(valS (c .reply) ∷ [])',
             '(LL.owed Q.the-type Q′.the-laws c _ is .0)')
@@ -103,12 +105,12 @@ def exits():
 
 
 def walk():
-    w = Walk('tokens', 'owns').allocate(25)
+    w = Walk('tokens', 'owns').allocate(26)
     w.passes(*(p.typed(each, 'gg') if p is GUESTS else p.typed(each, 'gn') if p is ROW else p.typed(each)
                for p in FUNCTION.parameters))
     made, full, ruling = w.take(), w.take(), w.take()
     w.note('what the parameters own and their tokens, apart; `plan`')
-    w.chain('owns', *(p.name for p in FUNCTION.parameters), 'true').drop('true', 'width', 'round')
+    w.chain('owns', *(p.name for p in FUNCTION.parameters), 'true').drop('true', 'rule', 'width', 'round')
     w.unchain('Market', *KEPT)
     token = [f'token {l}' for l in range(9)]
     w.chain('tokens', *token[:7], 'the last', how='split').join(token[5], 'the last', 'of settle')
@@ -116,7 +118,7 @@ def walk():
     for l in reversed(OF_PLAN):
         w.join(token[l], 'of plan', 'of plan')
     w.asked(['Market', 'of plan'], PLAN, 'to-plan', 'goes-plan', 'Market')
-    w.call(PLAN, 'to-plan', w.arguments(*FUNCTION.locals([*SLICES, WIDTH])), 'u₀', 'd', 'Round', 'tokens₅', 'R.the-row',
+    w.call(PLAN, 'to-plan', w.arguments(*FUNCTION.locals([RULE, *SLICES, WIDTH])), 'u₀', 'd', 'Round', 'tokens₅', 'R.the-row',
            'κs₅', 'plan-args')
     w.hear('Plan₀ d', 'plan-said d', 'e₀').given('of plan', 'result')
     w.learn('facts', 'R.the-row', 'd', 'u₀', 'gd')
@@ -196,8 +198,8 @@ def proof():
                    at=laid([f'{p.value()} ∷ []' for p in f.parameters], 2, 'at = '),
                    Market=formulas([f'Own-{p.name}' for p in SLICES]), of_plan=tokens(OF_PLAN, each),
                    of_settle=tokens(OF_SETTLE, each), settled=laid(settled, 2, 'settle-vals d v = '),
-                   plan_vals=laid([f'{p.value()} ∷ []' for p in [*SLICES, WIDTH]], 2, 'plan-vals = '),
-                   planned=[f'qed W (tokens₅ ∷ ‵ (owns ({rows([*SLICES, WIDTH], each)}) plan-args plan-vals) ∷ []) ∵ '
+                   plan_vals=laid([f'{p.value()} ∷ []' for p in [RULE, *SLICES, WIDTH]], 2, 'plan-vals = '),
+                   planned=[f'qed W (tokens₅ ∷ ‵ (owns ({rows([RULE, *SLICES, WIDTH], each)}) plan-args plan-vals) ∷ []) ∵ '
                             'join ! $ frame ! $ done !'],
                    ends=[f.ends('bound', '(valS (c .reply))', '(c .reply)')])
 
@@ -233,7 +235,7 @@ valS r = EL.val S.the-type S′.the-laws r
   Post = walkOf 𝓤 H A f.ended stayed (f.clauses 𝓤 H A mem run) .post bound
 
   abbrev Plan₀ : Round → Type 0
-  Plan₀ d = Planned (tables (now asks) (now bays) (now amounts) (now tickets) (now bids) width) d
+  Plan₀ d = Planned rule (tables (now asks) (now bays) (now amounts) (now tickets) (now bids) width) d
 
 «owns»
   abbrev Market : Fml
@@ -250,10 +252,10 @@ valS r = EL.val S.the-type S′.the-laws r
   tokens₅ = («of_plan»)
 
   abbrev PArg : Type 0
-  PArg = Nums × (Nums × (Nums × (Nums × (Nums × (ℕ × Unit {0})))))
+  PArg = ℕ × (Nums × (Nums × (Nums × (Nums × (Nums × (ℕ × Unit {0}))))))
 
   abbrev plan-args : PArg
-  plan-args = (asks, (bays, (amounts, (tickets, (bids, (width, tt))))))
+  plan-args = (rule, (asks, (bays, (amounts, (tickets, (bids, (width, tt)))))))
 
   abbrev plan-vals : Vals plan.signature κs₅
 «plan_vals»

@@ -8,9 +8,10 @@ use native.Mathlib.Omega.{arith}
 use lib.ListN.{getD, length, take, replicate}
 use Rattle.model.specs.Limits.{maxGuests, maxStations}
 use Rattle.model.specs.Counting.{_<?_, only, list}
-use Rattle.model.specs.market.Market.{Tables, marketBy, market, Screened, screen}
+use Rattle.model.specs.market.Market.{Tables, Screened}
 use Rattle.model.specs.market.Mechanism.{Decision, at, charge, best, truthful, charged}
-use Rattle.model.specs.market.Outcome.{Outcome, screened, decision, outcomeBy}
+use Rattle.model.specs.market.Outcome.{Outcome, outcomeBy}
+use Rattle.allocation.specs.Screens.{screenedAt}
 use Rattle.model.specs.claims.Meaning.{WithinLimits}
 use Rattle.model.specs.claims.Efficient.{decidedBy}
 use Rattle.model.proofs.Tests.{only-yes, only-no, is-lt, not-lt}
@@ -31,14 +32,14 @@ pub record Turning (t : Tables) (c j : ℕ) (totals₀ totals chosen gains criti
 
 pub turning-none :
     {t : Tables} {c : ℕ} {totals chosen gains criticals : List ℕ} → length totals ≡ length (t .amounts)
-    → AfterIn t 0 chosen gains criticals → Turning t c 0 totals totals chosen gains criticals
+    → AfterIn t c 0 chosen gains criticals → Turning t c 0 totals totals chosen gains criticals
 unfolding totalsAfter
 turning-none e a = record { within = omega arith; long = e; turned = record { after = a; totals-are = refl } }
 
 pub turning-more :
     {t : Tables} {c j : ℕ} {totals₀ totals chosen gains criticals totals′ chosen′ gains′ criticals′ : List ℕ}
     → Turning t c j totals₀ totals chosen gains criticals → j < length (t .asks) → length totals′ ≡ length totals
-    → AfterIn t (j + 1) chosen′ gains′ criticals′ × (totals′ ≡ turnTotals t c j totals)
+    → AfterIn t c (j + 1) chosen′ gains′ criticals′ × (totals′ ≡ turnTotals t c j totals)
     → Turning t c (j + 1) totals₀ totals′ chosen′ gains′ criticals′
 unfolding totalsAfter
 turning-more {t} {c} {j} h l e (a, q) = record {
@@ -77,10 +78,10 @@ pub record Decided (t : Tables) (D : Decision) (chosen criticals : List ℕ) : T
 
 -- after the last station
 pub truthfully :
-    (t : Tables) {chosen gains criticals : List ℕ} → WithinLimits t
-    → AfterIn t (length (t .asks)) chosen gains criticals → Decided t (decision t) chosen criticals
-unfolding stationBy criticalBy decision truthful screened screen market marketBy
-truthfully t w a = record {
+    (t : Tables) (c : ℕ) {chosen gains criticals : List ℕ} → WithinLimits t
+    → AfterIn t c (length (t .asks)) chosen gains criticals → Decided t (truthful (screenedAt t c)) chosen criticals
+unfolding stationBy criticalBy truthful screenedAt
+truthfully t c w a = record {
   chosen-are = a .chosen-are;
   criticals-long = omega (arith, long _ _ (a .criticals-are));
   criticals-are = λ j l. element _ _ (a .criticals-are) (suc j) (omega (arith, w .shape .stations-most))
@@ -89,8 +90,8 @@ truthfully t w a = record {
 
 -- a stable assignment
 pub stably :
-    (t : Tables) {chosen criticals : List ℕ} → WithinLimits t → StablyAssigned t chosen criticals
-    → Decided t (decidedBy (screened t) (of chosen)) chosen criticals
+    (t : Tables) {c : ℕ} {chosen criticals : List ℕ} → WithinLimits t → StablyAssigned t c chosen criticals
+    → Decided t (decidedBy (screenedAt t c) (of chosen)) chosen criticals
 unfolding at
 stably t w s = record {
   chosen-are = is-list _ _ _ (s .chosen-long) (λ _ _. refl);
@@ -100,7 +101,7 @@ stably t w s = record {
 }
 
 module _ (t : Tables) {c : ℕ} {least chosen criticals : List ℕ} (A : AtCut t c least) {D : Decision} {o : Outcome}
-    (m : ComesOf t D o) (d : Decided t D chosen criticals) where
+    (m : ComesOf (screenedAt t c) D o) (d : Decided t D chosen criticals) where
   choice : (k : ℕ) → k < length (t .amounts) → getD chosen k 0 ≡ D .assigned k
   choice k l = element _ _ (d .chosen-are) k l
 
@@ -108,6 +109,7 @@ module _ (t : Tables) {c : ℕ} {least chosen criticals : List ℕ} (A : AtCut t
   pub chargeable :
       {stations charges : List ℕ} → length stations ≡ length (t .amounts) → length charges ≡ length (t .amounts)
       → Chargeable chosen least criticals stations charges
+  unfolding screenedAt
   chargeable ls lc =
       let n = long _ _ (d .chosen-are) in
       record {
@@ -115,34 +117,34 @@ module _ (t : Tables) {c : ℕ} {least chosen criticals : List ℕ} (A : AtCut t
         stations-long = ls ∙ sym n;
         charges-long = lc ∙ sym n;
         numbers = λ k l. let lk : k < length (t .amounts) = omega arith in
-            rw (choice k lk) (numbered t m (A .within) k lk);
+            rw (choice k lk) (numbered m (A .within .shape .stations-most) k lk);
         criticals-long = d .criticals-long;
       }
 
-  least-here : (k : ℕ) → k < length (t .amounts) → getD least k 0 ≡ (screened t) .cut * (screened t) .amount k
-  unfolding screened screen market marketBy
-  least-here k l = element _ _ (A .least-are) k l ∙ ap (λ x. x * getD (t .amounts) k 0) (A .is-cut)
+  least-here : (k : ℕ) → k < length (t .amounts) → getD least k 0 ≡ (screenedAt t c) .cut * (screenedAt t c) .amount k
+  unfolding screenedAt
+  least-here k l = element _ _ (A .least-are) k l
 
   within : (k j : ℕ) → k < length (t .amounts) → D .assigned k ≡ suc j → j < length (t .asks)
-  unfolding screened screen market marketBy
+  unfolding screenedAt
   within k j l e = m .candidates k j l e .0
 
   charged-by :
       (k s : ℕ) → k < length (t .amounts) → D .assigned k ≡ s
-      → only (0 <? s) (max (getD least k 0) (getD criticals s 0)) ≡ at (charge (screened t) D k) s
+      → only (0 <? s) (max (getD least k 0) (getD criticals s 0)) ≡ at (charge (screenedAt t c) D k) s
   unfolding at charge
   charged-by k zero l e = only-no _ _ (not-lt 0 0 (le-refl 0))
   charged-by k (suc j) l e =
       only-yes _ _ (is-lt 0 (suc j) (omega arith)) ∙ ap₂ max (least-here k l) (d .criticals-are j (within k j l e))
 
   charged-here :
-      (k : ℕ) → k < length (t .amounts) → chargedAt chosen least criticals k ≡ charged (screened t) D k
+      (k : ℕ) → k < length (t .amounts) → chargedAt chosen least criticals k ≡ charged (screenedAt t c) D k
   unfolding chargedAt charged
   charged-here k l = rw (choice k l) (charged-by k _ l refl)
 
   pub assigned :
       {stations charges : List ℕ} → Charged chosen least criticals stations charges → Assigned o stations charges
-  unfolding outcomeBy screened screen market marketBy
+  unfolding outcomeBy screenedAt
   assigned h = record {
     stations-are = h .stations-are ∙ d .chosen-are ∙ sym (ap (λ o. o .results .stations) (m .outcome-is));
     charges-are = relist _ _ _ _ (h .charges-are) (long _ _ (d .chosen-are)) charged-here

@@ -9,8 +9,8 @@ use native.Mathlib.Omega.{arith}
 use lib.ListN.{length, set}
 use Rattle.model.specs.Limits.{maxStations}
 use Rattle.model.specs.Counting.{_<?_, only, greatest, list}
-use Rattle.model.specs.market.Market.{Tables, market, marketBy, screen}
-use Rattle.model.specs.market.Outcome.{screened}
+use Rattle.model.specs.market.Market.{Tables}
+use Rattle.allocation.specs.Screens.{screenedAt}
 use Rattle.model.specs.market.Stable.{turnedAwayAt}
 use Rattle.model.proofs.Counting.{greatest-le, greatest-cong}
 use Rattle.model.proofs.Loops.{element, in-table}
@@ -23,7 +23,6 @@ use Rattle.allocation.proofs.criticals.Renewed.{renewed-turn, renewed-n
 use Rattle.allocation.proofs.criticals.Renewed.{renewed-zeros}
 use Rattle.allocation.proofs.criticals.Ranks.{total-from-low}
 use Rattle.allocation.proofs.criticals.TurnedAway.{turned-is}
-use Rattle.allocation.proofs.seats.Listing.{cut-low}
 
 -- one row
 module _ (bids : List ℕ) (row amount : ℕ) {l₀ l : List ℕ} where
@@ -94,7 +93,7 @@ only-greatest true n f = refl
 only-greatest false zero f = refl
 only-greatest false (suc n) f = omega (arith, only-greatest false n f)
 
-module _ (t : Tables) {c : ℕ} (p : Priced t c) {chosen : List ℕ} (seats : Seats t chosen) where
+module _ (t : Tables) {c : ℕ} (p : Priced t c) {chosen : List ℕ} (seats : Seats t c chosen) where
   abbrev n : ℕ
   n = length (t .amounts)
 
@@ -113,7 +112,7 @@ module _ (t : Tables) {c : ℕ} (p : Priced t c) {chosen : List ℕ} (seats : Se
       bid-most = λ j lj. p .within .bid-most _ (omega (arith, p .within .shape .bids-length, in-table n m i j li lj));
     };
     amount-most = p .within .amount-most;
-    cut-most = cut-low t p;
+    cut-most = p .cut-low;
     chosen-long = seats .long;
     seat-most = λ i li. seat-most i li _ refl;
   }
@@ -122,20 +121,20 @@ module _ (t : Tables) {c : ℕ} (p : Priced t c) {chosen : List ℕ} (seats : Se
   passed-open :
       (j : ℕ) → j < m
       → only (of (t .asks) j <? c) (passedOver (t .amounts) (t .bids) chosen m c n j)
-      ≡ turnedAwayAt (screened t) (of chosen) j
-  unfolding passedOver turnedAwayAt screened screen market marketBy
+      ≡ turnedAwayAt (screenedAt t c) (of chosen) j
+  unfolding passedOver turnedAwayAt screenedAt
   passed-open j lj = only-greatest _ _ _ ∙ greatest-cong _ _ _ (λ i li. turned-is t p seats li lj)
 
   pub criticals-are :
       {l₀ l₁ l₂ : List ℕ} → l₀ ≡ list (maxStations + 1) (λ _. 0)
       → Renewed m (passedOver (t .amounts) (t .bids) chosen m c n) l₀ l₁
       → Renewed m (λ j. only (of (t .asks) j <? c) (of l₁ (suc j))) l₁ l₂
-      → l₂ ≡ list (maxStations + 1) (criticalOf (screened t) (of chosen) m)
+      → l₂ ≡ list (maxStations + 1) (criticalOf (screenedAt t c) (of chosen) m)
   criticals-are e h k = renewed-zeros (maxStations + 1) e
-      (renewed-as (turnedAwayAt (screened t) (of chosen))
+      (renewed-as (turnedAwayAt (screenedAt t c) (of chosen))
       (λ j lj. ap (only (of (t .asks) j <? c)) (h .stations j lj) ∙ passed-open j lj) (renewed-again h k))
 
 -- seats of holders are candidacies
-pub seats-known : (t : Tables) {R : Seating} → HeldIn t R → Seats t (R .chosen)
-unfolding screened screen market marketBy
+pub seats-known : (t : Tables) {c : ℕ} {R : Seating} → HeldIn t c R → Seats t c (R .chosen)
+unfolding screenedAt
 seats-known t h = record { long = h .chosen-long; candidates = h .holding .candidates }

@@ -8,8 +8,8 @@ use native.Mathlib.Nat.{le-refl}
 use native.Mathlib.Omega.{arith}
 use lib.ListN.{length}
 use Rattle.model.specs.Counting.{_<?_, _≤?_, _=?_, _and_, _or_, only}
-use Rattle.model.specs.market.Market.{Tables, Screened, market, marketBy, screen, opens, bidAt}
-use Rattle.model.specs.market.Outcome.{screened}
+use Rattle.model.specs.market.Market.{Tables, Screened, bidAt}
+use Rattle.allocation.specs.Screens.{screenedAt}
 use Rattle.model.specs.market.Stable.{sooner, beforeSeat, turnedAway}
 use Rattle.model.proofs.Tests.{both, second, and-no, and-true, and-false, or-skip, only-yes, only-no, le-yes}
 use Rattle.model.proofs.Tests.{is-lt, not-lt, is-le, is-eq, lt-or-le}
@@ -34,7 +34,7 @@ unfolding _and_
 only-where a true h = sym (and-true a ∙ h refl)
 only-where a false h = sym (and-false a)
 
-module _ (t : Tables) {c : ℕ} (p : Priced t c) {chosen : List ℕ} (seats : Seats t chosen) {i j : ℕ}
+module _ (t : Tables) {c : ℕ} (p : Priced t c) {chosen : List ℕ} (seats : Seats t c chosen) {i j : ℕ}
     (li : i < length (t .amounts)) (lj : j < length (t .asks)) where
   abbrev bid : ℕ → ℕ
   bid k = of (t .bids) (i * length (t .asks) + k)
@@ -42,20 +42,20 @@ module _ (t : Tables) {c : ℕ} (p : Priced t c) {chosen : List ℕ} (seats : Se
   abbrev least : ℕ → ℕ
   least seat = leastRank (t .bids) (i * length (t .asks)) c seat
 
-  candidate-is : (k : ℕ) → (screened t) .candidate i k ≡ (of (t .asks) k <? c and c ≤? bid k)
-  unfolding screened screen market marketBy opens bidAt
-  candidate-is k = rw (p .is-cut) refl
+  candidate-is : (k : ℕ) → (screenedAt t c) .candidate i k ≡ (of (t .asks) k <? c and c ≤? bid k)
+  unfolding screenedAt bidAt
+  candidate-is k = refl
 
-  seated-order : (l : ℕ) → l < 64 → (rank (bid l) l + 1 ≤? rank (bid j) j) ≡ sooner (screened t) i j i l
-  unfolding screened screen market marketBy bidAt
+  seated-order : (l : ℕ) → l < 64 → (rank (bid l) l + 1 ≤? rank (bid j) j) ≡ sooner (screenedAt t c) i j i l
+  unfolding screenedAt bidAt
   seated-order l ll =
       ranked (bid j) (bid l) (of (t .amounts) i) (p .within .amount-least i li)
-      (omega (arith, p .within .shape .stations-most)) ll ∙ sym (own-order (screened t) i j l)
+      (omega (arith, p .within .shape .stations-most)) ll ∙ sym (own-order (screenedAt t c) i j l)
 
   -- what stands before a candidacy of the guest reaches the cut
   seat-reaches :
-      (l : ℕ) → (screened t) .candidate i l ≡ true → of (t .asks) j < c → rank (bid l) l + 1 ≤ rank (bid j) j
-      → (screened t) .candidate i j ≡ true
+      (l : ℕ) → (screenedAt t c) .candidate i l ≡ true → of (t .asks) j < c → rank (bid l) l + 1 ≤ rank (bid j) j
+      → (screenedAt t c) .candidate i j ≡ true
   unfolding rank
   seat-reaches l k opened h =
       let own : c ≤ bid l = le-yes _ _ (second _ _ (sym (candidate-is l) ∙ k)) in
@@ -63,7 +63,7 @@ module _ (t : Tables) {c : ℕ} (p : Priced t c) {chosen : List ℕ} (seats : Se
 
   by-seat :
       (seat : ℕ) → of chosen i ≡ seat → of (t .asks) j < c
-      → (least seat ≤? rank (bid j) j) ≡ ((screened t) .candidate i j and beforeSeat (screened t) i j seat)
+      → (least seat ≤? rank (bid j) j) ≡ ((screenedAt t c) .candidate i j and beforeSeat (screenedAt t c) i j seat)
   unfolding leastRank beforeSeat
   by-seat zero e opened =
       let few : j < 64 = omega (arith, p .within .shape .stations-most) in
@@ -73,13 +73,13 @@ module _ (t : Tables) {c : ℕ} (p : Priced t c) {chosen : List ℕ} (seats : Se
       let (ll, k) = seats .candidates i l li e in
       let few : l < 64 = omega (arith, p .within .shape .stations-most) in
       only-where _ _ (λ q. seat-reaches l k opened (le-yes _ _ q))
-      ∙ ap (λ b. (screened t) .candidate i j and b) (seated-order l few)
+      ∙ ap (λ b. (screenedAt t c) .candidate i j and b) (seated-order l few)
 
   -- guest i's total at station j, where it was turned away there
   pub turned-is :
       only (of (t .asks) j <? c) (passedAt (t .amounts) (t .bids) chosen (length (t .asks)) c i j)
-      ≡ only (turnedAway (screened t) (of chosen) i j) ((screened t) .total i j)
-  unfolding passedAt totalFrom turnedAway screened screen market marketBy bidAt
+      ≡ only (turnedAway (screenedAt t c) (of chosen) i j) ((screenedAt t c) .total i j)
+  unfolding passedAt totalFrom turnedAway screenedAt bidAt
   turned-is = ⊎-elim
       (λ (opened : of (t .asks) j < c).
       only-yes _ _ (is-lt _ _ opened)

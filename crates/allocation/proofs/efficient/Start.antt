@@ -6,8 +6,8 @@ use native.Mathlib.Omega.{arith}
 use lib.ListN.{length, take, replicate}
 use Rattle.model.specs.Limits.{maxGuests, maxStations}
 use Rattle.model.specs.Counting.{list}
-use Rattle.model.specs.market.Market.{Tables, market, marketBy, screen}
-use Rattle.model.specs.market.Outcome.{screened}
+use Rattle.model.specs.market.Market.{Tables}
+use Rattle.allocation.specs.Screens.{screenedAt}
 use Rattle.model.specs.claims.Meaning.{WithinLimits}
 use Rattle.model.proofs.Tests.{eq-yes}
 use Rattle.model.proofs.Counting.{count-none}
@@ -32,9 +32,9 @@ module _ (t : Tables) (w : WithinLimits t) {chosen : List ℕ} (e : chosen ≡ l
   zero-at : (j : ℕ) → j < length (t .asks) → of (take (length (t .asks)) (replicate {A = ℕ} maxStations 0)) j ≡ 0
   zero-at = element _ _ (zeros-are maxStations (length (t .asks)) (w .shape .stations-most))
 
-  none-held : HeldIn t (empty t chosen)
-  unfolding holders link screened screen market marketBy
-  none-held =
+  none-held : (c : ℕ) → HeldIn t c (empty t chosen)
+  unfolding holders link screenedAt
+  none-held c =
       let n = sym (zeros-long maxStations (length (t .asks)) (w .shape .stations-most)) in
       record {
         chosen-long = long _ _ e;
@@ -63,16 +63,16 @@ module _ (t : Tables) (w : WithinLimits t) {chosen : List ℕ} (e : chosen ≡ l
           guests = λ q l. absurd (omega (arith, rw (zero-at j lj) at l));
         };
         lasts-at = λ j lj full. absurd (omega (arith, w .bays-least j lj, rw (zero-at j lj) at full));
-        bars-are = λ j lj. zero-at j lj ∙ sym (bar-free (screened t) _ _ j
+        bars-are = λ j lj. zero-at j lj ∙ sym (bar-free (screenedAt t c) _ _ j
             (rw (zero-at j lj) (w .bays-least j lj)));
       }
 
-  pub none-called : Called t (take (length (t .amounts)) (replicate {A = ℕ} maxGuests 0)) (empty t chosen)
-  unfolding screened screen market marketBy
-  none-called =
+  pub none-called : (c : ℕ) → Called t c (take (length (t .amounts)) (replicate {A = ℕ} maxGuests 0)) (empty t chosen)
+  unfolding screenedAt
+  none-called c =
       let most = w .shape .guests-most in
       record {
         called-long = sym (zeros-long maxGuests (length (t .amounts)) most);
-        held-in = none-held;
+        held-in = none-held c;
         serving = serving-none (element _ _ (zeros-are maxGuests (length (t .amounts)) most)) (element _ _ e);
       }

@@ -11,8 +11,8 @@ use lib.ListN.{length, set, length-set}
 use lib.Seq.{getD-set-same, getD-set-other}
 use Rattle.model.specs.Limits.{maxBays}
 use Rattle.model.specs.Counting.{_<?_, _≤?_, only}
-use Rattle.model.specs.market.Market.{Tables, Screened, market, marketBy, screen, bidAt}
-use Rattle.model.specs.market.Outcome.{screened}
+use Rattle.model.specs.market.Market.{Tables, Screened, bidAt}
+use Rattle.allocation.specs.Screens.{screenedAt}
 use Rattle.model.specs.market.Stable.{sooner}
 use Rattle.model.specs.claims.Meaning.{WithinLimits}
 use Rattle.model.proofs.Tests.{or-cases, lt-yes, eq-or-ne, is-lt, not-lt, is-le, not-le, only-yes, only-no}
@@ -31,18 +31,18 @@ use Rattle.allocation.proofs.seats.Chains.{relinked-lengths, relinked-c
 
 -- the order that the lists state is the market's
 pub closed-in-market :
-    (t : Tables) {n h j first : ℕ} {nexts lasts befores bars lasts′ befores′ bars′ : List ℕ}
+    (t : Tables) (c : ℕ) {n h j first : ℕ} {nexts lasts befores bars lasts′ befores′ bars′ : List ℕ}
     → Closed (stated (t .amounts) (t .tickets) (t .bids) (length (t .asks))) n h j first nexts lasts befores bars lasts′
     befores′ bars′
-    → Closed (screened t) n h j first nexts lasts befores bars lasts′ befores′ bars′
-unfolding stated screened screen market marketBy bidAt sooner priority
-closed-in-market t c = record {
-  guest = c .guest;
-  before = c .before;
-  last = record { slot = c .last .slot; chain = c .last .chain; at = c .last .at; last = c .last .last };
-  lasts-are = c .lasts-are;
-  befores-are = c .befores-are;
-  bars-are = c .bars-are;
+    → Closed (screenedAt t c) n h j first nexts lasts befores bars lasts′ befores′ bars′
+unfolding stated screenedAt bidAt sooner priority
+closed-in-market t c h = record {
+  guest = h .guest;
+  before = h .before;
+  last = record { slot = h .last .slot; chain = h .last .chain; at = h .last .at; last = h .last .last };
+  lasts-are = h .lasts-are;
+  befores-are = h .befores-are;
+  bars-are = h .bars-are;
 }
 
 -- ---- bars
@@ -64,21 +64,23 @@ bar-same S held held′ last last′ l e f = ap₂ (λ h y. only (S .bays l ≤?
 
 -- ---- guest x takes its seat at station j
 
-module _ (t : Tables) (w : WithinLimits t) {R : Seating} (h : HeldIn t R) {x j s : ℕ} (v : Waits t (R .chosen) x)
-    (q : s ≡ suc j) (e : bestTaker (screened t) (of (R .held)) (of (R .lasts)) x ≡ suc j) where
-  guest : x < (screened t) .guestCount
-  unfolding screened screen market marketBy
+module _ (t : Tables) (w : WithinLimits t) {c : ℕ} {R : Seating} (h : HeldIn t c R) {x j s : ℕ}
+    (v : Waits t (R .chosen) x)
+    (q : s ≡ suc j) (e : bestTaker (screenedAt t c) (of (R .held)) (of (R .lasts)) x ≡ suc j) where
+  guest : x < (screenedAt t c) .guestCount
+  unfolding screenedAt
   guest = v .0
 
-  taking : Seatable (screened t) (of (R .chosen)) x j × (takes (screened t) (of (R .held)) (of (R .lasts)) x j ≡ true)
-  taking = taker (screened t) (keys t w) (h .holding) x guest (v .1) e
+  taking : Seatable (screenedAt t c) (of (R .chosen)) x j
+      × (takes (screenedAt t c) (of (R .held)) (of (R .lasts)) x j ≡ true)
+  taking = taker (screenedAt t c) (keys t c w) (h .holding) x guest (v .1) e
 
   pub station : j < length (t .asks)
-  unfolding screened screen market marketBy
+  unfolding screenedAt
   station = taking .0 .station
 
   pub held-low : (l : ℕ) → l < length (t .asks) → of (R .held) l ≤ maxBays
-  unfolding screened screen market marketBy
+  unfolding screenedAt
   held-low l ll = le-trans (h .holding .fits l ll) (w .bays-most l ll)
 
   in-list : x < length (R .chosen)
@@ -89,13 +91,13 @@ module _ (t : Tables) (w : WithinLimits t) {R : Seating} (h : HeldIn t R) {x j s
 
   -- x is in no chain
   not-x : (l k : ℕ) → l < length (t .asks) → k < of (R .held) l → h .slot l k ≡ x → ⊥
-  unfolding screened screen market marketBy
+  unfolding screenedAt
   not-x l k ll lk z = no-seat (of (R .chosen)) (v .1) (h .slotted .holds l k ll lk .1) z
 
   -- a guest of another station's chain is in none of this one's slots
   elsewhere : (l k r : ℕ) → l < length (t .asks) → (l ≡ j → ⊥) → k < of (R .held) l → r < hold
       → h .slot l k ≡ h .slot j r → ⊥
-  unfolding screened screen market marketBy
+  unfolding screenedAt
   elsewhere l k r ll ne lk lr z =
       ne (let same : suc l ≡ suc j = sym (h .slotted .holds l k ll lk .1) ∙ ap (of (R .chosen)) z
       ∙ h .slotted .holds j r station lr .1 in omega arith)
@@ -129,8 +131,8 @@ module _ (t : Tables) (w : WithinLimits t) {R : Seating} (h : HeldIn t R) {x j s
     held-other : (l : ℕ) → (l ≡ j → ⊥) → of held′ l ≡ of (R .held) l
     held-other l ne = getD-set-other (R .held) j l _ 0 ne
 
-    slotted-filled : Slotted (screened t) (of chosen′) (of held′) slot′
-    unfolding screened screen market marketBy
+    slotted-filled : Slotted (screenedAt t c) (of chosen′) (of held′) slot′
+    unfolding screenedAt
     slotted-filled =
         slotted-after (h .slotted) (λ i l li o. h .holding .candidates i l li o .0) (filled (v .1) put) (v .0) (v .1)
         (put .placed) slot-is
@@ -171,12 +173,12 @@ module _ (t : Tables) (w : WithinLimits t) {R : Seating} (h : HeldIn t R) {x j s
         → ((l : ℕ) → (l ≡ j → ⊥) → of lasts′ l ≡ of (R .lasts) l)
         → ((l : ℕ) → (l ≡ j → ⊥) → of befores′ l ≡ of (R .befores) l)
         → ((l : ℕ) → (l ≡ j → ⊥) → of bars′ l ≡ of (R .bars) l)
-        → (of (t .bays) j ≤ hold + 1 → IsLast (screened t) (of chosen′) j (of lasts′ j)
+        → (of (t .bays) j ≤ hold + 1 → IsLast (screenedAt t c) (of chosen′) j (of lasts′ j)
         × At (slot′ j) (hold + 1) (of lasts′ j) (of befores′ j))
-        → of bars′ j ≡ barOf (screened t) (of held′) (of lasts′) j
-        → HeldIn t (seating chosen′ held′ firsts′ nexts′ lasts′ befores′ bars′)
-        × Moved (screened t) x (of (R .chosen)) 0 (of chosen′)
-    unfolding screened screen market marketBy
+        → of bars′ j ≡ barOf (screenedAt t c) (of held′) (of lasts′) j
+        → HeldIn t c (seating chosen′ held′ firsts′ nexts′ lasts′ befores′ bars′)
+        × Moved (screenedAt t c) x (of (R .chosen)) 0 (of chosen′)
+    unfolding screenedAt
     after-filled lasts′ befores′ bars′ n-lasts n-befores n-bars kept kept-befores kept-bars full bar = (
       record {
         chosen-long = length-set (R .chosen) x s ∙ h .chosen-long;
@@ -188,7 +190,7 @@ module _ (t : Tables) (w : WithinLimits t) {R : Seating} (h : HeldIn t R) {x j s
         bars-long = n-bars ∙ h .bars-long;
         holding = holding-after (h .holding) (taking .0) (filled (v .1) put) _ _
             (held-here ∙ ap (λ k. k + 1) (h .holding .counted j station)
-            ∙ sym (one-holder-more (screened t) (taking .0) put))
+            ∙ sym (one-holder-more (screenedAt t c) (taking .0) put))
             (rw (held-here, add-one) free) held-other (λ l _. kept l) (λ z. full (rw held-here at z) .0);
         slot = slot′;
         slotted = slotted-filled;
@@ -201,10 +203,10 @@ module _ (t : Tables) (w : WithinLimits t) {R : Seating} (h : HeldIn t R) {x j s
         bars-are = λ l ll. ⊎-elim
             (λ (z : l ≡ j). rw z bar)
             (λ (ne : l ≡ j → ⊥). kept-bars l ne ∙ h .bars-are l ll
-            ∙ bar-same (screened t) _ _ _ _ l (held-other l ne) (kept l ne))
+            ∙ bar-same (screenedAt t c) _ _ _ _ l (held-other l ne) (kept l ne))
             (eq-or-ne l j);
       },
-      into-free-bay (screened t) (keys t w) (h .holding) guest (v .1) e put,
+      into-free-bay (screenedAt t c) (keys t c w) (h .holding) guest (v .1) e put,
     )
       where
         at-same : (l : ℕ) → (l ≡ j → ⊥) → {k y b : ℕ} → At (h .slot l) k y b → At (slot′ l) k y b
@@ -218,58 +220,58 @@ module _ (t : Tables) (w : WithinLimits t) {R : Seating} (h : HeldIn t R) {x j s
 
     -- a bay is left
     pub into-free : (of (t .bays) j ≡ hold + 1 → ⊥)
-        → HeldIn t (seating chosen′ held′ firsts′ nexts′ (R .lasts) (R .befores) (R .bars))
-        × Moved (screened t) x (of (R .chosen)) 0 (of chosen′)
-    unfolding screened screen market marketBy
+        → HeldIn t c (seating chosen′ held′ firsts′ nexts′ (R .lasts) (R .befores) (R .bars))
+        × Moved (screenedAt t c) x (of (R .chosen)) 0 (of chosen′)
+    unfolding screenedAt
     into-free ne =
         let left : hold + 1 < of (t .bays) j = ⊎-elim (λ l. l)
         (λ (l : of (t .bays) j ≤ hold + 1). absurd (ne (omega arith))) (lt-or-le (hold + 1) (of (t .bays) j)) in
         after-filled (R .lasts) (R .befores) (R .bars) refl refl refl (λ l _. refl) (λ l _. refl) (λ l _. refl)
         (λ full. absurd (omega arith))
-        (h .bars-are j station ∙ bar-free (screened t) _ _ j free
-        ∙ sym (bar-free (screened t) (of held′) _ j (rw held-here left)))
+        (h .bars-are j station ∙ bar-free (screenedAt t c) _ _ j free
+        ∙ sym (bar-free (screenedAt t c) (of held′) _ j (rw held-here left)))
 
     -- none is left
     pub into-last-free :
         {lasts′ befores′ bars′ : List ℕ} → of (t .bays) j ≡ hold + 1
-        → Closed (screened t) (length (t .amounts)) (hold + 1) j (of firsts′ j) nexts′ (R .lasts) (R .befores)
+        → Closed (screenedAt t c) (length (t .amounts)) (hold + 1) j (of firsts′ j) nexts′ (R .lasts) (R .befores)
         (R .bars) lasts′ befores′ bars′
-        → HeldIn t (seating chosen′ held′ firsts′ nexts′ lasts′ befores′ bars′)
-        × Moved (screened t) x (of (R .chosen)) 0 (of chosen′)
-    unfolding screened screen market marketBy
-    into-last-free full c = rw (c .lasts-are, c .befores-are, c .bars-are) (
-        let y = c .guest in
+        → HeldIn t c (seating chosen′ held′ firsts′ nexts′ lasts′ befores′ bars′)
+        × Moved (screenedAt t c) x (of (R .chosen)) 0 (of chosen′)
+    unfolding screenedAt
+    into-last-free full k = rw (k .lasts-are, k .befores-are, k .bars-are) (
+        let y = k .guest in
         let in-lasts : j < length (R .lasts) = omega (arith, h .lasts-long, station) in
         let in-befores : j < length (R .befores) = omega (arith, h .befores-long, station) in
         let in-bars : j < length (R .bars) = omega (arith, h .bars-long, station) in
         let last-here : of (set (R .lasts) j y) j ≡ y = getD-set-same (R .lasts) j y 0 in-lasts in
-        let before-here : of (set (R .befores) j (c .before)) j ≡ c .before =
-        getD-set-same (R .befores) j (c .before) 0 in-befores in
-        after-filled (set (R .lasts) j y) (set (R .befores) j (c .before)) (set (R .bars) j _)
+        let before-here : of (set (R .befores) j (k .before)) j ≡ k .before =
+        getD-set-same (R .befores) j (k .before) 0 in-befores in
+        after-filled (set (R .lasts) j y) (set (R .befores) j (k .before)) (set (R .bars) j _)
         (length-set (R .lasts) j y) (length-set (R .befores) j _) (length-set (R .bars) j _)
         (λ l ne. getD-set-other (R .lasts) j l y 0 ne) (λ l ne. getD-set-other (R .befores) j l _ 0 ne)
         (λ l ne. getD-set-other (R .bars) j l _ 0 ne)
         (λ _. rw (last-here, before-here)
         (rw held-here at
-        (last-holder station slotted-filled (chains-filled j station) (rw (← held-here) at (c .last)))))
+        (last-holder station slotted-filled (chains-filled j station) (rw (← held-here) at (k .last)))))
         (getD-set-same (R .bars) j _ 0 in-bars
-        ∙ ap (λ g. suc (priority (screened t) g j)) (sym last-here)
-        ∙ sym (bar-full (screened t) (of held′) _ j (rw (held-here, full) (omega arith)))))
+        ∙ ap (λ g. suc (priority (screenedAt t c) g j)) (sym last-here)
+        ∙ sym (bar-full (screenedAt t c) (of held′) _ j (rw (held-here, full) (omega arith)))))
 
   -- ---- a full station: its last holder stands after the guest that it would take
   module _ (full : of (t .bays) j ≤ hold) where
     abbrev out : ℕ
     out = of (R .lasts) j
 
-    last-is : IsLast (screened t) (of (R .chosen)) j out
-    unfolding screened screen market marketBy
+    last-is : IsLast (screenedAt t c) (of (R .chosen)) j out
+    unfolding screenedAt
     last-is = h .holding .lasts j station full
 
     last-at : At (h .slot j) hold out (of (R .befores) j)
     last-at = h .lasts-at j station full
 
     pub last-guest : out < length (t .amounts)
-    unfolding screened screen market marketBy
+    unfolding screenedAt
     last-guest = last-is .guest
 
     -- the number before it is a guest's, or 0
@@ -281,8 +283,8 @@ module _ (t : Tables) (w : WithinLimits t) {R : Seating} (h : HeldIn t R) {x j s
         rw (last-at .before-is ∙ only-no _ _ (not-lt _ _ z)) (omega arith))
         (lt-or-le (suc (last-at .place)) hold)
 
-    before-last : sooner (screened t) x j out j ≡ true
-    unfolding takes screened screen market marketBy
+    before-last : sooner (screenedAt t c) x j out j ≡ true
+    unfolding takes screenedAt
     before-last = ⊎-elim
         (λ z. absurd (let free : hold < of (t .bays) j = lt-yes _ _ z in omega arith))
         (λ z. z)
@@ -308,8 +310,8 @@ module _ (t : Tables) (w : WithinLimits t) {R : Seating} (h : HeldIn t R) {x j s
     swap-is : SlotPut (h .slot) j (last-at .place) x swapped
     swap-is = slot-put (h .slot) j (last-at .place) x
 
-    slotted-swapped : Slotted (screened t) (of seats) (of (R .held)) swapped
-    unfolding screened screen market marketBy
+    slotted-swapped : Slotted (screenedAt t c) (of seats) (of (R .held)) swapped
+    unfolding screenedAt
     slotted-swapped =
         slotted-after (h .slotted) (λ i l li o. h .holding .candidates i l li o .0) reseated (v .0) (v .1)
         (put-in .placed) swap-is
@@ -337,7 +339,7 @@ module _ (t : Tables) (w : WithinLimits t) {R : Seating} (h : HeldIn t R) {x j s
 
       chains-swapped : (l : ℕ) → l < length (t .asks)
           → Chain (length (t .amounts)) (of (R .held) l) (swapped l) (of firsts′ l) nexts′
-      unfolding screened screen market marketBy
+      unfolding screenedAt
       chains-swapped l ll = ⊎-elim
           (λ (z : l ≡ j). rw z (relinked-chain r last-at in-firsts in-nexts inside (λ k lk. not-x j k station lk)
           (v .0) (λ k p lk lp. h .slotted .once j k p station lk lp) (swap-is .placed)
@@ -357,22 +359,22 @@ module _ (t : Tables) (w : WithinLimits t) {R : Seating} (h : HeldIn t R) {x j s
 
       pub into-last :
           {r : ℕ} {lasts′ befores′ bars′ : List ℕ} → r ≡ suc out
-          → Closed (screened t) (length (t .amounts)) hold j (of firsts′ j) nexts′ (R .lasts) (R .befores) (R .bars)
+          → Closed (screenedAt t c) (length (t .amounts)) hold j (of firsts′ j) nexts′ (R .lasts) (R .befores) (R .bars)
           lasts′ befores′ bars′
-          → HeldIn t (seating seats (R .held) firsts′ nexts′ lasts′ befores′ bars′)
-          × Moved (screened t) x (of (R .chosen)) r (of seats)
-      unfolding screened screen market marketBy
-      into-last er c = rw (c .lasts-are, c .befores-are, c .bars-are) (
-          let y = c .guest in
+          → HeldIn t c (seating seats (R .held) firsts′ nexts′ lasts′ befores′ bars′)
+          × Moved (screenedAt t c) x (of (R .chosen)) r (of seats)
+      unfolding screenedAt
+      into-last er k = rw (k .lasts-are, k .befores-are, k .bars-are) (
+          let y = k .guest in
           let in-lasts : j < length (R .lasts) = omega (arith, h .lasts-long, station) in
           let in-befores : j < length (R .befores) = omega (arith, h .befores-long, station) in
           let in-bars : j < length (R .bars) = omega (arith, h .bars-long, station) in
           let last-here : of (set (R .lasts) j y) j ≡ y = getD-set-same (R .lasts) j y 0 in-lasts in
-          let before-here : of (set (R .befores) j (c .before)) j ≡ c .before =
-          getD-set-same (R .befores) j (c .before) 0 in-befores in
+          let before-here : of (set (R .befores) j (k .before)) j ≡ k .before =
+          getD-set-same (R .befores) j (k .before) 0 in-befores in
           let kept : (l : ℕ) → (l ≡ j → ⊥) → of (set (R .lasts) j y) l ≡ of (R .lasts) l =
           λ l ne. getD-set-other (R .lasts) j l y 0 ne in
-          let (is-last, at) = last-holder station slotted-swapped (chains-swapped j station) (c .last) in (
+          let (is-last, at) = last-holder station slotted-swapped (chains-swapped j station) (k .last) in (
             record {
               chosen-long = length-set (set (R .chosen) out 0) x s ∙ length-set (R .chosen) _ 0 ∙ h .chosen-long;
               held-long = h .held-long;
@@ -383,7 +385,7 @@ module _ (t : Tables) (w : WithinLimits t) {R : Seating} (h : HeldIn t R) {x j s
               bars-long = length-set (R .bars) j _ ∙ h .bars-long;
               holding = holding-after (h .holding) (taking .0) reseated _ _
                   (h .holding .counted j station
-                  ∙ sym (as-many-holders (screened t) (taking .0) last-is put-out put-in))
+                  ∙ sym (as-many-holders (screenedAt t c) (taking .0) last-is put-out put-in))
                   (h .holding .fits j station) (λ l ne. refl) (λ l _. kept l) (λ _. rw last-here is-last);
               slot = swapped;
               slotted = slotted-swapped;
@@ -395,14 +397,15 @@ module _ (t : Tables) (w : WithinLimits t) {R : Seating} (h : HeldIn t R) {x j s
                   (eq-or-ne l j);
               bars-are = λ l ll. ⊎-elim
                   (λ (z : l ≡ j). rw z (getD-set-same (R .bars) j _ 0 in-bars
-                  ∙ ap (λ g. suc (priority (screened t) g j)) (sym last-here)
-                  ∙ sym (bar-full (screened t) (of (R .held)) _ j full)))
+                  ∙ ap (λ g. suc (priority (screenedAt t c) g j)) (sym last-here)
+                  ∙ sym (bar-full (screenedAt t c) (of (R .held)) _ j full)))
                   (λ (ne : l ≡ j → ⊥). getD-set-other (R .bars) j l _ 0 ne ∙ h .bars-are l ll
-                  ∙ bar-same (screened t) _ _ _ _ l refl (kept l ne))
+                  ∙ bar-same (screenedAt t c) _ _ _ _ l refl (kept l ne))
                   (eq-or-ne l j);
             },
             rw er
-                (in-place-of-last (screened t) (keys t w) (h .holding) guest (v .1) e full before-last put-out put-in),
+                (in-place-of-last (screenedAt t c) (keys t c w) (h .holding) guest (v .1) e full before-last put-out
+                put-in),
           ))
         where
           at-same : (l : ℕ) → (l ≡ j → ⊥) → {k y b : ℕ} → At (h .slot l) k y b → At (swapped l) k y b

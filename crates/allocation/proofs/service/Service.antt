@@ -8,8 +8,8 @@ use native.Mathlib.Omega.{arith}
 use lib.ListN.{length, set, length-set}
 use lib.Seq.{getD-set-same, getD-set-other}
 use Rattle.model.specs.Counting.{_<?_, only}
-use Rattle.model.specs.market.Market.{Tables, Screened, market, marketBy, screen}
-use Rattle.model.specs.market.Outcome.{screened}
+use Rattle.model.specs.market.Market.{Tables, Screened}
+use Rattle.allocation.specs.Screens.{screenedAt}
 use Rattle.model.specs.market.Stable.{Stable}
 use Rattle.model.proofs.Tests.{only-yes, only-no, is-lt, not-lt, eq-or-ne, lt-or-le}
 use Rattle.allocation.specs.Efficient.{Priced, of, hopes, bestTaker, Moved, Served, CalledToo}
@@ -19,11 +19,11 @@ use Rattle.allocation.proofs.efficient.Order.{put-set}
 use Rattle.allocation.proofs.seats.Listing.{keys}
 
 pub no-taker :
-    (t : Tables) {c : ℕ} {R : Seating} {x s : ℕ} → Priced t c → HeldIn t R
-    → Waits t (R .chosen) x → bestTaker (screened t) (of (R .held)) (of (R .lasts)) x ≡ s → s ≡ 0
-    → HeldIn t R × Moved (screened t) x (of (R .chosen)) 0 (of (R .chosen))
-unfolding screened screen market marketBy
-no-taker t p h w e z = (h, nowhere (screened t) (keys t (p .within)) (h .holding) (w .0) (w .1) (e ∙ z))
+    (t : Tables) {c : ℕ} {R : Seating} {x s : ℕ} → Priced t c → HeldIn t c R
+    → Waits t (R .chosen) x → bestTaker (screenedAt t c) (of (R .held)) (of (R .lasts)) x ≡ s → s ≡ 0
+    → HeldIn t c R × Moved (screenedAt t c) x (of (R .chosen)) 0 (of (R .chosen))
+unfolding screenedAt
+no-taker t {c} p h w e z = (h, nowhere (screenedAt t c) (keys t c (p .within)) (h .holding) (w .0) (w .1) (e ∙ z))
 
 -- the station of a taker's number
 pub taker-at : {best s : ℕ} → best ≡ s → (s ≡ 0 → ⊥) → (s ≡ suc (s - 1)) × (best ≡ suc (s - 1))
@@ -52,30 +52,30 @@ turns-fall S hand (suc y) a a′ p m =
     )
 
 -- the guest in hand while guest x is served; the seats were a before
-pub record InHand (t : Tables) (x hand : ℕ) (a : ℕ → ℕ) (R : Seating) : Type 0 where
-  pub held-in : HeldIn t R
+pub record InHand (t : Tables) (c : ℕ) (x hand : ℕ) (a : ℕ → ℕ) (R : Seating) : Type 0 where
+  pub held-in : HeldIn t c R
   pub waits : (y : ℕ) → hand ≡ suc y → Waits t (R .chosen) y
-  pub served : Served (screened t) x a hand (of (R .chosen))
+  pub served : Served (screenedAt t c) x a hand (of (R .chosen))
 
-module _ (t : Tables) {x : ℕ} where
+module _ (t : Tables) {c x : ℕ} where
   pub in-hand-start :
-      {R : Seating} → HeldIn t R → Waits t (R .chosen) x
-      → InHand t x (x + 1) (of (R .chosen)) R
+      {R : Seating} → HeldIn t c R → Waits t (R .chosen) x
+      → InHand t c x (x + 1) (of (R .chosen)) R
   in-hand-start h w = record {
     held-in = h;
     waits = λ y q. let y-is : x ≡ y = omega arith in rw (← y-is) w;
     served = λ c s. rw (add-one x) s;
   }
 
-  module _ {hand : ℕ} {a : ℕ → ℕ} {R : Seating} (h : InHand t x hand a R) where
+  module _ {hand : ℕ} {a : ℕ → ℕ} {R : Seating} (h : InHand t c x hand a R) where
     pub in-hand-waits : 0 < hand → Waits t (R .chosen) (hand - 1)
     in-hand-waits p = h .waits (hand - 1) (omega arith)
 
     pub in-hand-turn :
         {r : ℕ} {R′ : Seating} → 0 < hand
-        → HeldIn t R′ × Moved (screened t) (hand - 1) (of (R .chosen)) r (of (R′ .chosen))
-        → InHand t x r a R′
-    unfolding screened screen market marketBy
+        → HeldIn t c R′ × Moved (screenedAt t c) (hand - 1) (of (R .chosen)) r (of (R′ .chosen))
+        → InHand t c x r a R′
+    unfolding screenedAt
     in-hand-turn p (h′, m) =
         let hand-is : hand ≡ suc (hand - 1) = omega arith in
         record {
@@ -84,22 +84,22 @@ module _ (t : Tables) {x : ℕ} where
           served = λ c s. serving-moved (rw hand-is at (h .served c s)) m;
         }
 
-    pub in-hand-end : hand ≤ 0 → HeldIn t R × Served (screened t) x a 0 (of (R .chosen))
+    pub in-hand-end : hand ≤ 0 → HeldIn t c R × Served (screenedAt t c) x a 0 (of (R .chosen))
     in-hand-end z = let none : hand ≡ 0 = omega arith in (h .held-in, rw none at (h .served))
 
 -- ---- calling up
 
-module _ (t : Tables) {called : List ℕ} {R : Seating} (h : Called t called R) where
+module _ (t : Tables) {c : ℕ} {called : List ℕ} {R : Seating} (h : Called t c called R) where
   pub call-waits : {x : ℕ} → x < length called → of called x ≡ 0 → Waits t (R .chosen) x
-  unfolding screened screen market marketBy
+  unfolding screenedAt
   call-waits {x} l z = let lx : x < length (t .amounts) = omega (arith, h .called-long) in
       (lx, h .serving .waiting x lx z)
 
   -- x was served
   pub call-served :
       {x : ℕ} {R′ : Seating} → x < length called
-      → HeldIn t R′ × Served (screened t) x (of (R .chosen)) 0 (of (R′ .chosen))
-      → Called t (set called x 1) R′ × CalledToo (length (t .amounts)) x called (set called x 1)
+      → HeldIn t c R′ × Served (screenedAt t c) x (of (R .chosen)) 0 (of (R′ .chosen))
+      → Called t c (set called x 1) R′ × CalledToo (length (t .amounts)) x called (set called x 1)
   call-served {x} l (h′, s) = (
     record {
       called-long = length-set called x 1 ∙ h .called-long;
@@ -119,23 +119,23 @@ module _ (t : Tables) {called : List ℕ} {R : Seating} (h : Called t called R) 
 
   -- x was called up before, or is no guest
   pub call-again :
-      {x : ℕ} → (of called x ≡ 0 → ⊥) → Called t called R × CalledToo (length
+      {x : ℕ} → (of called x ≡ 0 → ⊥) → Called t c called R × CalledToo (length
       (t .amounts)) x called called
   call-again {x} c = (h, λ k lk w z. ⊎-elim (λ (e : k ≡ x). c (ap (of called) (sym e) ∙ z)) (λ d. d z) w)
 
   pub call-nobody :
-      {x : ℕ} → length called ≤ x → Called t called R × CalledToo (length (t .amounts)) x called called
+      {x : ℕ} → length called ≤ x → Called t c called R × CalledToo (length (t .amounts)) x called called
   call-nobody {x} l =
       (h, λ k lk w z. ⊎-elim (λ (e : k ≡ x). omega (arith, h .called-long)) (λ d. d z) w)
 
 -- the first g guests are called up
-pub record AllCalled (t : Tables) (g : ℕ) (called : List ℕ) (R : Seating) : Type 0 where
+pub record AllCalled (t : Tables) (c : ℕ) (g : ℕ) (called : List ℕ) (R : Seating) : Type 0 where
   pub within : g ≤ length (t .amounts)
-  pub calling : Called t called R
+  pub calling : Called t c called R
   pub so-far : (k : ℕ) → k < g → of called k ≡ 0 → ⊥
 
 pub all-called-none :
-    {t : Tables} {g : ℕ} {called : List ℕ} {R : Seating} → g ≡ 0 → Called t called R → AllCalled t g called R
+    {t : Tables} {c g : ℕ} {called : List ℕ} {R : Seating} → g ≡ 0 → Called t c called R → AllCalled t c g called R
 all-called-none {g = g} e h = record {
   within = omega arith;
   calling = h;
@@ -144,11 +144,12 @@ all-called-none {g = g} e h = record {
 
 -- a turn of the line: guest x is called up, and in its second half everyone in turn
 pub all-called-turn :
-    {t : Tables} {r x : ℕ} {called called′ : List ℕ} {R R′ : Seating} → AllCalled t (r - length (t .amounts)) called R
+    {t : Tables} {c r x : ℕ} {called called′ : List ℕ} {R R′ : Seating}
+    → AllCalled t c (r - length (t .amounts)) called R
     → r < 2 * length (t .amounts) → (length (t .amounts) ≤ r → x ≡ r - length (t .amounts))
-    → Called t called′ R′ × CalledToo (length (t .amounts)) x called called′
-    → AllCalled t (r + 1 - length (t .amounts)) called′ R′
-all-called-turn {t} {r} {x} h l own (h′, too) = record {
+    → Called t c called′ R′ × CalledToo (length (t .amounts)) x called called′
+    → AllCalled t c (r + 1 - length (t .amounts)) called′ R′
+all-called-turn {t} {r = r} {x} h l own (h′, too) = record {
   within = omega arith;
   calling = h′;
   so-far = λ k lk. too k (omega arith) (⊎-elim
@@ -159,9 +160,9 @@ all-called-turn {t} {r} {x} h l own (h′, too) = record {
 }
 
 pub all-called-end :
-    {t : Tables} {g : ℕ} {called : List ℕ} {R : Seating} → AllCalled t g called R
-    → length (t .amounts) ≤ g → HeldIn t R × Stable (screened t) (of (R .chosen))
-unfolding screened screen market marketBy
+    {t : Tables} {c g : ℕ} {called : List ℕ} {R : Seating} → AllCalled t c g called R
+    → length (t .amounts) ≤ g → HeldIn t c R × Stable (screenedAt t c) (of (R .chosen))
+unfolding screenedAt
 all-called-end h b = (
   h .calling .held-in,
   served-stable (h .calling .held-in .holding) (λ i li. h .so-far i (omega arith)) (h .calling .serving),

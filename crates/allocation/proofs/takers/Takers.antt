@@ -9,9 +9,9 @@ use native.Mathlib.Omega.{arith}
 use lib.ListN.{length}
 use Rattle.model.specs.Limits.{maxPrice, maxAmount}
 use Rattle.model.specs.Counting.{_<?_, _≤?_, _and_, _or_, only}
-use Rattle.model.specs.market.Market.{Tables, Screened, market, marketBy, screen, opens, bidAt, cut}
+use Rattle.model.specs.market.Market.{Tables, Screened, bidAt}
 use Rattle.model.specs.market.Mechanism.{best}
-use Rattle.model.specs.market.Outcome.{screened}
+use Rattle.allocation.specs.Screens.{screenedAt}
 use Rattle.model.specs.market.Stable.{sooner}
 use Rattle.model.proofs.Tests.{decide, clash, both, first, second, only-yes, only-no, only-le, same-test, or-left}
 use Rattle.model.proofs.Tests.{or-skip}
@@ -23,7 +23,7 @@ use Rattle.allocation.specs.Efficient.{Priced, of, product, takes, bestT
 use Rattle.allocation.specs.Seating.{lastTicket, priority, Opened, Bars, passes, bestPast, choice, noChoice}
 use Rattle.allocation.specs.Seating.{IsChoice, TopChoice, stationIn, barOf, Seating, HeldIn}
 use Rattle.allocation.proofs.standing.Standing.{product-low, priority-sooner, priority-low}
-use Rattle.allocation.proofs.seats.Listing.{listed, cut-low}
+use Rattle.allocation.proofs.seats.Listing.{listed}
 
 -- ---- bars
 
@@ -56,27 +56,27 @@ bar-takes S held last x j low = ⊎-elim
     ∙ suc-le _ _ ∙ priority-sooner S x (last j) j (low x) (low (last j)) ∙ sym (or-skip _ (not-lt _ _ full)))
     (lt-or-le (held j) (S .bays j))
 
-module _ (t : Tables) {c : ℕ} (p : Priced t c) {R : Seating} (h : HeldIn t R)
+module _ (t : Tables) {c : ℕ} (p : Priced t c) {R : Seating} (h : HeldIn t c R)
     (low : (i : ℕ) → of (t .tickets) i ≤ lastTicket) where
   pub best-past-takes :
-      (x : ℕ) {s : ℕ} → bestPast (screened t) (of (R .bars)) x ≡ s
-      → bestTaker (screened t) (of (R .held)) (of (R .lasts)) x ≡ s
-  unfolding bestPast bestTaker screened screen market marketBy
+      (x : ℕ) {s : ℕ} → bestPast (screenedAt t c) (of (R .bars)) x ≡ s
+      → bestTaker (screenedAt t c) (of (R .held)) (of (R .lasts)) x ≡ s
+  unfolding bestPast bestTaker screenedAt
   best-past-takes x e = best-cong (length (t .asks)) _ _ _ _
-      (λ j lj. ap (λ b. (screened t) .candidate x j and b) (sym (bar-takes (screened t) _ _ x j low)
-      ∙ ap (λ b. b ≤? priority (screened t) x j) (sym (h .bars-are j lj))))
+      (λ j lj. ap (λ b. (screenedAt t c) .candidate x j and b) (sym (bar-takes (screenedAt t c) _ _ x j low)
+      ∙ ap (λ b. b ≤? priority (screenedAt t c) x j) (sym (h .bars-are j lj))))
       (λ _ _ _. refl) ∙ e
 
   pub bars-low : Bars (length (t .asks)) (R .bars)
-  unfolding barOf screened screen market marketBy bidAt
+  unfolding barOf screenedAt bidAt
   bars-low = record {
     long = h .bars-long;
     low = λ j lj. rw (h .bars-are j lj) (⊎-elim
-        (λ (free : of (R .held) j < of (t .bays) j). rw (only-no _ (suc (priority (screened t) (of (R .lasts) j) j))
+        (λ (free : of (R .held) j < of (t .bays) j). rw (only-no _ (suc (priority (screenedAt t c) (of (R .lasts) j) j))
         (not-le _ _ free)) (omega arith))
-        (λ (full : of (t .bays) j ≤ of (R .held) j). rw (only-yes _ (suc (priority (screened t) (of (R .lasts) j) j))
-        (is-le _ _ full))
-        (priority-low (screened t) (of (R .lasts) j) j
+        (λ (full : of (t .bays) j ≤ of (R .held) j).
+        rw (only-yes _ (suc (priority (screenedAt t c) (of (R .lasts) j) j)) (is-le _ _ full))
+        (priority-low (screenedAt t c) (of (R .lasts) j) j
         (product-low (listed t (p .within)) (h .holding .lasts j lj full .guest) lj refl)))
         (lt-or-le (of (R .held) j) (of (t .bays) j)));
   }
@@ -203,14 +203,14 @@ module _ {S : Screened} {bar : ℕ → ℕ} {x top q : ℕ} {opened : List ℕ} 
 module _ (t : Tables) {c : ℕ} (p : Priced t c) {x : ℕ} (lx : x < length (t .amounts)) where
   -- the code's numbers
   pub no-choice-is :
-      {scale top : ℕ} → scale ≡ of (t .amounts) x * 2 ^ 32 → top ≡ c * scale → top ≡ noChoice (screened t) x
-  unfolding noChoice screened screen market marketBy
-  no-choice-is {scale} e q = q ∙ ap₂ _*_ (p .is-cut) e ∙ omega arith
+      {scale top : ℕ} → scale ≡ of (t .amounts) x * 2 ^ 32 → top ≡ c * scale → top ≡ noChoice (screenedAt t c) x
+  unfolding noChoice screenedAt
+  no-choice-is {scale} e q = q ∙ ap (λ y. c * y) e ∙ omega arith
 
   pub no-choice-low : c * (of (t .amounts) x * 2 ^ 32) < 2 ^ 64
   no-choice-low =
       let most : c * (of (t .amounts) x * 2 ^ 32) ≤ maxPrice * (maxAmount * 2 ^ 32) =
-      mul-le-mul (cut-low t p) (mul-le-mul (p .within .amount-most x lx) (le-refl (2 ^ 32))) in
+      mul-le-mul (p .cut-low) (mul-le-mul (p .within .amount-most x lx) (le-refl (2 ^ 32))) in
       omega arith
 
   pub in-bids : {j : ℕ} → j < length (t .asks) → x * length (t .asks) + j < length (t .bids)
@@ -231,40 +231,39 @@ module _ (t : Tables) {c : ℕ} (p : Priced t c) {x : ℕ} (lx : x < length (t .
 
     pub choice-here : {low : ℕ} (bar top : ℕ) {r : ℕ} → low ≡ lastTicket - of (t .tickets) x
         → r ≡ max top (only (bar ≤? bid * scale + low) (bid * scale + (64 - j)))
-        → r ≡ max top (only (bar ≤? priority (screened t) x j) (choice (screened t) x j))
-    unfolding priority choice screened screen market marketBy bidAt
+        → r ≡ max top (only (bar ≤? priority (screenedAt t c) x j) (choice (screenedAt t c) x j))
+    unfolding priority choice screenedAt bidAt
     choice-here bar top f q =
         q ∙ ap₂ (λ y z. max top (only (bar ≤? y) z)) (ap₂ _+_ scaled f) (ap (λ y. y + (64 - j)) scaled)
 
     -- where the station is open, who is no candidate has no choice
-    pub below-cut : of (t .asks) j < c → (screened t) .candidate x j ≡ false
-        → choice (screened t) x j < noChoice (screened t) x
-    unfolding choice noChoice screened screen market marketBy opens bidAt
+    pub below-cut : of (t .asks) j < c → (screenedAt t c) .candidate x j ≡ false
+        → choice (screenedAt t c) x j < noChoice (screenedAt t c) x
+    unfolding choice noChoice screenedAt bidAt
     below-cut ask none = ⊎-elim
-        (λ (l : bid < cut (market t)).
-        let less : suc bid * of (t .amounts) x ≤ cut (market t) * of (t .amounts) x = mul-le-mul l (le-refl _) in
+        (λ (l : bid < c).
+        let less : suc bid * of (t .amounts) x ≤ c * of (t .amounts) x = mul-le-mul l (le-refl _) in
         omega (arith, p .within .amount-least x lx))
-        (λ (l : cut (market t) ≤ bid).
-        absurd (clash (both (is-lt _ _ (let q : of (t .asks) j < cut (market t) = rw (p .is-cut) at ask in q))
-        (is-le _ _ l)) none))
-        (lt-or-le bid (cut (market t)))
+        (λ (l : c ≤ bid).
+        absurd (clash (both (is-lt _ _ ask) (is-le _ _ l)) none))
+        (lt-or-le bid c)
 
   pub best-end :
       {bar : ℕ → ℕ} {top q : ℕ} {opened : List ℕ} → Opened (t .asks) c opened
-      → BestSoFar (screened t) bar x opened top q → length opened ≤ q → TopChoice (screened t) bar x top
-  unfolding screened screen market marketBy opens
+      → BestSoFar (screenedAt t c) bar x opened top q → length opened ≤ q → TopChoice (screenedAt t c) bar x top
+  unfolding screenedAt
   best-end o h l = record {
     is-choice = h .is-choice;
     greatest = λ j lj past.
-        let ask : of (t .asks) j < cut (market t) = lt-yes _ _ (first _ _ (first _ _ past)) in
-        let (r, lr, j-is) = o .all j lj (rw (p .is-cut) ask) in
+        let ask : of (t .asks) j < c = lt-yes _ _ (first _ _ (first _ _ past)) in
+        let (r, lr, j-is) = o .all j lj ask in
         let past-r = rw (← j-is) at past in
         rw (← j-is) (h .so-far r (omega arith) past-r);
   }
 
   pub best-is :
-      {bar : ℕ → ℕ} {top : ℕ} → TopChoice (screened t) bar x top
-      → (top % 256 ≤ 65) × (bestPast (screened t) bar x ≡ stationIn top)
-  unfolding screened screen market marketBy opens bidAt
-  best-is h = top-station (screened t) (omega (arith, p .within .shape .stations-most))
+      {bar : ℕ → ℕ} {top : ℕ} → TopChoice (screenedAt t c) bar x top
+      → (top % 256 ≤ 65) × (bestPast (screenedAt t c) bar x ≡ stationIn top)
+  unfolding screenedAt bidAt
+  best-is h = top-station (screenedAt t c) (omega (arith, p .within .shape .stations-most))
       (λ j past. mul-le-mul (le-yes _ _ (second _ _ past)) (le-refl _)) h

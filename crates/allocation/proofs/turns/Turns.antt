@@ -11,10 +11,10 @@ use lib.ListN.{getD, length, set, length-set}
 use lib.Seq.{getD-set-same, getD-set-other}
 use Rattle.model.specs.Limits.{maxStations}
 use Rattle.model.specs.Counting.{_<?_, _≤?_, _and_, only, list}
-use Rattle.model.specs.market.Market.{Tables, bidAt, Market, marketBy, market, cut, opens, Screened, screen}
+use Rattle.model.specs.market.Market.{Tables, bidAt, Screened}
 use Rattle.model.specs.market.Market.{Queue, queue, provisional, critical}
 use Rattle.model.specs.market.Mechanism.{at, better, best, surplus}
-use Rattle.model.specs.market.Outcome.{screened}
+use Rattle.allocation.specs.Screens.{screenedAt}
 use Rattle.model.proofs.Tests.{clash, first, and-no, only-yes, only-no, only-le, le-yes, le-no, is-lt, not-lt, lt-or-le}
 use Rattle.model.proofs.Tests.{eq-or-ne, only-cong}
 use Rattle.model.proofs.Counting.{greatest-le, list-cong}
@@ -147,54 +147,55 @@ module _ (S : Screened) (n j : ℕ) (totals tickets least : List ℕ) (t e s : �
   }
 
 -- nobody has a place at a station that is not open, so that its turn changes nothing
-closed : (M : Market) (j i : ℕ) → cut M ≤ M .ask j → provisional (queue (screen M) j) i ≡ false
-unfolding provisional queue screen opens
-closed M j i h = and-no _ _ (and-no _ _ (not-lt _ _ h))
+module _ (t : Tables) (c j : ℕ) (h : c ≤ getD (t .asks) j 0) where
+  abbrev S : Screened
+  S = screenedAt t c
 
-stays : (M : Market) (j i : ℕ) → cut M ≤ M .ask j → stationBy (screen M) j i ≡ stationBy (screen M) (j + 1) i
-unfolding better
-stays M j i h =
-    sym (station-step (screen M) j i
-    ∙ ap (λ b. better b (surplus (screen M) i) j (stationBy (screen M) j i)) (closed M j i h))
+  closed : (i : ℕ) → provisional (queue S j) i ≡ false
+  unfolding provisional queue screenedAt
+  closed i = and-no _ _ (and-no _ _ (not-lt _ _ h))
 
--- and its critical total is 0
-closed-critical : (M : Market) (j : ℕ) → cut M ≤ M .ask j → 0 ≡ critical (queue (screen M) j)
-unfolding critical queue screen opens
-closed-critical M j h =
-    le-antisymm (omega arith)
-    (greatest-le (M .guestCount) _ 0
-    (λ k _. only-le _ _ _ (λ p. absurd (clash (first _ _ p) (and-no _ _ (not-lt _ _ h))))))
+  stays : (i : ℕ) → stationBy S j i ≡ stationBy S (j + 1) i
+  unfolding better
+  stays i = sym (station-step S j i ∙ ap (λ b. better b (surplus S i) j (stationBy S j i)) (closed i))
 
-pub after-closed :
-    (M : Market) (n j : ℕ) {chosen gains criticals : List ℕ} → cut M ≤ M .ask j
-    → After (screen M) n j chosen gains criticals → After (screen M) n (j + 1) chosen gains criticals
-unfolding gainBy
-after-closed M n j h a = record {
-  chosen-are = a .chosen-are ∙ list-cong n _ _ (λ k lk. stays M j k h);
-  gains-low = a .gains-low;
-  gains-are = a .gains-are ∙ list-cong n _ _ (λ k lk. ap (at (λ i. surplus (screen M) k i + 1)) (stays M j k h));
-  criticals-are = a .criticals-are ∙ list-cong _ _ _ (λ s _. ⊎-elim
-      (λ (z : s ≡ suc j).
-      rw z (critical-later (screen M) j ∙ closed-critical M j h ∙ sym (critical-own (screen M) j)))
-      (λ (z : s ≡ suc j → ⊥). sym (critical-other (screen M) j s z))
-      (eq-or-ne s (suc j)));
-}
+  -- and its critical total is 0
+  closed-critical : 0 ≡ critical (queue S j)
+  unfolding critical queue screenedAt
+  closed-critical =
+      le-antisymm (omega arith)
+      (greatest-le (length (t .amounts)) _ 0
+      (λ k _. only-le _ _ _ (λ p. absurd (clash (first _ _ p) (and-no _ _ (not-lt _ _ h))))))
+
+  pub after-closed :
+      (n : ℕ) {chosen gains criticals : List ℕ} → After S n j chosen gains criticals
+      → After S n (j + 1) chosen gains criticals
+  unfolding gainBy
+  after-closed n a = record {
+    chosen-are = a .chosen-are ∙ list-cong n _ _ (λ k lk. stays k);
+    gains-low = a .gains-low;
+    gains-are = a .gains-are ∙ list-cong n _ _ (λ k lk. ap (at (λ i. surplus S k i + 1)) (stays k));
+    criticals-are = a .criticals-are ∙ list-cong _ _ _ (λ s _. ⊎-elim
+        (λ (z : s ≡ suc j). rw z (critical-later S j ∙ closed-critical ∙ sym (critical-own S j)))
+        (λ (z : s ≡ suc j → ⊥). sym (critical-other S j s z))
+        (eq-or-ne s (suc j)));
+  }
 
 -- ---- the queue of an open station, and the totals that the code gathers
 
 module _ (t : Tables) (c : ℕ) (least : List ℕ) (A : AtCut t c least) (j : ℕ) (lj : j < length (t .asks))
     (op : getD (t .asks) j 0 < c) where
   abbrev Q : Queue
-  Q = queue (screened t) j
+  Q = queue (screenedAt t c) j
 
   candidate-is : (k : ℕ) → Q .candidate k ≡ (c ≤? bidAt t k j)
-  unfolding queue screened screen market marketBy opens _and_
-  candidate-is k = rw (← A .is-cut, is-lt _ _ op) refl
+  unfolding queue screenedAt _and_
+  candidate-is k = rw (is-lt _ _ op) refl
 
   module _ (totals : List ℕ)
       (gathered : totals ≡ list (length (t .amounts)) (totalAt (t .bids) (t .amounts) (length (t .asks)) j c)) where
     shows : Shows Q totals (t .tickets)
-    unfolding queue screened screen market marketBy bidAt
+    unfolding queue screenedAt bidAt
     shows = record {
       long = long _ _ gathered;
       some = λ k lk q. element _ _ gathered k lk ∙ sym (total-yes _ _ c (le-yes _ _ (sym (candidate-is k) ∙ q)));
@@ -220,7 +221,7 @@ module _ (t : Tables) (c : ℕ) (least : List ℕ) (A : AtCut t c least) (j : �
     module _ (f b e : ℕ) (eb : b ≡ getD (t .bays) j 0) (few : LeastFew totals b f)
         (tied : TieBound totals (t .tickets) f (above totals f) b e) where
       capacity-is : Q .bays ≡ b
-      unfolding queue screened screen market marketBy
+      unfolding queue screenedAt
       capacity-is = sym eb
 
       critical-here : f ≡ critical Q
@@ -228,48 +229,40 @@ module _ (t : Tables) (c : ℕ) (least : List ℕ) (A : AtCut t c least) (j : �
 
       won-here :
           (k : ℕ) → k < length (t .amounts) → wonBy (getD totals k 0) f (getD (t .tickets) k 0) e ≡ provisional Q k
-      unfolding queue screened screen market marketBy
+      unfolding queue screenedAt
       won-here k lk = provisional-is Q totals (t .tickets) shows k f e lk (rw capacity-is few) (rw capacity-is tied)
 
       charge-here :
           (k : ℕ) → k < length (t .amounts)
-          → chargeAt least f k ≡ max ((screened t) .cut * (screened t) .amount k) (critical Q)
-      unfolding chargeAt screened screen market marketBy
+          → chargeAt least f k ≡ max ((screenedAt t c) .cut * (screenedAt t c) .amount k) (critical Q)
+      unfolding chargeAt screenedAt
       charge-here k lk =
-          ap₂ max (element _ _ (A .least-are) k lk ∙ ap (λ x. x * getD (t .amounts) k 0) (A .is-cut)) critical-here
+          ap₂ max (element _ _ (A .least-are) k lk) critical-here
 
       total-here :
-          (k : ℕ) → k < length (t .amounts) → provisional Q k ≡ true → getD totals k 0 ≡ (screened t) .total k j
-      unfolding queue screened screen market marketBy
+          (k : ℕ) → k < length (t .amounts) → provisional Q k ≡ true → getD totals k 0 ≡ (screenedAt t c) .total k j
+      unfolding queue screenedAt
       total-here k lk p = shows .some k lk (provisional-candidate Q k p)
 
       surplus-here :
           (k : ℕ) → k < length (t .amounts) → provisional Q k ≡ true
-          → getD totals k 0 - chargeAt least f k ≡ surplus (screened t) k j
+          → getD totals k 0 - chargeAt least f k ≡ surplus (screenedAt t c) k j
       unfolding surplus
       surplus-here k lk p = ap₂ _-_ (total-here k lk p) (charge-here k lk)
 
       gain-here :
           (k : ℕ) → k < length (t .amounts)
-          → gainAt totals (t .tickets) least f e k ≡ only (provisional Q k) (surplus (screened t) k j + 1)
+          → gainAt totals (t .tickets) least f e k ≡ only (provisional Q k) (surplus (screenedAt t c) k j + 1)
       unfolding gainAt gainFor
       gain-here k lk = rw (won-here k lk) (only-cong _ _ _ (λ p. ap (λ x. x + 1) (surplus-here k lk p)))
 
       pub after-open-turn : (s : ℕ) {chosen₀ gains₀ criticals chosen gains : List ℕ} → s ≡ j + 1
-          → After (screened t) (length (t .amounts)) j chosen₀ gains₀ criticals
+          → After (screenedAt t c) (length (t .amounts)) j chosen₀ gains₀ criticals
           → Offered totals (t .tickets) least f e s chosen₀ gains₀ chosen gains
-          → After (screened t) (length (t .amounts)) (j + 1) chosen gains (set criticals s f)
+          → After (screenedAt t c) (length (t .amounts)) (j + 1) chosen gains (set criticals s f)
       after-open-turn s es h o =
-          after-offers (screened t) (length (t .amounts)) j totals (t .tickets) least f e s _ _ _ (long _ _ gathered) es
-          (omega (arith, A .within .shape .stations-most)) gain-here critical-here all-low h o
-
--- the turn of a station that is not open
-pub after-closed-turn :
-    (t : Tables) (c j : ℕ) {least chosen gains criticals : List ℕ} → AtCut t c least → c ≤ getD (t .asks) j 0
-    → After (screened t) (length (t .amounts)) j chosen gains criticals
-    → After (screened t) (length (t .amounts)) (j + 1) chosen gains criticals
-unfolding screened market marketBy
-after-closed-turn t c j A h a = after-closed (market t) (length (t .amounts)) j (omega (arith, A .is-cut)) a
+          after-offers (screenedAt t c) (length (t .amounts)) j totals (t .tickets) least f e s _ _ _
+          (long _ _ gathered) es (omega (arith, A .within .shape .stations-most)) gain-here critical-here all-low h o
 
 -- what `offer` asks of its lists
 total-covers : (bid amount cut : ℕ) → 0 < totalFor bid amount cut → cut * amount ≤ totalFor bid amount cut
@@ -283,7 +276,7 @@ pub offerable :
     (A : AtCut t c least) → j < length (t .asks)
     → totals ≡ list (length (t .amounts)) (totalAt (t .bids) (t .amounts) (length (t .asks)) j c) → Totals totals
     → f ≤ maxTotal → TieBound totals (t .tickets) f a b e
-    → After (screened t) (length (t .amounts)) j chosen gains criticals
+    → After (screenedAt t c) (length (t .amounts)) j chosen gains criticals
     → Offerable totals (t .tickets) least f e chosen gains
 offerable t c j {least = least} {totals} A lj g low fl tied a =
     let n : length totals ≡ length (t .amounts) = long _ _ g in

@@ -1,34 +1,26 @@
+use mathlib.Core.Path.{sym, _∙_}
 use borrow.Author.Needs.{needs}
-use Rattle.model.proofs.Verdicts.{told}
-use Rattle.clearing.proofs.Answers.{refused-clears, clear-accepts, clear-accepted-clears}
+use Rattle.clearing.proofs.Answers.{unknown-clears, known-clears}
 use Rattle.clearing.proofs.clear_by.Statement.{statement}
 use Rattle.clearing.proofs.clear_by.Tie as tie
 
-clear-accepted-requires : tie.Need-clear-accepted-requires
-clear-accepted-requires c κs =
-    let at-enum-told = c .before .before .before .before in
-    let at-clearing-fault = at-enum-told .before .before in
-    let a = clear-accepts _ _ _ _ _ _ _
-    (told (at-enum-told .enum-told .given .1) (at-clearing-fault .clearing-fault .ensures)) in
-    (a .within, a .fits)
+abbrev clear-before-end : tie.After-slice-known8 → tie.After-clear-under
+clear-before-end p = p .before .before .before .before .before .before .before .before
+
+abbrev known-before-clear : tie.After-clear-under → tie.After-known
+known-before-clear p = p .before .before .before .before .before .before
 
 returns : tie.Need-returns
-returns c =
-    refused-clears _ _ _ (told (c .before .verdict .given .1) (c .before .before .before .clearing-fault .ensures))
+returns c = unknown-clears _ _ _ (sym (c .enum-told .given .1) ∙ c .before .before .named .ensures)
 
 returns-2 : tie.Need-returns-2
 returns-2 c =
-    let at-charges = c .before .before .before .before in
-    let at-clear-accepted = at-charges .before .before .before .before in
-    let at-call = at-clear-accepted .before in
-    let at-enum-told = at-call .before .before .before .before in
-    let at-clearing-fault = at-enum-told .before .before in
-    clear-accepted-clears _ _ _ _ _ _ _ _
-    (told (at-enum-told .enum-told .given .1) (at-clearing-fault .clearing-fault .ensures))
-    (at-clear-accepted .clear-accepted .ensures)
+    let at-clear = clear-before-end c in
+    let at-known = known-before-clear at-clear in
+    known-clears _ _ _ _ (sym (at-known .known .given .1) ∙ at-known .before .before .named .ensures)
+    (at-clear .clear-under .ensures)
 
 pub clear-by-spec : {M : Type 1} → statement M
 clear-by-spec =
-    tie.close (tie.spec (λ c κs. search needs) (λ c. search needs) (λ c. search needs) clear-accepted-requires
-    (λ c. search needs) (λ c. search needs) (λ c. search needs) (λ c. search needs) returns (λ c. search needs)
-    (λ c. search needs) (λ c. search needs) (λ c. search needs) returns-2)
+    tie.close (tie.spec (λ c κs. search needs) (λ c. search needs) (λ c. search needs) (λ c κs. search needs) returns
+    (λ c. search needs) (λ c. search needs) (λ c. search needs) (λ c. search needs) returns-2)

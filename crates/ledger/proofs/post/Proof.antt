@@ -7,7 +7,7 @@ use mathlib.Core.Path.{_≡_, refl, ap}
 use mathlib.Core.Bool.{Bool}
 use mathlib.Core.List.{List, [], _∷_}
 use lib.ListN.{length}
-use mir.Syntax.{named, w32, w64, tyBool}
+use mir.Syntax.{named, w8, w32, w64, tyBool}
 use mir.Val.{Val, vbool, vint, vptr}
 use prog.Memory.{Memory}
 use prog.Routine.{Routine}
@@ -24,7 +24,7 @@ use denote.Shadow.{pureI}
 use denote.Laws.{Is, shows}
 use denote.Memory.{shares}
 use denote.Plain.{Boolean, Nothing, bool-makes, bool-lawful, nothing-lawful, uint-makes, uint-vals, uint-tells}
-use denote.Builtin.{u16, u32, u64, usize}
+use denote.Builtin.{u8, u16, u32, u64, usize}
 use denote.Ref.{RefT, MutRef, now, ptr-vals, mut-tells}
 use denote.Slice.{sliceVal, ShrSlice, MutSlice, Room, finally, slice-vals, shr-slice-tells, mut-slice-tells}
 use denote.Slice.{shr-slice-lawful, shr-slice-copy, at-slice}
@@ -101,7 +101,7 @@ abbrev Num : Type 0
 Num = RefT ℕ
 
 abbrev Arg : Type 0
-Arg = Nums × (Nums × (Nums × (Nums × (Nums × (ℕ × (ℕ × (Nums × (Recs × (Num × (Num × Unit {0}))))))))))
+Arg = ℕ × (Nums × (Nums × (Nums × (Nums × (Nums × (ℕ × (ℕ × (Nums × (Recs × (Num × (Num × Unit {0})))))))))))
 
 -- the machine values of a slice and of a `&mut`
 abbrev val : {X : Type 0} → RefT (List X) → Val
@@ -112,24 +112,27 @@ ptrVal x = vptr (x .ptr .0) (x .ptr .1)
 
 abbrev stayed : Stays (f.ended .signature .params) (f.ended .kept)
 stayed = (
-  stay-none-slice (0 ∷ []) tt (plain (λ _. u32)) yes,
+  stay-none (λ _. u8) yes,
   (
-    stay-none-slice (1 ∷ []) tt (plain (λ _. u16)) yes,
+    stay-none-slice (0 ∷ []) tt (plain (λ _. u32)) yes,
     (
-      stay-none-slice (2 ∷ []) tt (plain (λ _. u16)) yes,
+      stay-none-slice (1 ∷ []) tt (plain (λ _. u16)) yes,
       (
-        stay-none-slice (3 ∷ []) tt (plain (λ _. u32)) yes,
+        stay-none-slice (2 ∷ []) tt (plain (λ _. u16)) yes,
         (
-          stay-none-slice (4 ∷ []) tt (plain (λ _. u32)) yes,
+          stay-none-slice (3 ∷ []) tt (plain (λ _. u32)) yes,
           (
-            stay-none (λ _. usize) yes,
+            stay-none-slice (4 ∷ []) tt (plain (λ _. u32)) yes,
             (
-              stay-none (λ _. u32) yes,
+              stay-none (λ _. usize) yes,
               (
-                gave-slice (5 ∷ []) tt (plain (λ _. u64)),
+                stay-none (λ _. u32) yes,
                 (
-                  gave-slice (6 ∷ []) tt (plain (λ _. T.the-row)),
-                  (gave-ref (7 ∷ []) tt (plain (λ _. u64)), (gave-ref (8 ∷ []) tt (plain (λ _. u32)), tt)),
+                  gave-slice (5 ∷ []) tt (plain (λ _. u64)),
+                  (
+                    gave-slice (6 ∷ []) tt (plain (λ _. T.the-row)),
+                    (gave-ref (7 ∷ []) tt (plain (λ _. u64)), (gave-ref (8 ∷ []) tt (plain (λ _. u32)), tt)),
+                  ),
                 ),
               ),
             ),
@@ -158,9 +161,9 @@ module _ {M : Type 1} (𝓤 : URA M) (H : Heap 𝓤) (A : Atoms 𝓤) (mem : Mem
   Add = tripleOf 𝓤 H A add.signature (add.spec 𝓤 H A mem run)
 
 module _ {M : Type 1} (𝓤 : URA M) (H : Heap 𝓤) (A : Atoms 𝓤) (W : Given 𝓤 H A) (mem : Memory → SProp 𝓤)
-    (run : Routine → Fun 𝓤) (κ₀ κ₁ κ₂ κ₃ κ₄ κ₅ κ₆ κ₇ κ₈ : Lft) (q₀ q₁ q₂ q₃ q₄ q₅ q₆ q₇ q₈ : Share)
-    (asks bays amounts tickets bids : Nums) (width : ℕ) (width-fits : width < 2 ^ 64) (round : ℕ)
-    (round-fits : round < 2 ^ 32) (guests : Nums) (b o : ℕ) (γ : GName) (ys : List StationAccount)
+    (run : Routine → Fun 𝓤) (κ₀ κ₁ κ₂ κ₃ κ₄ κ₅ κ₆ κ₇ κ₈ : Lft) (q₀ q₁ q₂ q₃ q₄ q₅ q₆ q₇ q₈ : Share) (rule : ℕ)
+    (rule-fits : rule < 2 ^ 8) (asks bays amounts tickets bids : Nums) (width : ℕ) (width-fits : width < 2 ^ 64)
+    (round : ℕ) (round-fits : round < 2 ^ 32) (guests : Nums) (b o : ℕ) (γ : GName) (ys : List StationAccount)
     (house last : Num) where
   abbrev n : ℕ
   n = length ys
@@ -179,22 +182,25 @@ module _ {M : Type 1} (𝓤 : URA M) (H : Heap 𝓤) (A : Atoms 𝓤) (W : Given
   qs = (q₀, (q₁, (q₂, (q₃, (q₄, (q₅, (q₆, (q₇, (q₈, tt)))))))))
 
   abbrev a : Arg
-  a = (asks, (bays, (amounts, (tickets, (bids, (width, (round, (guests, (x γ, (house, (last, tt)))))))))))
+  a = (rule, (asks, (bays, (amounts, (tickets, (bids, (width, (round, (guests, (x γ, (house, (last, tt))))))))))))
 
   abbrev at : Vals f.signature κs
   at = (
-    val asks ∷ [],
+    vint w8 rule ∷ [],
     (
-      val bays ∷ [],
+      val asks ∷ [],
       (
-        val amounts ∷ [],
+        val bays ∷ [],
         (
-          val tickets ∷ [],
+          val amounts ∷ [],
           (
-            val bids ∷ [],
+            val tickets ∷ [],
             (
-              vint w64 width ∷ [],
-              (vint w32 round ∷ [], (val guests ∷ [], (s ∷ [], (ptrVal house ∷ [], (ptrVal last ∷ [], tt))))),
+              val bids ∷ [],
+              (
+                vint w64 width ∷ [],
+                (vint w32 round ∷ [], (val guests ∷ [], (s ∷ [], (ptrVal house ∷ [], (ptrVal last ∷ [], tt))))),
+              ),
             ),
           ),
         ),
@@ -209,7 +215,7 @@ module _ {M : Type 1} (𝓤 : URA M) (H : Heap 𝓤) (A : Atoms 𝓤) (W : Given
   Post = walkOf 𝓤 H A f.ended stayed (f.clauses 𝓤 H A mem run) .post bound
 
   abbrev Plan₀ : Round → Type 0
-  Plan₀ d = Planned (tables (now asks) (now bays) (now amounts) (now tickets) (now bids) width) d
+  Plan₀ d = Planned rule (tables (now asks) (now bays) (now amounts) (now tickets) (now bids) width) d
 
   abbrev Own-asks : Fml
   Own-asks = ShrSlice (named 0) κ₀ u32 .own asks (val asks ∷ [])
@@ -252,15 +258,18 @@ module _ {M : Type 1} (𝓤 : URA M) (H : Heap 𝓤) (A : Atoms 𝓤) (W : Given
   tokens₅ = (‵ (flft κ₀ q₀) ⊛ (‵ (flft κ₁ q₁) ⊛ (‵ (flft κ₂ q₂) ⊛ (‵ (flft κ₃ q₃) ⊛ (‵ (flft κ₄ q₄) ⊛ ‵ ftrue)))))
 
   abbrev PArg : Type 0
-  PArg = Nums × (Nums × (Nums × (Nums × (Nums × (ℕ × Unit {0})))))
+  PArg = ℕ × (Nums × (Nums × (Nums × (Nums × (Nums × (ℕ × Unit {0}))))))
 
   abbrev plan-args : PArg
-  plan-args = (asks, (bays, (amounts, (tickets, (bids, (width, tt))))))
+  plan-args = (rule, (asks, (bays, (amounts, (tickets, (bids, (width, tt)))))))
 
   abbrev plan-vals : Vals plan.signature κs₅
   plan-vals = (
-    val asks ∷ [],
-    (val bays ∷ [], (val amounts ∷ [], (val tickets ∷ [], (val bids ∷ [], (vint w64 width ∷ [], tt))))),
+    vint w8 rule ∷ [],
+    (
+      val asks ∷ [],
+      (val bays ∷ [], (val amounts ∷ [], (val tickets ∷ [], (val bids ∷ [], (vint w64 width ∷ [], tt))))),
+    ),
   )
 
   abbrev to-plan : Plan 𝓤 H A mem run .Ghost
@@ -268,7 +277,7 @@ module _ {M : Type 1} (𝓤 : URA M) (H : Heap 𝓤) (A : Atoms 𝓤) (W : Given
 
   plan-asked : ent 𝓤 (onEntry 𝓤 H A plan.signature κs₅ qs₅ plan-args plan-vals) (Plan 𝓤 H A mem run .pre to-plan)
   plan-asked =
-      qed W (tokens₅ ∷ ‵ (owns (ShrSlice (named 0) κ₀ u32 ∷ ShrSlice (named 1) κ₁ u16 ∷ ShrSlice (named 2) κ₂ u16 ∷
+      qed W (tokens₅ ∷ ‵ (owns (u8 ∷ ShrSlice (named 0) κ₀ u32 ∷ ShrSlice (named 1) κ₁ u16 ∷ ShrSlice (named 2) κ₂ u16 ∷
       ShrSlice (named 3) κ₃ u32 ∷ ShrSlice (named 4) κ₄ u32 ∷ usize ∷ []) plan-args plan-vals) ∷ []) ∵ join ! $ frame !
       $ done !
 
@@ -290,7 +299,8 @@ module _ {M : Type 1} (𝓤 : URA M) (H : Heap 𝓤) (A : Atoms 𝓤) (W : Given
       use1 W (‵ Own-bids ⊛ ‵ Own-bids) (shr-slice-copy 𝓤 H A W (named 0) κ₄ u32 .twice bids (val bids ∷ [])) $ split ! $
       nothing ! $ owned ! usize (Is usize) (uint-makes 𝓤 H A W w64) width _ (refl, width-fits) $ fjoin ! $
       move ! (1 ∷ 0 ∷ []) $ fjoin ! $ move ! (2 ∷ 0 ∷ []) $ fjoin ! $ move ! (3 ∷ 0 ∷ []) $ fjoin ! $
-      move ! (4 ∷ 0 ∷ []) $ fjoin ! $ move ! (5 ∷ 0 ∷ []) $ fjoin ! $ move ! (6 ∷ 0 ∷ []) $
+      move ! (4 ∷ 0 ∷ []) $ fjoin ! $ move ! (5 ∷ 0 ∷ []) $ fjoin ! $
+      owned ! u8 (Is u8) (uint-makes 𝓤 H A W w8) rule _ (refl, rule-fits) $ fjoin ! $ move ! (6 ∷ 0 ∷ []) $
       use2 W (raw (Plan 𝓤 H A mem run .pre to-plan)) plan-asked $
       -- [asked; kept bids; kept tickets; kept amounts; kept bays; kept asks]
       frame ! $ move ! (1 ∷ 0 ∷ []) $ fjoin ! $ move ! (1 ∷ 0 ∷ []) $ fjoin ! $ move ! (1 ∷ 0 ∷ []) $ fjoin ! $
@@ -414,20 +424,21 @@ module _ {M : Type 1} (𝓤 : URA M) (H : Heap 𝓤) (A : Atoms 𝓤) (W : Given
   exits d c u guests′ stations′ house′ last′ e₀ e₂ e₃ is l-stations l-guests =
       qed W (Had guests′ stations′ house′ last′) ∵
       suffices ! _ (ends-at 𝓤 H A f.ended stayed (f.clauses 𝓤 H A mem run) W bound (valS (c .reply)) (c .reply)
-      (tt, (tt, (tt, (tt, (tt, (tt, (tt, (guests′, (stations′, (house′, (last′, tt)))))))))))
-      (tt, (tt, (tt, (tt, (tt, (tt, (tt, (l-guests, (l-stations, (tt, (tt, tt)))))))))))) $
-      says ! (posts (posting (tables (now asks) (now bays) (now amounts) (now tickets) (now bids) width) round) entry d
-      (exceedingTo d n ys) e₀ refl c guests′ stations′ house′ last′ e₂ e₃) $ split ! $ move ! (1 ∷ []) $ split ! $
-      move ! (1 ∷ []) $ split ! $ move ! (1 ∷ []) $ split ! $ move ! (1 ∷ []) $ split ! $ move ! (9 ∷ []) $ split ! $
-      move ! (9 ∷ []) $ split ! $ move ! (0 ∷ 3 ∷ []) $ join ! $ move ! (2 ∷ 0 ∷ []) $ join ! $ move ! (2 ∷ 0 ∷ []) $
-      join ! $ move ! (3 ∷ 0 ∷ []) $ join ! $ move ! (3 ∷ 0 ∷ []) $ join ! $ move ! (3 ∷ 0 ∷ []) $ join ! $
-      move ! (3 ∷ 0 ∷ []) $ join ! $ frame ! $ nothing ! $ move ! (7 ∷ 0 ∷ []) $ fjoin ! $ move ! (6 ∷ 0 ∷ []) $
-      fjoin ! $ move ! (4 ∷ 0 ∷ []) $ fjoin ! $ move ! (4 ∷ 0 ∷ []) $ fjoin ! $
+      (tt, (tt, (tt, (tt, (tt, (tt, (tt, (tt, (guests′, (stations′, (house′, (last′, tt))))))))))))
+      (tt, (tt, (tt, (tt, (tt, (tt, (tt, (tt, (l-guests, (l-stations, (tt, (tt, tt))))))))))))) $
+      says ! (posts (posting rule (tables (now asks) (now bays) (now amounts) (now tickets) (now bids) width) round)
+      entry d (exceedingTo d n ys) e₀ refl c guests′ stations′ house′ last′ e₂ e₃) $ split ! $ move ! (1 ∷ []) $
+      split ! $ move ! (1 ∷ []) $ split ! $ move ! (1 ∷ []) $ split ! $ move ! (1 ∷ []) $ split ! $ move ! (9 ∷ []) $
+      split ! $ move ! (9 ∷ []) $ split ! $ move ! (0 ∷ 3 ∷ []) $ join ! $ move ! (2 ∷ 0 ∷ []) $ join ! $
+      move ! (2 ∷ 0 ∷ []) $ join ! $ move ! (3 ∷ 0 ∷ []) $ join ! $ move ! (3 ∷ 0 ∷ []) $ join ! $ move ! (3 ∷ 0 ∷ []) $
+      join ! $ move ! (3 ∷ 0 ∷ []) $ join ! $ frame ! $ nothing ! $ move ! (7 ∷ 0 ∷ []) $ fjoin ! $
+      move ! (6 ∷ 0 ∷ []) $ fjoin ! $ move ! (4 ∷ 0 ∷ []) $ fjoin ! $ move ! (4 ∷ 0 ∷ []) $ fjoin ! $
       owned ! u32 (Is u32) (uint-makes 𝓤 H A W w32) round _ (refl, round-fits) $ fjoin ! $
       owned ! usize (Is usize) (uint-makes 𝓤 H A W w64) width _ (refl, width-fits) $ fjoin ! $ move ! (3 ∷ []) $
       fsplit ! $ move ! (1 ∷ []) $ fsplit ! $ move ! (1 ∷ []) $ fsplit ! $ move ! (1 ∷ []) $ fsplit ! $
       move ! (1 ∷ 5 ∷ []) $ fjoin ! $ move ! (1 ∷ 0 ∷ []) $ fjoin ! $ move ! (1 ∷ 0 ∷ []) $ fjoin ! $
-      move ! (1 ∷ 0 ∷ []) $ fjoin ! $ move ! (1 ∷ 0 ∷ []) $ fjoin ! $ frame ! $ drop ! $ drop ! $
+      move ! (1 ∷ 0 ∷ []) $ fjoin ! $ move ! (1 ∷ 0 ∷ []) $ fjoin ! $
+      owned ! u8 (Is u8) (uint-makes 𝓤 H A W w8) rule _ (refl, rule-fits) $ fjoin ! $ frame ! $ drop ! $ drop ! $
       owned ! S.the-row (Is S.the-row) (EL.makes S.the-type S′.the-plain 𝓤 H A) (c .reply) (valS (c .reply) ∷ [])
       (LL.owed Q.the-type Q′.the-laws c _ is .0) $ done !
 
@@ -441,22 +452,22 @@ module _ {M : Type 1} (𝓤 : URA M) (H : Heap 𝓤) (A : Atoms 𝓤) (W : Given
         → Is (ShrSlice (named 2) κ₂ u16) amounts (val amounts ∷ [])
         → Is (ShrSlice (named 3) κ₃ u32) tickets (val tickets ∷ [])
         → Is (ShrSlice (named 4) κ₄ u32) bids (val bids ∷ []) → Room u64 (length (now guests)) → Room T.the-row n
-        → ent 𝓤 (onEntry 𝓤 H A f.signature κs qs a at) (WpFn 𝓤 H C Λ code.function (val asks ∷ val bays ∷ val amounts ∷
-        val tickets ∷ val bids ∷ vint w64 width ∷ vint w32 round ∷ val guests ∷ s ∷ ptrVal house ∷ ptrVal last ∷ [])
-        Post)
+        → ent 𝓤 (onEntry 𝓤 H A f.signature κs qs a at) (WpFn 𝓤 H C Λ code.function (vint w8 rule ∷ val asks ∷ val bays ∷
+        val amounts ∷ val tickets ∷ val bids ∷ vint w64 width ∷ vint w32 round ∷ val guests ∷ s ∷ ptrVal house ∷ ptrVal
+        last ∷ []) Post)
     walk g-asks g-bays g-amounts g-tickets g-bids gg gn =
         qed W ((‵ (flft κ₀ q₀) ⊛ (‵ (flft κ₁ q₁) ⊛ (‵ (flft κ₂ q₂) ⊛ (‵ (flft κ₃ q₃) ⊛
         (‵ (flft κ₄ q₄) ⊛ (‵ (flft κ₅ q₅) ⊛ (‵ (flft κ₆ q₆) ⊛ (‵ (flft κ₇ q₇) ⊛ (‵ (flft κ₈ q₈) ⊛ ‵ ftrue))))))))) ∷ ‵
-        (owns (ShrSlice (named 0) κ₀ u32 ∷ ShrSlice (named 1) κ₁ u16 ∷ ShrSlice (named 2) κ₂ u16 ∷ ShrSlice (named 3) κ₃
-        u32 ∷ ShrSlice (named 4) κ₄ u32 ∷ usize ∷ u32 ∷ MutSlice (named 5) κ₅ u64 ∷ MutSlice (named 6) κ₆ T.the-row ∷
-        MutRef (named 7) κ₇ u64 ∷ MutRef (named 8) κ₈ u32 ∷ []) a at) ∷ []) ∵
-        enter ! C Λ code.function (val asks ∷ val bays ∷ val amounts ∷ val tickets ∷ val bids ∷ vint w64 width ∷ vint
-        w32 round ∷ val guests ∷ s ∷ ptrVal house ∷ ptrVal last ∷ []) _ $
+        (owns (u8 ∷ ShrSlice (named 0) κ₀ u32 ∷ ShrSlice (named 1) κ₁ u16 ∷ ShrSlice (named 2) κ₂ u16 ∷ ShrSlice
+        (named 3) κ₃ u32 ∷ ShrSlice (named 4) κ₄ u32 ∷ usize ∷ u32 ∷ MutSlice (named 5) κ₅ u64 ∷ MutSlice (named 6) κ₆
+        T.the-row ∷ MutRef (named 7) κ₇ u64 ∷ MutRef (named 8) κ₈ u32 ∷ []) a at) ∷ []) ∵
+        enter ! C Λ code.function (vint w8 rule ∷ val asks ∷ val bays ∷ val amounts ∷ val tickets ∷ val bids ∷ vint w64
+        width ∷ vint w32 round ∷ val guests ∷ s ∷ ptrVal house ∷ ptrVal last ∷ []) _ $
         alloc1 ! (λ l0. alloc1 ! (λ l1. alloc1 ! (λ l2. alloc1 ! (λ l3. alloc1 ! (λ l4. alloc1 ! (λ l5. alloc1 ! (λ l6.
         alloc1 ! (λ l7. alloc1 ! (λ l8. alloc1 ! (λ l9. alloc1 ! (λ l10. alloc1 ! (λ l11. alloc1 ! (λ l12.
         alloc1 ! (λ l13. alloc1 ! (λ l14. alloc1 ! (λ l15. alloc1 ! (λ l16. alloc1 ! (λ l17. alloc1 ! (λ l18.
-        alloc1 ! (λ l19. alloc1 ! (λ l20. alloc1 ! (λ l21. alloc1 ! (λ l22. alloc1 ! (λ l23. alloc1 ! (λ l24. alloc0 ! $
-        params1 ! $
+        alloc1 ! (λ l19. alloc1 ! (λ l20. alloc1 ! (λ l21. alloc1 ! (λ l22. alloc1 ! (λ l23. alloc1 ! (λ l24.
+        alloc1 ! (λ l25. alloc0 ! $ params1 ! $ pass1 ! (init ! 48 refl (tt, record { fits = rule-fits })) $
         pass1 ! (init ! 46 refl (shr-slice-lawful 𝓤 H A W (named 0) κ₀ u32 .typed asks (val asks ∷ []) g-asks .0)) $
         pass1 ! (init ! 44 refl (shr-slice-lawful 𝓤 H A W (named 1) κ₁ u16 .typed bays (val bays ∷ []) g-bays .0)) $
         pass1 !
@@ -470,21 +481,23 @@ module _ {M : Type 1} (𝓤 : URA M) (H : Heap 𝓤) (A : Atoms 𝓤) (W : Given
         pass1 ! (init ! 30 refl (tt, (tt, (record { fits = gn .0 }, tt)))) $ pass1 ! (init ! 28 refl (tt, tt)) $
         pass1 ! (init ! 26 refl (tt, tt)) $ pass0 ! $
         -- what the parameters own and their tokens, apart; `plan`
-        move ! (51 ∷ []) $ fsplit ! $ move ! (1 ∷ []) $ fsplit ! $ move ! (1 ∷ []) $ fsplit ! $ move ! (1 ∷ []) $
+        move ! (53 ∷ []) $ fsplit ! $ move ! (1 ∷ []) $ fsplit ! $ move ! (1 ∷ []) $ fsplit ! $ move ! (1 ∷ []) $
         fsplit ! $ move ! (1 ∷ []) $ fsplit ! $ move ! (1 ∷ []) $ fsplit ! $ move ! (1 ∷ []) $ fsplit ! $
         move ! (1 ∷ []) $ fsplit ! $ move ! (1 ∷ []) $ fsplit ! $ move ! (1 ∷ []) $ fsplit ! $ move ! (1 ∷ []) $
-        fsplit ! $ move ! (1 ∷ []) $ drop ! $ move ! (5 ∷ []) $ drop ! $ move ! (4 ∷ []) $ drop ! $
-        move ! (5 ∷ 4 ∷ []) $ fjoin ! $ move ! (5 ∷ 0 ∷ []) $ fjoin ! $ move ! (5 ∷ 0 ∷ []) $ fjoin ! $
-        move ! (5 ∷ 0 ∷ []) $ fjoin ! $ move ! (55 ∷ []) $ split ! $ move ! (1 ∷ []) $ split ! $ move ! (1 ∷ []) $
+        fsplit ! $ move ! (1 ∷ []) $ fsplit ! $ move ! (1 ∷ []) $ drop ! $ move ! (11 ∷ []) $ drop ! $ move ! (5 ∷ []) $
+        drop ! $ move ! (4 ∷ []) $ drop ! $ move ! (5 ∷ 4 ∷ []) $ fjoin ! $ move ! (5 ∷ 0 ∷ []) $ fjoin ! $
+        move ! (5 ∷ 0 ∷ []) $ fjoin ! $ move ! (5 ∷ 0 ∷ []) $ fjoin ! $ move ! (57 ∷ []) $ split ! $ move ! (1 ∷ []) $
         split ! $ move ! (1 ∷ []) $ split ! $ move ! (1 ∷ []) $ split ! $ move ! (1 ∷ []) $ split ! $ move ! (1 ∷ []) $
-        split ! $ move ! (2 ∷ 1 ∷ []) $ join ! $ nothing ! $ move ! (3 ∷ 0 ∷ []) $ join ! $ move ! (3 ∷ 0 ∷ []) $
-        join ! $ move ! (3 ∷ 0 ∷ []) $ join ! $ move ! (3 ∷ 0 ∷ []) $ join ! $ move ! (3 ∷ 0 ∷ []) $ join ! $
-        move ! (3 ∷ 0 ∷ []) $ use2 W (raw (Plan 𝓤 H A mem run .pre to-plan) ⊛ ‵ Market) goes-plan $ split ! $
-        -- [asked; Market; of settle; token 6; last; house; (x γ); guests; _24; …]
-        calls-at ! fm (Plan 𝓤 H A mem run) known-plan to-plan (and-then ! (load ! (from ! (stop !)) (look ! 54 refl))
-        (and-then ! (load ! (from ! (stop !)) (look ! 52 refl)) (and-then ! (load ! (from ! (stop !)) (look ! 50 refl))
-        (and-then ! (load ! (from ! (stop !)) (look ! 48 refl)) (and-then ! (load ! (from ! (stop !)) (look ! 46 refl))
-        (and-then ! (load ! (from ! (stop !)) (look ! 44 refl)) (no-more !))))))) (λ u₀.
+        split ! $ move ! (1 ∷ []) $ split ! $ move ! (2 ∷ 1 ∷ []) $ join ! $ nothing ! $ move ! (3 ∷ 0 ∷ []) $ join ! $
+        move ! (3 ∷ 0 ∷ []) $ join ! $ move ! (3 ∷ 0 ∷ []) $ join ! $ move ! (3 ∷ 0 ∷ []) $ join ! $
+        move ! (3 ∷ 0 ∷ []) $ join ! $ move ! (3 ∷ 0 ∷ []) $
+        use2 W (raw (Plan 𝓤 H A mem run .pre to-plan) ⊛ ‵ Market) goes-plan $ split ! $
+        -- [asked; Market; of settle; token 6; last; house; (x γ); guests; _25; …]
+        calls-at ! fm (Plan 𝓤 H A mem run) known-plan to-plan (and-then ! (load ! (from ! (stop !)) (look ! 56 refl))
+        (and-then ! (load ! (from ! (stop !)) (look ! 54 refl)) (and-then ! (load ! (from ! (stop !)) (look ! 52 refl))
+        (and-then ! (load ! (from ! (stop !)) (look ! 50 refl)) (and-then ! (load ! (from ! (stop !)) (look ! 48 refl))
+        (and-then ! (load ! (from ! (stop !)) (look ! 46 refl))
+        (and-then ! (load ! (from ! (stop !)) (look ! 44 refl)) (no-more !)))))))) (λ u₀.
         use1 W (later (some (λ (d : Round). (tokens₅ ⊛ ‵ (R.the-row .own d (u₀ ∷ []))) ⊛ raw
         (ensured 𝓤 H A plan.ended (plan.clauses 𝓤 H A mem run) κs₅ plan-args tt d)))) (id⊢ 𝓤 _) $ await ! tt $
         pick ! (λ d. split ! $ move ! (1 ∷ []) $ use1 W (raw (fact 𝓤 (Plan₀ d))) (plan-said d) $
@@ -502,7 +515,7 @@ module _ {M : Type 1} (𝓤 : URA M) (H : Heap 𝓤) (A : Atoms 𝓤) (W : Given
         use1 W (later (some (λ (δ : GName). ‵ (OwnS ν δ) ⊛ ‵ (flent (ν ∷ []) Parts))))
         (lends-shr-slice 𝓤 H A W T.the-row (named 0) (ν ∷ []) fullShare ys b o gn) $ await ! tt $ pick ! (λ δ. split ! $
         move ! (0 ∷ 2 ∷ []) $ use2 W (raw (Exceed 𝓤 H A mem run .pre (to-exceed d u₀ ν δ))) (goes-exceed d u₀ gd ν δ) $
-        -- [asked; lent; open; obs; auth; of plan; Market; of settle; last; house; guests; _24; …]
+        -- [asked; lent; open; obs; auth; of plan; Market; of settle; last; house; guests; _25; …]
         calls-at ! fm (Exceed 𝓤 H A mem run) known-exceed (to-exceed d u₀ ν δ) (and-then !
         (load ! (from ! (stop !)) (look ! 27 refl))
         (and-then ! (load ! (from ! (stop !)) (look ! 35 refl)) (no-more !))) (λ u₁.
@@ -512,11 +525,11 @@ module _ {M : Type 1} (𝓤 : URA M) (H : Heap 𝓤) (A : Atoms 𝓤) (W : Given
         use1 W (raw (fact 𝓤 (t ≡ exceedingTo d n ys))) (exceed-said d ν δ t) $ heard ! (t ≡ exceedingTo d n ys) (λ e₁.
         split ! $ move ! (1 ∷ []) $ facts ! Boolean (Is Boolean) (shows 𝓤 H A Boolean) t (u₁ ∷ []) (λ is₁.
         land ! (from ! (stop !)) (init ! 33 refl (bool-lawful 𝓤 H A W .typed t _ is₁ .0)) $
-        rewrite ! 33 (λ (z : Val). ‵ (fat fullShare tyBool l13 0 z)) (ap only is₁) refl $
-        rewrite ! 33 (λ (z : Bool). ‵ (fat fullShare tyBool l13 0 (vbool z))) e₁ refl $ split ! $ lft-end ! tt $
+        rewrite ! 33 (λ (z : Val). ‵ (fat fullShare tyBool l14 0 z)) (ap only is₁) refl $
+        rewrite ! 33 (λ (z : Bool). ‵ (fat fullShare tyBool l14 0 (vbool z))) e₁ refl $ split ! $ lft-end ! tt $
         move ! (0 ∷ 2 ∷ []) $ lent-back ! tt $ fsplit ! $ drop ! $ move ! (0 ∷ 2 ∷ 3 ∷ 4 ∷ []) $
         closes-slice ! tt T.the-row ys ys refl b o $
-        -- [obs; bor; token 6; true; of plan; Market; of settle; last; house; guests; _24; …]
+        -- [obs; bor; token 6; true; of plan; Market; of settle; last; house; guests; _25; …]
         -- `settle`
         assigns ! (of-opd ! (load ! (from ! (fld ! refl (stop !))) (look-in ! 40 (sub ! 1 refl (whole !)))))
         (from ! (stop !)) (init ! 24 refl (tt, record { fits = gn .0 })) $
@@ -529,7 +542,7 @@ module _ {M : Type 1} (𝓤 : URA M) (H : Heap 𝓤) (A : Atoms 𝓤) (W : Given
         assigns ! (addr ! (from ! (hop ! (look ! 36 refl) (stop !)))) (from ! (stop !)) (init ! 16 refl (tt, tt)) $
         move ! (8 ∷ 7 ∷ []) $ fjoin ! $ move ! (7 ∷ 8 ∷ 0 ∷ []) $
         use3 W (raw (Settle 𝓤 H A mem run .pre (to-settle d u₀))) (goes-settle d u₀ gd (gn .0)) $
-        -- [asked; obs; bor; token 6; true; of plan; Market; _24; …]
+        -- [asked; obs; bor; token 6; true; of plan; Market; _25; …]
         calls-at ! fm (Settle 𝓤 H A mem run) known-settle (to-settle d u₀) (and-then !
         (load ! (from ! (stop !)) (look ! 31 refl)) (and-then ! (load ! (from ! (stop !)) (look ! 29 refl)) (and-then !
         (load ! (from ! (stop !)) (look ! 21 refl)) (and-then ! (load ! (from ! (stop !)) (look ! 41 refl)) (and-then !
@@ -547,7 +560,7 @@ module _ {M : Type 1} (𝓤 : URA M) (H : Heap 𝓤) (A : Atoms 𝓤) (W : Given
         move ! (3 ∷ []) $ split ! $ move ! (1 ∷ []) $
         facts ! Q.the-row (Is Q.the-row) (shows 𝓤 H A Q.the-row) c (u₂ ∷ []) (λ is₂.
         land ! (from ! (stop !)) (init ! 30 refl (LL.lawful Q.the-type Q′.the-laws 𝓤 H A W .typed c _ is₂ .0)) $
-        rewrite ! 30 (λ (z : Val). ‵ (fat fullShare Q′.mir l14 0 z)) (ap only (LL.tells Q.the-type Q′.the-laws c _ is₂))
+        rewrite ! 30 (λ (z : Val). ‵ (fat fullShare Q′.mir l15 0 z)) (ap only (LL.tells Q.the-type Q′.the-laws c _ is₂))
         refl $
         -- `add_sales`
         assigns ! (addr ! (from ! (fld ! refl (hop ! (look-in ! 40 (sub ! 0 refl (whole !))) (stop !)))))
@@ -558,7 +571,7 @@ module _ {M : Type 1} (𝓤 : URA M) (H : Heap 𝓤) (A : Atoms 𝓤) (W : Given
         pureI ! (at-slice T.the-row (x γ) (s ∷ [])) (tt, (tt, tt)) (refl, gn) $ fjoin ! $ move ! (5 ∷ 6 ∷ []) $ join ! $
         use2 W (raw (Add 𝓤 H A mem run .pre (to-add d u₀ c)))
         (goes-add d u₀ gd c (LL.owed Q.the-type Q′.the-laws c _ is₂ .1 .0 .1)) $
-        -- [asked; of settle; last; house; guests; of plan; Market; _24; …]
+        -- [asked; of settle; last; house; guests; of plan; Market; _25; …]
         calls-at ! fm (Add 𝓤 H A mem run) known-add (to-add d u₀ c) (and-then !
         (load ! (from ! (stop !)) (look ! 7 refl)) (and-then ! (load ! (from ! (stop !)) (look ! 31 refl)) (and-then !
         (load ! (from ! (fld ! refl (stop !))) (look-in ! 27 (sub ! 1 refl (whole !)))) (no-more !)))) (λ u₃.
@@ -573,24 +586,24 @@ module _ {M : Type 1} (𝓤 : URA M) (H : Heap 𝓤) (A : Atoms 𝓤) (W : Given
         land ! (from ! (stop !)) (init ! 12 refl (nothing-lawful 𝓤 H A W .typed r _ is₃ .0)) $
         -- the reply
         assigns ! (of-opd ! (load ! (from ! (fld ! refl (stop !))) (look-in ! 28 (sub ! 0 refl (whole !)))))
-        (from ! (stop !)) (init ! 56 refl (EL.lawful S.the-type S′.the-laws 𝓤 H A W tt .typed (c .reply) _ (LL.owed
-        Q.the-type Q′.the-laws c _ is₂ .0) .0)) $ returns ! (look ! 56 refl) $ forget ! 8 refl $ forget ! 10 refl $
+        (from ! (stop !)) (init ! 58 refl (EL.lawful S.the-type S′.the-laws 𝓤 H A W tt .typed (c .reply) _ (LL.owed
+        Q.the-type Q′.the-laws c _ is₂ .0) .0)) $ returns ! (look ! 58 refl) $ forget ! 8 refl $ forget ! 10 refl $
         forget ! 12 refl $ forget ! 14 refl $ forget ! 16 refl $ forget ! 18 refl $ forget ! 20 refl $
         forget ! 22 refl $ forget ! 24 refl $ forget ! 26 refl $ forget ! 28 refl $ forget ! 30 refl $
         forget ! 32 refl $ forget ! 34 refl $ forget ! 36 refl $ forget ! 38 refl $ forget ! 40 refl $
         forget ! 42 refl $ forget ! 44 refl $ forget ! 46 refl $ forget ! 48 refl $ forget ! 50 refl $
-        forget ! 52 refl $ forget ! 54 refl $ forget ! 56 refl $ move ! (56 ∷ 57 ∷ []) $ free1 ! $
-        move ! (54 ∷ 55 ∷ []) $ free1 ! $ move ! (52 ∷ 53 ∷ []) $ free1 ! $ move ! (50 ∷ 51 ∷ []) $ free1 ! $
-        move ! (48 ∷ 49 ∷ []) $ free1 ! $ move ! (46 ∷ 47 ∷ []) $ free1 ! $ move ! (44 ∷ 45 ∷ []) $ free1 ! $
-        move ! (42 ∷ 43 ∷ []) $ free1 ! $ move ! (40 ∷ 41 ∷ []) $ free1 ! $ move ! (38 ∷ 39 ∷ []) $ free1 ! $
-        move ! (36 ∷ 37 ∷ []) $ free1 ! $ move ! (34 ∷ 35 ∷ []) $ free1 ! $ move ! (32 ∷ 33 ∷ []) $ free1 ! $
-        move ! (30 ∷ 31 ∷ []) $ free1 ! $ move ! (28 ∷ 29 ∷ []) $ free1 ! $ move ! (26 ∷ 27 ∷ []) $ free1 ! $
-        move ! (24 ∷ 25 ∷ []) $ free1 ! $ move ! (22 ∷ 23 ∷ []) $ free1 ! $ move ! (20 ∷ 21 ∷ []) $ free1 ! $
-        move ! (18 ∷ 19 ∷ []) $ free1 ! $ move ! (16 ∷ 17 ∷ []) $ free1 ! $ move ! (14 ∷ 15 ∷ []) $ free1 ! $
-        move ! (12 ∷ 13 ∷ []) $ free1 ! $ move ! (10 ∷ 11 ∷ []) $ free1 ! $ move ! (8 ∷ 9 ∷ []) $ free1 ! $ free0 ! $
-        keep ! (6 ∷ 7 ∷ 0 ∷ 1 ∷ 2 ∷ 5 ∷ 4 ∷ 3 ∷ []) $
+        forget ! 52 refl $ forget ! 54 refl $ forget ! 56 refl $ forget ! 58 refl $ move ! (58 ∷ 59 ∷ []) $ free1 ! $
+        move ! (56 ∷ 57 ∷ []) $ free1 ! $ move ! (54 ∷ 55 ∷ []) $ free1 ! $ move ! (52 ∷ 53 ∷ []) $ free1 ! $
+        move ! (50 ∷ 51 ∷ []) $ free1 ! $ move ! (48 ∷ 49 ∷ []) $ free1 ! $ move ! (46 ∷ 47 ∷ []) $ free1 ! $
+        move ! (44 ∷ 45 ∷ []) $ free1 ! $ move ! (42 ∷ 43 ∷ []) $ free1 ! $ move ! (40 ∷ 41 ∷ []) $ free1 ! $
+        move ! (38 ∷ 39 ∷ []) $ free1 ! $ move ! (36 ∷ 37 ∷ []) $ free1 ! $ move ! (34 ∷ 35 ∷ []) $ free1 ! $
+        move ! (32 ∷ 33 ∷ []) $ free1 ! $ move ! (30 ∷ 31 ∷ []) $ free1 ! $ move ! (28 ∷ 29 ∷ []) $ free1 ! $
+        move ! (26 ∷ 27 ∷ []) $ free1 ! $ move ! (24 ∷ 25 ∷ []) $ free1 ! $ move ! (22 ∷ 23 ∷ []) $ free1 ! $
+        move ! (20 ∷ 21 ∷ []) $ free1 ! $ move ! (18 ∷ 19 ∷ []) $ free1 ! $ move ! (16 ∷ 17 ∷ []) $ free1 ! $
+        move ! (14 ∷ 15 ∷ []) $ free1 ! $ move ! (12 ∷ 13 ∷ []) $ free1 ! $ move ! (10 ∷ 11 ∷ []) $ free1 ! $
+        move ! (8 ∷ 9 ∷ []) $ free1 ! $ free0 ! $ keep ! (6 ∷ 7 ∷ 0 ∷ 1 ∷ 2 ∷ 5 ∷ 4 ∷ 3 ∷ []) $
         by ! (exits d c u₂ (ls .1 .1 .1 .1 .0) (zs .0) (ls .1 .1 .1 .1 .1 .0) (ls .1 .1 .1 .1 .1 .1 .0) e₀ e₂ e₃ is₂
-        l-stations l-guests))))))))))))))))))))))))))))))))))))))))))))))))
+        l-stations l-guests)))))))))))))))))))))))))))))))))))))))))))))))))
 
 module _ {M : Type 1} (𝓤 : URA M) (H : Heap 𝓤) (A : Atoms 𝓤) (W : Given 𝓤 H A) (mem : Memory → SProp 𝓤)
     (run : Routine → Fun 𝓤) where
@@ -603,39 +616,45 @@ module _ {M : Type 1} (𝓤 : URA M) (H : Heap 𝓤) (A : Atoms 𝓤) (W : Given
   post-walks C Λ fm known-plan known-exceed known-settle known-add =
       walked 𝓤 H A f.ended stayed (f.clauses 𝓤 H A mem run) (WpFn 𝓤 H C Λ code.function)
       (λ κs. (
-        slice-vals,
+        uint-vals w8,
         (
           slice-vals,
           (
             slice-vals,
             (
               slice-vals,
-              (slice-vals, (uint-vals w64, (uint-vals w32, (slice-vals, (slice-vals, (ptr-vals, (ptr-vals, tt))))))),
+              (
+                slice-vals,
+                (slice-vals, (uint-vals w64, (uint-vals w32, (slice-vals, (slice-vals, (ptr-vals, (ptr-vals, tt))))))),
+              ),
             ),
           ),
         ),
       ))
       (λ κs. (
-        shr-slice-tells (named 0) (κs .0) u32,
+        uint-tells w8,
         (
-          shr-slice-tells (named 1) (κs .1 .0) u16,
+          shr-slice-tells (named 0) (κs .0) u32,
           (
-            shr-slice-tells (named 2) (κs .1 .1 .0) u16,
+            shr-slice-tells (named 1) (κs .1 .0) u16,
             (
-              shr-slice-tells (named 3) (κs .1 .1 .1 .0) u32,
+              shr-slice-tells (named 2) (κs .1 .1 .0) u16,
               (
-                shr-slice-tells (named 4) (κs .1 .1 .1 .1 .0) u32,
+                shr-slice-tells (named 3) (κs .1 .1 .1 .0) u32,
                 (
-                  uint-tells w64,
+                  shr-slice-tells (named 4) (κs .1 .1 .1 .1 .0) u32,
                   (
-                    uint-tells w32,
+                    uint-tells w64,
                     (
-                      mut-slice-tells (named 5) (κs .1 .1 .1 .1 .1 .0) u64,
+                      uint-tells w32,
                       (
-                        mut-slice-tells (named 6) (κs .1 .1 .1 .1 .1 .1 .0) T.the-row,
+                        mut-slice-tells (named 5) (κs .1 .1 .1 .1 .1 .0) u64,
                         (
-                          mut-tells (named 7) (κs .1 .1 .1 .1 .1 .1 .1 .0) u64,
-                          (mut-tells (named 8) (κs .1 .1 .1 .1 .1 .1 .1 .1 .0) u32, tt),
+                          mut-slice-tells (named 6) (κs .1 .1 .1 .1 .1 .1 .0) T.the-row,
+                          (
+                            mut-tells (named 7) (κs .1 .1 .1 .1 .1 .1 .1 .0) u64,
+                            (mut-tells (named 8) (κs .1 .1 .1 .1 .1 .1 .1 .1 .0) u32, tt),
+                          ),
                         ),
                       ),
                     ),
@@ -649,13 +668,14 @@ module _ {M : Type 1} (𝓤 : URA M) (H : Heap 𝓤) (A : Atoms 𝓤) (W : Given
       (λ κs qs bounds a g are. via 𝓤 _ (fst∗ 𝓤 _ (emp 𝓤)) (walk 𝓤 H A W mem run (κs .0) (κs .1 .0) (κs .1 .1 .0) (κs .1
       .1 .1 .0) (κs .1 .1 .1 .1 .0) (κs .1 .1 .1 .1 .1 .0) (κs .1 .1 .1 .1 .1 .1 .0) (κs .1 .1 .1 .1 .1 .1 .1 .0) (κs .1
       .1 .1 .1 .1 .1 .1 .1 .0) (qs .0) (qs .1 .0) (qs .1 .1 .0) (qs .1 .1 .1 .0) (qs .1 .1 .1 .1 .0) (qs .1 .1 .1 .1 .1
-      .0) (qs .1 .1 .1 .1 .1 .1 .0) (qs .1 .1 .1 .1 .1 .1 .1 .0) (qs .1 .1 .1 .1 .1 .1 .1 .1 .0) (a .0) (a .1 .0) (a .1
-      .1 .0) (a .1 .1 .1 .0) (a .1 .1 .1 .1 .0) (a .1 .1 .1 .1 .1 .0) (are .1 .1 .1 .1 .1 .0 .1) (a .1 .1 .1 .1 .1 .1
-      .0) (are .1 .1 .1 .1 .1 .1 .0 .1) (a .1 .1 .1 .1 .1 .1 .1 .0) (a .1 .1 .1 .1 .1 .1 .1 .1 .0 .ptr .0) (a .1 .1 .1
-      .1 .1 .1 .1 .1 .0 .ptr .1) (a .1 .1 .1 .1 .1 .1 .1 .1 .0 .name) (a .1 .1 .1 .1 .1 .1 .1 .1 .0 .now) (a .1 .1 .1 .1
-      .1 .1 .1 .1 .1 .0) (a .1 .1 .1 .1 .1 .1 .1 .1 .1 .1 .0) C Λ fm known-plan known-exceed known-settle known-add (are
-      .0) (are .1 .0) (are .1 .1 .0) (are .1 .1 .1 .0) (are .1 .1 .1 .1 .0) (are .1 .1 .1 .1 .1 .1 .1 .0 .0 .1) (are .1
-      .1 .1 .1 .1 .1 .1 .1 .0 .0 .1)))
+      .0) (qs .1 .1 .1 .1 .1 .1 .0) (qs .1 .1 .1 .1 .1 .1 .1 .0) (qs .1 .1 .1 .1 .1 .1 .1 .1 .0) (a .0) (are .0 .1) (a
+      .1 .0) (a .1 .1 .0) (a .1 .1 .1 .0) (a .1 .1 .1 .1 .0) (a .1 .1 .1 .1 .1 .0) (a .1 .1 .1 .1 .1 .1 .0) (are .1 .1
+      .1 .1 .1 .1 .0 .1) (a .1 .1 .1 .1 .1 .1 .1 .0) (are .1 .1 .1 .1 .1 .1 .1 .0 .1) (a .1 .1 .1 .1 .1 .1 .1 .1 .0) (a
+      .1 .1 .1 .1 .1 .1 .1 .1 .1 .0 .ptr .0) (a .1 .1 .1 .1 .1 .1 .1 .1 .1 .0 .ptr .1) (a .1 .1 .1 .1 .1 .1 .1 .1 .1 .0
+      .name) (a .1 .1 .1 .1 .1 .1 .1 .1 .1 .0 .now) (a .1 .1 .1 .1 .1 .1 .1 .1 .1 .1 .0) (a .1 .1 .1 .1 .1 .1 .1 .1 .1
+      .1 .1 .0) C Λ fm known-plan known-exceed known-settle known-add (are .1 .0) (are .1 .1 .0) (are .1 .1 .1 .0) (are
+      .1 .1 .1 .1 .0) (are .1 .1 .1 .1 .1 .0) (are .1 .1 .1 .1 .1 .1 .1 .1 .0 .0 .1) (are .1 .1 .1 .1 .1 .1 .1 .1 .1 .0
+      .0 .1)))
 
 post-meets :
     {M : Type 1} (𝓤 : URA M) (H : Heap 𝓤) (A : Atoms 𝓤) → Given 𝓤 H A
@@ -667,26 +687,29 @@ post-meets :
     → Meets 𝓤 H A f.signature (WpFn 𝓤 H (𝓣 .C) (𝓣 .Λ) code.function) (f.spec 𝓤 H A mem run)
 post-meets 𝓤 H A W mem run 𝓣 known-plan known-exceed known-settle known-add =
     walk-meets 𝓤 H A f.ended stayed W (
-      goes-none-slice 𝓤 H A W 9 (0 ∷ []) tt (plain (λ _. u32)) yes,
+      goes-none 𝓤 H A W 9 (λ _. u8) yes (λ κs x f. refl),
       (
-        goes-none-slice 𝓤 H A W 9 (1 ∷ []) tt (plain (λ _. u16)) yes,
+        goes-none-slice 𝓤 H A W 9 (0 ∷ []) tt (plain (λ _. u32)) yes,
         (
-          goes-none-slice 𝓤 H A W 9 (2 ∷ []) tt (plain (λ _. u16)) yes,
+          goes-none-slice 𝓤 H A W 9 (1 ∷ []) tt (plain (λ _. u16)) yes,
           (
-            goes-none-slice 𝓤 H A W 9 (3 ∷ []) tt (plain (λ _. u32)) yes,
+            goes-none-slice 𝓤 H A W 9 (2 ∷ []) tt (plain (λ _. u16)) yes,
             (
-              goes-none-slice 𝓤 H A W 9 (4 ∷ []) tt (plain (λ _. u32)) yes,
+              goes-none-slice 𝓤 H A W 9 (3 ∷ []) tt (plain (λ _. u32)) yes,
               (
-                goes-none 𝓤 H A W 9 (λ _. usize) yes (λ κs x f. refl),
+                goes-none-slice 𝓤 H A W 9 (4 ∷ []) tt (plain (λ _. u32)) yes,
                 (
-                  goes-none 𝓤 H A W 9 (λ _. u32) yes (λ κs x f. refl),
+                  goes-none 𝓤 H A W 9 (λ _. usize) yes (λ κs x f. refl),
                   (
-                    goes-gave-slice 𝓤 H A W 9 5 tt (plain (λ _. u64)),
+                    goes-none 𝓤 H A W 9 (λ _. u32) yes (λ κs x f. refl),
                     (
-                      goes-gave-slice 𝓤 H A W 9 6 tt (plain (λ _. T.the-row)),
+                      goes-gave-slice 𝓤 H A W 9 5 tt (plain (λ _. u64)),
                       (
-                        goes-gave-ref 𝓤 H A W 9 7 tt (plain (λ _. u64)),
-                        (goes-gave-ref 𝓤 H A W 9 8 tt (plain (λ _. u32)), tt),
+                        goes-gave-slice 𝓤 H A W 9 6 tt (plain (λ _. T.the-row)),
+                        (
+                          goes-gave-ref 𝓤 H A W 9 7 tt (plain (λ _. u64)),
+                          (goes-gave-ref 𝓤 H A W 9 8 tt (plain (λ _. u32)), tt),
+                        ),
                       ),
                     ),
                   ),

@@ -3,8 +3,9 @@ use Rattle.model.specs.Counting.{_<?_, _≤?_, _=?_, _and_, _or_, only, 
 use Rattle.model.specs.Counting.{joined}
 use Rattle.model.specs.Numbers.{answerOfClearing}
 use Rattle.model.specs.Verdicts.{firstFault, giving, updated}
-use Rattle.model.specs.market.Market.{bidAt, marketBy, median, market, cut, opens, screen, queue}
+use Rattle.model.specs.market.Market.{bidAt, marketBy, market, cut, opens, screen, queue}
 use Rattle.model.specs.market.Market.{before, rank, provisional, critical}
+use Rattle.model.specs.market.Rules.{median, twoThirds, position, named, isUnknown, ruleIn}
 use Rattle.model.specs.market.Mechanism.{at, charge, charged, obtained, served, sold, paid, margin, better, best}
 use Rattle.model.specs.market.Mechanism.{surplus, truthful}
 use Rattle.model.specs.market.Stable.{sooner}
@@ -13,7 +14,7 @@ use Rattle.model.specs.market.Efficient.{bayLeft, assign, firstOf, turnA
 use Rattle.model.specs.market.Outcome.{outcomeBy, screened, decision, outcome, efficientDecision}
 use Rattle.model.specs.market.Outcome.{efficientOutcome}
 use Rattle.model.specs.market.Faults.{outside, repeats, counts, lengths, values, listLengths, marketFaults}
-use Rattle.model.specs.market.Faults.{verdict, clearingFaults}
+use Rattle.model.specs.market.Faults.{unknownRule, verdict, tableFaults, clearingFaults}
 use Rattle.model.specs.market.Gains.{guestGain, stationGain}
 use Rattle.model.specs.book.PlainBook.{raised, entered, overLimit, bookSize, outOfTurn, postingFaults, emptyPlain}
 use Rattle.model.specs.book.PlainBook.{answer, after, answers, final}
@@ -39,10 +40,10 @@ unfolding _<?_ _≤?_ _=?_ _and_ _or_ only sum greatest count some any list join
 counting-computes = tt
 
 unfoldable pub clearing-computes : Unit {0}
-unfolding counting-computes bidAt marketBy median market cut opens screen queue before rank provisional
-    critical at charge charged obtained sold paid margin better best surplus truthful outcomeBy screened decision
-    outcome guestGain stationGain outside repeats counts lengths values listLengths marketFaults verdict clearingFaults
-    answerOfClearing
+unfolding counting-computes median twoThirds position named isUnknown ruleIn bidAt marketBy market cut opens screen
+    queue before rank provisional critical at charge charged obtained sold paid margin better best surplus truthful
+    outcomeBy screened decision outcome guestGain stationGain outside repeats counts lengths values listLengths
+    marketFaults verdict unknownRule tableFaults clearingFaults answerOfClearing
 clearing-computes = tt
 
 unfoldable pub efficient-computes : Unit {0}

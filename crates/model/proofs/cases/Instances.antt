@@ -6,7 +6,9 @@ use lib.IntN.{pos, negsuc}
 use lib.ListN.{getD}
 use lib.Signed.{_≤ℤ_}
 use Rattle.model.specs.Counting.{sum}
-use Rattle.model.specs.market.Market.{bidAt, median, market}
+use Rattle.model.specs.market.Market.{bidAt, market}
+use Rattle.model.specs.market.Rules.{position}
+use Rattle.model.specs.declared.rule.Rule.the-variants.{Median}
 use Rattle.model.specs.market.Mechanism.{charged, paid, margin}
 use Rattle.model.specs.market.Outcome.{screened, decision, efficientDecision}
 use Rattle.model.specs.market.Faults.{Accepted}
@@ -19,7 +21,7 @@ use Rattle.model.specs.cases.Instances.{LimitsInstance, contested, withh
 use Rattle.model.proofs.cases.Computing.{clearing-computes, efficient-computes}
 use Rattle.model.proofs.market.Pivots.{without, left-out, pivot, past, bar}
 use Rattle.model.proofs.market.Menus.{menu}
-use Rattle.model.proofs.claims.Truth.{guest-truthful, station-truthful, menu-of, clearing-limits}
+use Rattle.model.proofs.claims.Truth.{guest-truthful-under, station-truthful-under, menu-of, clearing-limits}
 
 -- the numbers
 pub record Numbers : Type 0 where
@@ -28,15 +30,15 @@ pub record Numbers : Type 0 where
   pub accepted-costly : Accepted costly
   pub accepted-underasked : Accepted underasked
   pub accepted-E : Accepted caseE
-  pub G-gains : guestGain (screened caseG) (decision caseG) (bidAt caseG 1) 1 ≡ pos 0
-  pub overbid-gains : guestGain (screened overbid) (decision overbid) (bidAt caseG 1) 1 ≡ negsuc 6
-  pub costly-gains : stationGain (screened costly) (decision costly) 5 0 ≡ pos 0
-  pub underasked-gains : stationGain (screened underasked) (decision underasked) 5 0 ≡ negsuc 1
-  pub bar-is : (menu (market caseG) 1) .bar 0 ≡ 28
-  pub price-is : (menu (market caseG) 1) .price 0 ≡ 27
-  pub charges-are : sum 2 (charged (screened caseE) (decision caseE)) ≡ 24
-  pub payments-are : sum 2 (paid (screened caseE) (decision caseE)) ≡ 18
-  pub margin-is : margin (screened caseE) (decision caseE) ≡ 6
+  pub G-gains : guestGain (screened Median caseG) (decision Median caseG) (bidAt caseG 1) 1 ≡ pos 0
+  pub overbid-gains : guestGain (screened Median overbid) (decision Median overbid) (bidAt caseG 1) 1 ≡ negsuc 6
+  pub costly-gains : stationGain (screened Median costly) (decision Median costly) 5 0 ≡ pos 0
+  pub underasked-gains : stationGain (screened Median underasked) (decision Median underasked) 5 0 ≡ negsuc 1
+  pub bar-is : (menu (market Median caseG) 1) .bar 0 ≡ 28
+  pub price-is : (menu (market Median caseG) 1) .price 0 ≡ 27
+  pub charges-are : sum 2 (charged (screened Median caseE) (decision Median caseE)) ≡ 24
+  pub payments-are : sum 2 (paid (screened Median caseE) (decision Median caseE)) ≡ 18
+  pub margin-is : margin (screened Median caseE) (decision Median caseE) ≡ 6
 
 numbers : Numbers
 unfolding clearing-computes pair caseE caseG overbid costly underasked without left-out pivot past bar menu
@@ -96,7 +98,7 @@ guest-instance = record {
   alike = guests-alike;
   truth-gains = numbers .G-gains;
   overbid-gains = numbers .overbid-gains;
-  no-more = guest-truthful median caseG overbid 1 (numbers .accepted-G) (numbers .accepted-overbid)
+  no-more = guest-truthful-under Median caseG overbid 1 (numbers .accepted-G) (numbers .accepted-overbid)
       second-of-two guests-alike;
 }
 
@@ -108,22 +110,22 @@ station-instance = record {
   alike = stations-alike;
   truth-gains = numbers .costly-gains;
   underasked-gains = numbers .underasked-gains;
-  no-more = station-truthful median costly underasked 0 (numbers .accepted-costly) (numbers .accepted-underasked)
+  no-more = station-truthful-under Median costly underasked 0 (numbers .accepted-costly) (numbers .accepted-underasked)
       (omega arith) stations-alike;
 }
 
 pub menu-instance : MenuInstance
 unfolding market pair caseG
 menu-instance = record {
-  menu = menu (market caseG) 1;
-  is-menu = menu-of caseG 1 (numbers .accepted-G) second-of-two;
+  menu = menu (market Median caseG) 1;
+  is-menu = menu-of Median caseG 1 (numbers .accepted-G) second-of-two;
   bar-is = numbers .bar-is;
   price-is = numbers .price-is;
 }
 
 pub limits-instance : LimitsInstance
 limits-instance = record {
-  within = clearing-limits caseE (numbers .accepted-E);
+  within = clearing-limits Median caseE (numbers .accepted-E);
   charges-are = numbers .charges-are;
   payments-are = numbers .payments-are;
   margin-is = numbers .margin-is;

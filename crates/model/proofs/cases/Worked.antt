@@ -1,5 +1,5 @@
 -- The statements over calls at work, on case G of document 01: guest 2 overbids, then station 1
--- asks more than its cost; the latter by the efficient mechanism too.
+-- asks more than its cost; the latter by the efficient mechanism too. All under rule 1.
 use Prim.Native.Nat.{ℕ, zero, suc, _<_}
 use mathlib.Core.List.{[], _∷_}
 use mathlib.Core.Path.{_≡_, refl}
@@ -11,6 +11,7 @@ use Rattle.model.specs.market.Market.{Tables, tables, bidAt}
 use Rattle.model.specs.market.Mechanism.{at}
 use Rattle.model.specs.market.Outcome.{Results, Outcome, results}
 use Rattle.model.specs.claims.Truth.{AlikeButForGuest, AlikeButForStation}
+use Rattle.model.specs.declared.rule.Rule.{Rule}
 use Rattle.model.specs.contracts.Clears.{ClearsBy}
 use Rattle.model.specs.Numbers.{answerOfClearing}
 use Rattle.model.specs.declared.answers.Clearing.{Clearing}
@@ -41,8 +42,8 @@ cleared cut margin = Cleared (record { 0 = cut }) (record { 0 = margin })
 
 -- the three calls, by computation
 abbrev pub called :
-    {made : Tables → Outcome} (t : Tables) (cut margin : ℕ) (exit : Results)
-    → ClearsBy made t lists (cleared cut margin) exit → ClearedCallBy made t
+    {made : Rule → Tables → Outcome} (t : Tables) (cut margin : ℕ) (exit : Results)
+    → ClearsBy made 1 t lists (cleared cut margin) exit → ClearedCallBy made 1 t
 unfolding answerOfClearing
 called t cut margin exit c =
     record {
@@ -55,7 +56,7 @@ called t cut margin exit c =
       cleared = refl;
     }
 
-pub calls : ClearedCall honest × ClearedCall overbid × ClearedCall overask
+pub calls : ClearedCall 1 honest × ClearedCall 1 overbid × ClearedCall 1 overask
 unfolding clearing-computes
 calls = (
   called honest 6 2 (results (1 ∷ 0 ∷ []) (20 ∷ 0 ∷ []) (3 ∷ 0 ∷ []) (18 ∷ 0 ∷ []))
@@ -81,7 +82,7 @@ alike-guest =
 
 pub guest-worked : negsuc 6 ≤ℤ pos 0
 unfolding calls guestGainIn at bidAt
-guest-worked = guest-truthful-calls honest overbid (calls .0) (calls .1) 1 (omega arith) alike-guest
+guest-worked = guest-truthful-calls 1 honest overbid (calls .0) (calls .1) 1 (omega arith) alike-guest
 
 -- the higher ask costs station 1 the twelve mills that the truth gains it
 alike-station : AlikeButForStation honest overask 0
@@ -101,15 +102,15 @@ alike-station =
 
 pub station-worked : pos 0 ≤ℤ pos 12
 unfolding calls stationGainIn
-station-worked = station-truthful-calls honest overask (calls .0) (calls .2) 0 (omega arith) alike-station
+station-worked = station-truthful-calls 1 honest overask (calls .0) (calls .2) 0 (omega arith) alike-station
 
 -- in case G the charges, 20, are the payments, 18, and the margin, 2
 pub limits-worked : CallWithin honest 2 (results (1 ∷ 0 ∷ []) (20 ∷ 0 ∷ []) (3 ∷ 0 ∷ []) (18 ∷ 0 ∷ []))
 unfolding calls
-limits-worked = call-limits honest (calls .0)
+limits-worked = call-limits 1 honest (calls .0)
 
 -- the same of calls of `clear_efficient`
-pub efficient-calls : EfficientCall honest × EfficientCall overask
+pub efficient-calls : EfficientCall 1 honest × EfficientCall 1 overask
 unfolding efficient-computes
 efficient-calls = (
   called honest 6 2 (results (1 ∷ 0 ∷ []) (20 ∷ 0 ∷ []) (3 ∷ 0 ∷ []) (18 ∷ 0 ∷ []))
@@ -121,9 +122,9 @@ efficient-calls = (
 pub efficient-station-worked : pos 0 ≤ℤ pos 12
 unfolding efficient-calls stationGainIn
 efficient-station-worked =
-    efficient-station-truthful-calls honest overask (efficient-calls .0) (efficient-calls .1) 0 (omega arith)
+    efficient-station-truthful-calls 1 honest overask (efficient-calls .0) (efficient-calls .1) 0 (omega arith)
     alike-station
 
 pub efficient-limits-worked : CallWithin honest 2 (results (1 ∷ 0 ∷ []) (20 ∷ 0 ∷ []) (3 ∷ 0 ∷ []) (18 ∷ 0 ∷ []))
 unfolding efficient-calls
-efficient-limits-worked = efficient-call-limits honest (efficient-calls .0)
+efficient-limits-worked = efficient-call-limits 1 honest (efficient-calls .0)

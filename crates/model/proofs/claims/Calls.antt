@@ -7,80 +7,84 @@ use lib.ListN.{getD, length}
 use Rattle.model.specs.Counting.{_=?_, only, sum}
 use Rattle.model.specs.Verdicts.{accepted, firstFault}
 use Rattle.model.proofs.Verdicts.{gave-accepted, gave-refused, updated-accepted, updated-refused}
-use Rattle.model.specs.market.Market.{Tables, bidAt, marketBy, median, market, Screened, screen}
+use Rattle.model.specs.market.Market.{Tables, bidAt, marketBy, market, Screened, screen}
 use Rattle.model.specs.market.Mechanism.{Decision, at, charged, obtained, served, sold, paid, margin, truthful}
 use Rattle.model.specs.market.Efficient.{efficient}
 use Rattle.model.specs.market.Outcome.{Outcome, outcomeBy, screened, decision, outcome, efficientDecision}
 use Rattle.model.specs.market.Outcome.{efficientOutcome}
 use Rattle.model.specs.market.Faults.{Accepted, clearingFaults}
+use Rattle.model.specs.declared.rule.Rule.{Rule}
+use Rattle.model.specs.market.Rules.{position, ruleOf}
 use Rattle.model.specs.market.Gains.{guestGain, stationGain}
 use Rattle.model.specs.claims.Truth.{StationTruthfulBy, ClearsWithin}
 use Rattle.model.proofs.Counting.{sum-cong, count-cong, getD-list}
 use Rattle.model.proofs.market.Acceptance.{accepted-iff-within-limits}
-use Rattle.model.proofs.claims.Truth.{guest-truthful, station-truthful, clearing-limits}
-use Rattle.model.proofs.claims.Efficient.{efficient-station-truthful, efficient-limits}
+use Rattle.model.proofs.claims.Truth.{guest-truthful-under, station-truthful-under, clearing-limits}
+use Rattle.model.proofs.claims.Efficient.{efficient-station-truthful-under, efficient-limits}
 use Rattle.model.specs.claims.Calls.{RefusedLeaves, ClearedCallBy, guestGainIn, stationGainIn, GuestTruthfulCalls}
 use Rattle.model.specs.claims.Calls.{StationTruthfulCallsBy, StationTruthfulCalls, EfficientStationTruthfulCalls}
 use Rattle.model.specs.claims.Calls.{CallWithin, CallLimits, EfficientCallLimits}
-use Rattle.model.proofs.contracts.Accepts.{accepts}
+use Rattle.model.proofs.contracts.Accepts.{accepted-call}
 
 pub refused-leaves : RefusedLeaves
-refused-leaves made t entry exit answer k e c =
+refused-leaves made rule t entry exit answer k e c =
     c .left ∙ updated-refused _ _ k (gave-refused _ _ k (sym (c .answered) ∙ e))
 
 -- a call that clears by a mechanism
-module _ {made : Tables → Outcome} (mechanism : Screened → Decision)
-    (made-by : (t : Tables) → made t ≡ outcomeBy (screened t) (mechanism (screened t)))
-    (t : Tables) (k : ClearedCallBy made t) where
+module _ {made : Rule → Tables → Outcome} (mechanism : Screened → Decision)
+    (made-by : (rule : Rule) (t : Tables) → made rule t ≡ outcomeBy (screened rule t) (mechanism (screened rule t)))
+    (rule : ℕ) (t : Tables) (k : ClearedCallBy made rule t) where
   abbrev D : Decision
-  D = mechanism (screened t)
+  D = mechanism (screened (ruleOf rule) t)
 
   told :
-      (firstFault (clearingFaults t (k .entry)) ≡ accepted tt)
-      × (_≡_ {A = ℕ × ℕ} ((made t) .cut, (made t) .margin) (k .cut, k .margin))
+      (firstFault (clearingFaults rule t (k .entry)) ≡ accepted tt)
+      × (_≡_ {A = ℕ × ℕ} ((made (ruleOf rule) t) .cut, (made (ruleOf rule) t) .margin) (k .cut, k .margin))
   told = gave-accepted _ _ _ (sym (k .call .answered) ∙ k .cleared)
 
-  no-fault : firstFault (clearingFaults t (k .entry)) ≡ accepted tt
+  no-fault : firstFault (clearingFaults rule t (k .entry)) ≡ accepted tt
   no-fault = told .0
 
   is-accepted : Accepted t
-  is-accepted = accepted-iff-within-limits t .1 (accepts t (k .entry) no-fault .within)
+  is-accepted = accepted-iff-within-limits t .1 (accepted-call rule t (k .entry) no-fault .within)
 
-  leaves : k .exit ≡ (outcomeBy (screened t) D) .results
-  leaves = k .call .left ∙ updated-accepted _ _ no-fault ∙ ap (λ o. o .results) (made-by t)
+  leaves : k .exit ≡ (outcomeBy (screened (ruleOf rule) t) D) .results
+  leaves = k .call .left ∙ updated-accepted _ _ no-fault ∙ ap (λ o. o .results) (made-by (ruleOf rule) t)
 
-  margin-is : k .margin ≡ margin (screened t) D
+  margin-is : k .margin ≡ margin (screened (ruleOf rule) t) D
   unfolding outcomeBy
-  margin-is = sym (ap (λ p. p .1) (told .1)) ∙ ap (λ o. o .margin) (made-by t)
+  margin-is = sym (ap (λ p. p .1) (told .1)) ∙ ap (λ o. o .margin) (made-by (ruleOf rule) t)
 
   station-of : (i : ℕ) → i < length (t .amounts) → getD (k .exit .stations) i 0 ≡ D .assigned i
   unfolding outcomeBy screened screen market marketBy
   station-of i l = ap (λ r. getD (r .stations) i 0) leaves ∙ getD-list _ _ i l
 
-  charge-of : (i : ℕ) → i < length (t .amounts) → getD (k .exit .charges) i 0 ≡ charged (screened t) D i
+  charge-of : (i : ℕ) → i < length (t .amounts) → getD (k .exit .charges) i 0 ≡ charged (screened (ruleOf rule) t) D i
   unfolding outcomeBy screened screen market marketBy
   charge-of i l = ap (λ r. getD (r .charges) i 0) leaves ∙ getD-list _ _ i l
 
-  sold-of : (j : ℕ) → j < length (t .asks) → getD (k .exit .sold) j 0 ≡ sold (screened t) D j
+  sold-of : (j : ℕ) → j < length (t .asks) → getD (k .exit .sold) j 0 ≡ sold (screened (ruleOf rule) t) D j
   unfolding outcomeBy screened screen market marketBy
   sold-of j l = ap (λ r. getD (r .sold) j 0) leaves ∙ getD-list _ _ j l
 
-  paid-of : (j : ℕ) → j < length (t .asks) → getD (k .exit .paid) j 0 ≡ paid (screened t) D j
+  paid-of : (j : ℕ) → j < length (t .asks) → getD (k .exit .paid) j 0 ≡ paid (screened (ruleOf rule) t) D j
   unfolding outcomeBy screened screen market marketBy
   paid-of j l = ap (λ r. getD (r .paid) j 0) leaves ∙ getD-list _ _ j l
 
   -- the gains that the lists show are those of the definitions
   guest-gain :
-      (w : ℕ → ℕ) (i : ℕ) → i < length (t .amounts) → guestGain (screened t) D w i ≡ guestGainIn t (k .exit) w i
+      (w : ℕ → ℕ) (i : ℕ) → i < length (t .amounts)
+      → guestGain (screened (ruleOf rule) t) D w i ≡ guestGainIn t (k .exit) w i
   unfolding guestGain guestGainIn obtained screened screen market marketBy
   guest-gain w i l = ap₂ subℕ (ap (at (λ j. w j * getD (t .amounts) i 0)) (sym (station-of i l))) (sym (charge-of i l))
 
   station-gain :
-      (cost j : ℕ) → j < length (t .asks) → stationGain (screened t) D cost j ≡ stationGainIn (k .exit) cost j
+      (cost j : ℕ) → j < length (t .asks)
+      → stationGain (screened (ruleOf rule) t) D cost j ≡ stationGainIn (k .exit) cost j
   unfolding stationGain stationGainIn
   station-gain cost j l = ap₂ subℕ (sym (paid-of j l)) (ap (λ x. cost * x) (sym (sold-of j l)))
 
-  module _ (w : ClearsWithin t D) where
+  module _ (w : ClearsWithin (ruleOf rule) t D) where
     level :
         sum (length (t .amounts)) (λ i. getD (k .exit .charges) i 0)
         ≡ sum (length (t .asks)) (λ j. getD (k .exit .paid) j 0) + k .margin
@@ -104,45 +108,50 @@ module _ {made : Tables → Outcome} (mechanism : Screened → Decision)
     }
 
 station-truthful-calls-by :
-    {made : Tables → Outcome} (mechanism : Screened → Decision)
-    → ((t : Tables) → made t ≡ outcomeBy (screened t) (mechanism (screened t)))
-    → StationTruthfulBy mechanism median → StationTruthfulCallsBy made
+    {made : Rule → Tables → Outcome} (mechanism : Screened → Decision)
+    → ((rule : Rule) (t : Tables) → made rule t ≡ outcomeBy (screened rule t) (mechanism (screened rule t)))
+    → ((rule : Rule) → StationTruthfulBy mechanism (position rule)) → StationTruthfulCallsBy made
 unfolding screened market
-station-truthful-calls-by mechanism made-by truth t t′ k k′ j l A =
+station-truthful-calls-by mechanism made-by truth rule t t′ k k′ j l A =
     rw (
-      ← station-gain mechanism made-by t k (getD (t .asks) j 0) j l,
-      ← station-gain mechanism made-by t′ k′ (getD (t .asks) j 0) j (omega (arith, A .same-count)),
-    ) (truth t t′ j (is-accepted mechanism made-by t k) (is-accepted mechanism made-by t′ k′) l A)
+      ← station-gain mechanism made-by rule t k (getD (t .asks) j 0) j l,
+      ← station-gain mechanism made-by rule t′ k′ (getD (t .asks) j 0) j (omega (arith, A .same-count)),
+    ) (truth (ruleOf rule) t t′ j (is-accepted mechanism made-by rule t k)
+    (is-accepted mechanism made-by rule t′ k′) l A)
 
 -- `clear` clears by document 01's mechanism, `clear_efficient` by the efficient one
-by-truthful : (t : Tables) → outcome t ≡ outcomeBy (screened t) (truthful (screened t))
+by-truthful : (rule : Rule) (t : Tables) → outcome rule t ≡ outcomeBy (screened rule t) (truthful (screened rule t))
 unfolding outcome decision
-by-truthful t = refl
+by-truthful rule t = refl
 
-by-efficient : (t : Tables) → efficientOutcome t ≡ outcomeBy (screened t) (efficient (screened t))
+by-efficient :
+    (rule : Rule) (t : Tables) → efficientOutcome rule t ≡ outcomeBy (screened rule t) (efficient (screened rule t))
 unfolding efficientOutcome efficientDecision
-by-efficient t = refl
+by-efficient rule t = refl
 
 pub guest-truthful-calls : GuestTruthfulCalls
 unfolding screened market
-guest-truthful-calls t t′ k k′ i l A =
+guest-truthful-calls rule t t′ k k′ i l A =
     rw (
-      ← guest-gain truthful by-truthful t k (bidAt t i) i l,
-      ← guest-gain truthful by-truthful t′ k′ (bidAt t i) i (omega (arith, ap length (A .same-amounts))),
-    ) (guest-truthful median t t′ i (is-accepted truthful by-truthful t k) (is-accepted truthful by-truthful t′ k′) l A)
+      ← guest-gain truthful by-truthful rule t k (bidAt t i) i l,
+      ← guest-gain truthful by-truthful rule t′ k′ (bidAt t i) i (omega (arith, ap length (A .same-amounts))),
+    ) (guest-truthful-under (ruleOf rule) t t′ i (is-accepted truthful by-truthful rule t k)
+    (is-accepted truthful by-truthful rule t′ k′) l A)
 
 pub station-truthful-calls : StationTruthfulCalls
-station-truthful-calls = station-truthful-calls-by truthful by-truthful (station-truthful median)
+station-truthful-calls = station-truthful-calls-by truthful by-truthful station-truthful-under
 
 pub efficient-station-truthful-calls : EfficientStationTruthfulCalls
-efficient-station-truthful-calls = station-truthful-calls-by efficient by-efficient (efficient-station-truthful median)
+efficient-station-truthful-calls = station-truthful-calls-by efficient by-efficient efficient-station-truthful-under
 
 pub call-limits : CallLimits
 unfolding decision
-call-limits t k =
-    limits truthful by-truthful t k (clearing-limits t (is-accepted truthful by-truthful t k))
+call-limits rule t k =
+    limits truthful by-truthful rule t k
+    (clearing-limits (ruleOf rule) t (is-accepted truthful by-truthful rule t k))
 
 pub efficient-call-limits : EfficientCallLimits
 unfolding efficientDecision
-efficient-call-limits t k =
-    limits efficient by-efficient t k (efficient-limits t (is-accepted efficient by-efficient t k))
+efficient-call-limits rule t k =
+    limits efficient by-efficient rule t k
+    (efficient-limits (ruleOf rule) t (is-accepted efficient by-efficient rule t k))

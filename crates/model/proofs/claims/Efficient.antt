@@ -18,6 +18,8 @@ use Rattle.model.specs.claims.Efficient.{nth, InOrder, CandidaciesInOrde
 use Rattle.model.specs.claims.Efficient.{AssignedAtFirstBay, UnassignedWithoutBay, CriticalIsTotalOfFirstFull}
 use Rattle.model.specs.claims.Efficient.{EfficientIsStable, StableDetermines, EfficientAssignsNoFewer}
 use Rattle.model.specs.claims.Efficient.{StableOutcome, EfficientStationTruthful, EfficientLimits}
+use Rattle.model.specs.claims.Efficient.{EfficientStationTruthfulUnder}
+use Rattle.model.specs.market.Rules.{position}
 use Rattle.model.proofs.Tests.{clash, both, and-no, and-false, not-not, is-lt, not-lt, eq-or-ne}
 use Rattle.model.proofs.Tests.{is-eq, not-eq, lt-or-le}
 use Rattle.model.proofs.market.Truthful.{Keys, accepted-keys}
@@ -76,7 +78,7 @@ module _ (S : Screened) (K : Keys (S .key) (S .guestCount)) where
   }
 
 pub candidacies-in-order : CandidaciesInOrder
-candidacies-in-order t a = in-order (screened t) (accepted-keys t a)
+candidacies-in-order rule t a = in-order (screened rule t) (accepted-keys rule t a)
 
 -- ---- the first place, one further on
 
@@ -261,29 +263,30 @@ module _ (S : Screened) where
 
 pub assigned-at-first-bay : AssignedAtFirstBay
 unfolding efficientDecision efficient findsBay bayAt nobody
-assigned-at-first-bay t i j = let S = screened t in (
+assigned-at-first-bay rule t i j = let S = screened rule t in (
   (λ e. first-bay S nobody (candidacies S) i j refl e),
   (λ (p, F, s). assigned-there S nobody (candidacies S) i p refl F ∙ ap suc s),
 )
 
 pub unassigned-without-bay : UnassignedWithoutBay
 unfolding efficientDecision efficient findsBay bayAt nobody
-unassigned-without-bay t i = (
-  (λ e. no-bay (screened t) nobody (candidacies (screened t)) i refl e),
-  (λ f. go f ((efficientDecision t) .assigned i) refl),
+unassigned-without-bay rule t i = (
+  (λ e. no-bay (screened rule t) nobody (candidacies (screened rule t)) i refl e),
+  (λ f. go f ((efficientDecision rule t) .assigned i) refl),
 )
   where
-    go : None (length (candidacies (screened t))) (λ p. nth (screened t) p .guest ≡ i) (findsBay (screened t))
-        → (s : ℕ) → (efficientDecision t) .assigned i ≡ s → (efficientDecision t) .assigned i ≡ 0
+    go : let S = screened rule t in
+        None (length (candidacies S)) (λ p. nth S p .guest ≡ i) (findsBay S)
+        → (s : ℕ) → (efficientDecision rule t) .assigned i ≡ s → (efficientDecision rule t) .assigned i ≡ 0
     go f zero e = e
-    go f (suc j) e = let (p, F, s) = assigned-at-first-bay t i j .0 e in
+    go f (suc j) e = let (p, F, s) = assigned-at-first-bay rule t i j .0 e in
         absurd (clash (F .passes) (f p (F .below) (F .of-kind)))
 
 pub critical-is-total-of-first-full : CriticalIsTotalOfFirstFull
 unfolding efficient findsFull findsBay fullAt nobody
-critical-is-total-of-first-full t a j = let S = screened t in record {
+critical-is-total-of-first-full rule t a j = let S = screened rule t in record {
   total-of-first = λ p F.
-      set-at-first S nobody (candidacies S) j p (candidacies-sorted S (accepted-keys t a)) refl F
+      set-at-first S nobody (candidacies S) j p (candidacies-sorted S (accepted-keys rule t a)) refl F
       ∙ ap (S .total (nth S p .guest)) (F .of-kind);
   zero-if-none = λ f. never-set S nobody (candidacies S) j refl f;
 }
@@ -292,26 +295,30 @@ critical-is-total-of-first-full t a j = let S = screened t in record {
 
 pub efficient-is-stable : EfficientIsStable
 unfolding efficientDecision screened screen market marketBy
-efficient-is-stable t a = (
-  efficient-stable (screened t) (accepted-keys t a),
-  efficient-critical (screened t) (accepted-keys t a),
+efficient-is-stable rule t a = (
+  efficient-stable (screened rule t) (accepted-keys rule t a),
+  efficient-critical (screened rule t) (accepted-keys rule t a),
 )
 
 pub stable-determines : StableDetermines
 unfolding efficientDecision screened screen market marketBy
-stable-determines t a b T = stable-is-efficient (screened t) (accepted-keys t a) b T
+stable-determines rule t a b T = stable-is-efficient (screened rule t) (accepted-keys rule t a) b T
 
 pub stable-outcome : StableOutcome
 unfolding efficientOutcome efficientDecision
-stable-outcome t a b T = outcome-of-stable (screened t) (accepted-keys t a) b T
+stable-outcome rule t a b T = outcome-of-stable (screened rule t) (accepted-keys rule t a) b T
 
 pub efficient-station-truthful : EfficientStationTruthful
 efficient-station-truthful = station-truthful-by efficient efficient-candidates
 
+pub efficient-station-truthful-under : EfficientStationTruthfulUnder
+efficient-station-truthful-under rule = efficient-station-truthful (position rule)
+
 pub efficient-limits : EfficientLimits
 unfolding efficientDecision
-efficient-limits t a = clears-within t (efficientDecision t) (efficient-fair (screened t) (accepted-keys t a))
+efficient-limits rule t a =
+    clears-within rule t (efficientDecision rule t) (efficient-fair (screened rule t) (accepted-keys rule t a))
 
 pub efficient-assigns-no-fewer : EfficientAssignsNoFewer
 unfolding efficientDecision decision screened screen market marketBy
-efficient-assigns-no-fewer t a i li z = assigns-no-fewer (screened t) (accepted-keys t a) i li z
+efficient-assigns-no-fewer rule t a i li z = assigns-no-fewer (screened rule t) (accepted-keys rule t a) i li z

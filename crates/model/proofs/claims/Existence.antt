@@ -5,7 +5,7 @@ use mathlib.Core.Path.{_≡_, refl, sym, ap, _∙_}
 use native.Mathlib.Omega.{arith}
 use lib.ListN.{length}
 use Rattle.model.specs.Verdicts.{Verdict, accepted, refused, updated}
-use Rattle.model.specs.book.PlainBook.{PlainBook, entered, answer, after}
+use Rattle.model.specs.book.PlainBook.{PlainBook, entered, enteredOf, answer, after}
 use Rattle.model.specs.book.Book.{account, soldOf, paidOf, Book, book, emptyBook, plain}
 use Rattle.model.specs.declared.account.StationAccount.{StationAccount}
 use Rattle.model.proofs.book.Records.{length-sold, length-paid}
@@ -53,7 +53,7 @@ even-plain B = length-sold (B .stations) ∙ sym (length-paid (B .stations))
 
 by-verdict :
     (b : PlainBook) (p : Posting) → length (b .sold) ≡ length (b .paid) → (v : Verdict)
-    → let c = updated v (entered (p .tables) (p .round) b) b in length (c .sold) ≡ length (c .paid)
+    → let c = updated v (enteredOf p b) b in length (c .sold) ≡ length (c .paid)
 unfolding updated entered
 by-verdict b p e (accepted _) = length-raised _ _ _ ∙ e ∙ sym (length-raised _ _ _)
 by-verdict b p e (refused r) = e

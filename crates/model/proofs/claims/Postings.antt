@@ -5,16 +5,16 @@ use mathlib.Core.Path.{_≡_, refl, sym, ap, ap₂, _∙_}
 use native.Mathlib.Omega.{arith}
 use lib.ListN.{getD, length, replicate, length-replicate, getD-replicate}
 use Rattle.model.specs.market.Mechanism.{charged, paid}
-use Rattle.model.specs.market.Outcome.{screened, decision}
+use Rattle.model.specs.market.Rules.{ruleOf}
 use Rattle.model.specs.Verdicts.{Verdict, accepted, refused, updated}
-use Rattle.model.specs.book.PlainBook.{PlainBook, entered, emptyPlain, answer, after, answers, final, onlyPosted}
-use Rattle.model.specs.book.PlainBook.{postedRounds, sumOver, sumAll}
+use Rattle.model.specs.book.PlainBook.{PlainBook, entered, enteredOf, emptyPlain, answer, after, answers, final}
+use Rattle.model.specs.book.PlainBook.{onlyPosted, postedRounds, sumOver, sumAll}
 use Rattle.model.specs.Limits.{maxAccount}
 use Rattle.model.specs.claims.Meaning.{AccountsWithin, PostingWithinLimits}
 use Rattle.model.proofs.market.Acceptance.{posting-accepted-iff-within-limits}
 use Rattle.model.proofs.claims.Truth.{balanced}
 use Rattle.model.proofs.book.Records.{length-sold, getD-sold, getD-paid}
-use Rattle.model.specs.book.Posting.{Posting, toGuest, toSold, toPaid, toHouse}
+use Rattle.model.specs.book.Posting.{Posting, screenedOf, decisionOf, toGuest, toSold, toPaid, toHouse}
 use Rattle.model.specs.book.Book.{Book, emptyBook, plain}
 use Rattle.model.specs.claims.Postings.{PostedInTurn, none, call, WellKept, BooksAreWellKept}
 use Rattle.model.proofs.book.Accounts.{length-raised, getD-raised, sum-all-raised, sum-all-zeros}
@@ -22,19 +22,19 @@ use Rattle.model.proofs.book.Book.{plain-empty}
 
 -- what a posted round's acceptance says
 abbrev Fits : PlainBook → Posting → Type 0
-Fits B p = PostingWithinLimits (p .tables) (p .round) B
+Fits B p = PostingWithinLimits (p .rule) (p .tables) (p .round) B
 
 fits : (B : PlainBook) (p : Posting) → answer B p ≡ accepted tt → Fits B p
 unfolding answer
-fits B p e = posting-accepted-iff-within-limits (p .tables) (p .round) B .0 e
+fits B p e = posting-accepted-iff-within-limits (p .rule) (p .tables) (p .round) B .0 e
 
 -- a number of the book that a posted round raises by `more` is, after a list, what it was and the sum over the posted
 -- rounds; P is what the
 -- number needs of the book, and a posted round keeps it
 module _ (P : PlainBook → Type 0) (value : PlainBook → ℕ) (more : Posting → ℕ)
-    (keeps : (B : PlainBook) (p : Posting) → Fits B p → P B → P (entered (p .tables) (p .round) B))
+    (keeps : (B : PlainBook) (p : Posting) → Fits B p → P B → P (enteredOf p B))
     (raises : (B : PlainBook) (p : Posting) → Fits B p → P B
-    → value (entered (p .tables) (p .round) B) ≡ value B + more p) where
+    → value (enteredOf p B) ≡ value B + more p) where
   step : (ps : List Posting) (B : PlainBook) (p : Posting) → P B
       → ((C : PlainBook) → P C
       → P (final C ps) × (value (final C ps) ≡ value C + sumOver more (postedRounds ps (answers C ps))))
@@ -45,7 +45,7 @@ module _ (P : PlainBook → Type 0) (value : PlainBook → ℕ) (more : Posting 
   unfolding after updated onlyPosted sumOver
   step ps B p h ih (accepted _) e =
       let f = fits B p e in
-      let i = ih (entered (p .tables) (p .round) B) (keeps B p f h) in rw e (i .0, omega (arith, i .1, raises B p f h))
+      let i = ih (enteredOf p B) (keeps B p f h) in rw e (i .0, omega (arith, i .1, raises B p f h))
   step ps B p h ih (refused r) e = rw e (ih B h)
 
   sums :
@@ -82,7 +82,7 @@ sound-empty g s = record {
     zero-most n k l = omega (arith, getD-replicate {A = ℕ} n k 0 0 (rw length-replicate at l))
 
 sound-entered :
-    (g s : ℕ) (B : PlainBook) (p : Posting) → Fits B p → Sound g s B → Sound g s (entered (p .tables) (p .round) B)
+    (g s : ℕ) (B : PlainBook) (p : Posting) → Fits B p → Sound g s B → Sound g s (enteredOf p B)
 unfolding entered
 sound-entered g s B p f h = record {
   guests = length-raised _ _ _ ∙ h .guests;
@@ -91,9 +91,9 @@ sound-entered g s B p f h = record {
   level = omega (
     arith,
     h .level,
-    balanced (p .tables),
-    sum-all-raised _ (charged (screened (p .tables)) (decision (p .tables))) (B .guests) (f .guests-least),
-    sum-all-raised (length (p .tables .asks)) (paid (screened (p .tables)) (decision (p .tables))) (B .paid)
+    balanced (ruleOf (p .rule)) (p .tables),
+    sum-all-raised _ (charged (screenedOf p) (decisionOf p)) (B .guests) (f .guests-least),
+    sum-all-raised (length (p .tables .asks)) (paid (screenedOf p) (decisionOf p)) (B .paid)
         (omega (arith, f .stations-least, h .sold, h .paid)),
   );
   within = f .within-after;
@@ -108,7 +108,7 @@ module _ (g s : ℕ) (ps : List Posting) where
   run :
       (value : PlainBook → ℕ) (more : Posting → ℕ) → value E ≡ 0
       → ((B : PlainBook) (p : Posting) → Fits B p → Sound g s B
-      → value (entered (p .tables) (p .round) B) ≡ value B + more p)
+      → value (enteredOf p B) ≡ value B + more p)
       → value (final E ps) ≡ sumOver more (postedRounds ps (answers E ps))
   run value more z raises =
       omega (arith, z, sums (Sound g s) value more (sound-entered g s) raises ps E (sound-empty g s) .1)

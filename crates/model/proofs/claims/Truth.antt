@@ -10,14 +10,16 @@ use lib.ListN.{getD, length, List·getD-eq-default}
 use lib.Signed.{leZ}
 use borrow.Author.Tests.{ltb-true, ltb-false}
 use Rattle.model.specs.Counting.{sum}
-use Rattle.model.specs.market.Market.{Tables, bidAt, Market, marketBy, median, market, Screened, screen}
+use Rattle.model.specs.market.Market.{Tables, bidAt, Market, marketBy, market, Screened, screen}
 use Rattle.model.specs.market.Mechanism.{Decision, at, charged, obtained, sold, paid, margin, truthful}
 use Rattle.model.specs.market.Outcome.{screened, decision}
+use Rattle.model.specs.market.Rules.{position}
+use Rattle.model.specs.declared.rule.Rule.{Rule}
 use Rattle.model.specs.market.Faults.{Accepted}
 use Rattle.model.specs.market.Gains.{guestGain, stationGain}
 use Rattle.model.specs.claims.Truth.{AlikeButForGuest, AlikeButForStation, GuestTruthful, StationTruthful}
 use Rattle.model.specs.claims.Truth.{StationTruthfulBy, SignedIffUnsigned, choice, MenuOf, GuestMenu}
-use Rattle.model.specs.claims.Truth.{ClearsWithin, ClearingLimits}
+use Rattle.model.specs.claims.Truth.{ClearsWithin, ClearingLimits, GuestTruthfulUnder, StationTruthfulUnder}
 use Rattle.model.proofs.Tests.{lt-or-le}
 use Rattle.model.proofs.market.Acceptance.{accepted-iff-within-limits}
 use Rattle.model.proofs.market.Decisions.{Candidates, Fair, charged-within-bid, payment-covers-ask, balance}
@@ -130,18 +132,23 @@ pub guest-truthful : GuestTruthful
 unfolding guestGain
 guest-truthful rule t t′ i a a′ li A = signed-iff-unsigned _ _ _ _ .1 (gains-no-more rule t i a li t′ A)
 
-pub menu-of : (t : Tables) (i : ℕ) → Accepted t → i < length (t .amounts) → MenuOf t i (menu (market t) i)
+pub guest-truthful-under : GuestTruthfulUnder
+guest-truthful-under rule = guest-truthful (position rule)
+
+pub menu-of :
+    (rule : Rule) (t : Tables) (i : ℕ) → Accepted t → i < length (t .amounts)
+    → MenuOf rule t i (menu (market rule t) i)
 unfolding screened decision market menu
-menu-of t i a li = record {
+menu-of rule t i a li = record {
   opens-offer = λ j lj. refl;
-  priced-below = menu-below (market t) i;
-  priced-near = menu-near (market t) i;
-  assigns = λ t′ a′ A. by-menu median t i a li t′ A .0;
-  charges = λ t′ a′ A. by-menu median t i a li t′ A .1;
+  priced-below = menu-below (market rule t) i;
+  priced-near = menu-near (market rule t) i;
+  assigns = λ t′ a′ A. by-menu (position rule) t i a li t′ A .0;
+  charges = λ t′ a′ A. by-menu (position rule) t i a li t′ A .1;
 }
 
 pub guest-menu : GuestMenu
-guest-menu t i a li = (menu (market t) i, menu-of t i a li)
+guest-menu rule t i a li = (menu (market rule t) i, menu-of rule t i a li)
 
 -- ---- stations
 
@@ -191,37 +198,41 @@ module _ (mechanism : Screened → Decision) (C : (S : Screened) → Candidates 
 pub station-truthful : StationTruthful
 station-truthful = station-truthful-by truthful truthful-candidates
 
+pub station-truthful-under : StationTruthfulUnder
+station-truthful-under rule = station-truthful (position rule)
+
 -- ---- the limits of every clearing
 
 -- the charges are the payments and the margin
 pub balanced-by :
-    (t : Tables) (D : Decision) → Candidates (screened t) D
-    → sum (length (t .amounts)) (charged (screened t) D)
-    ≡ sum (length (t .asks)) (paid (screened t) D) + margin (screened t) D
+    (rule : Rule) (t : Tables) (D : Decision) → Candidates (screened rule t) D
+    → sum (length (t .amounts)) (charged (screened rule t) D)
+    ≡ sum (length (t .asks)) (paid (screened rule t) D) + margin (screened rule t) D
 unfolding screened market marketBy screen
-balanced-by t D C = balance (screened t) D C
+balanced-by rule t D C = balance (screened rule t) D C
 
 -- a fair decision keeps within the limits
-pub clears-within : (t : Tables) (D : Decision) → Fair (screened t) D → ClearsWithin t D
+pub clears-within : (rule : Rule) (t : Tables) (D : Decision) → Fair (screened rule t) D → ClearsWithin rule t D
 unfolding screened market marketBy screen charged sold at
-clears-within t D F = record {
-  charge-within-bid = charged-within-bid (market t) D F;
+clears-within rule t D F = record {
+  charge-within-bid = charged-within-bid (market rule t) D F;
   unassigned-free = λ i e. rw e;
-  payment-covers-ask = payment-covers-ask (market t) D (F .candidates);
+  payment-covers-ask = payment-covers-ask (market rule t) D (F .candidates);
   sold-as-assigned = λ j. refl;
   within-bays = F .fits;
-  balanced = balanced-by t D (F .candidates);
-  covered = omega (arith, balanced-by t D (F .candidates));
+  balanced = balanced-by rule t D (F .candidates);
+  covered = omega (arith, balanced-by rule t D (F .candidates));
 }
 
 -- accepted or not
 pub balanced :
-    (t : Tables)
-    → sum (length (t .amounts)) (charged (screened t) (decision t))
-    ≡ sum (length (t .asks)) (paid (screened t) (decision t)) + margin (screened t) (decision t)
+    (rule : Rule) (t : Tables)
+    → sum (length (t .amounts)) (charged (screened rule t) (decision rule t))
+    ≡ sum (length (t .asks)) (paid (screened rule t) (decision rule t)) + margin (screened rule t) (decision rule t)
 unfolding decision
-balanced t = balanced-by t (decision t) (truthful-candidates (screened t))
+balanced rule t = balanced-by rule t (decision rule t) (truthful-candidates (screened rule t))
 
 pub clearing-limits : ClearingLimits
 unfolding decision
-clearing-limits t a = clears-within t (decision t) (truthful-fair (screened t) (accepted-keys t a))
+clearing-limits rule t a =
+    clears-within rule t (decision rule t) (truthful-fair (screened rule t) (accepted-keys rule t a))

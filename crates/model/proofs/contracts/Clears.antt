@@ -14,11 +14,11 @@ use Rattle.model.specs.declared.money.UnitPrice.{UnitPrice}
 use Rattle.model.specs.declared.money.Mills.{Mills}
 use Rattle.model.specs.market.Market.{Tables}
 use Rattle.model.specs.market.Outcome.{Results, Outcome, results}
-use Rattle.model.specs.market.Faults.{listLengths, marketFaults, verdict, clearingFaults}
+use Rattle.model.specs.market.Faults.{listLengths, marketFaults, verdict, tableFaults}
 use Rattle.model.specs.claims.Meaning.{RightLengths}
 use Rattle.model.proofs.Tests.{neither, is-eq}
 use Rattle.model.proofs.Loops.{zeros-long}
-use Rattle.model.specs.contracts.Clears.{ClearsBy}
+use Rattle.model.specs.contracts.Clears.{ClearsUnder}
 use Rattle.model.specs.declared.answers.Clearing.{Clearing}
 use Rattle.model.specs.declared.answers.Clearing.the-variants.{Cleared, Refused}
 
@@ -42,8 +42,8 @@ lengths t n m = record {
   paid-long = sym (zeros-long maxStations _ m);
 }
 
-same-verdict : (t : Tables) (r : Results) → RightLengths t r → firstFault (clearingFaults t r) ≡ verdict t
-unfolding clearingFaults verdict marketFaults listLengths
+same-verdict : (t : Tables) (r : Results) → RightLengths t r → firstFault (tableFaults t r) ≡ verdict t
+unfolding tableFaults verdict marketFaults listLengths
 same-verdict t r l = without-third _ _ _ _ _
     (neither (neither (neither (same _ _ (l .stations-long)) (same _ _ (l .charges-long))) (same _ _ (l .sold-long)))
     (same _ _ (l .paid-long)))
@@ -59,7 +59,7 @@ pub record ClearedAs (made : Tables → Outcome) (t : Tables) (k m : ℕ) (exit 
   pub results-are : exit ≡ (made t) .results
 
 module _ {made : Tables → Outcome} (t : Tables) (entry exit : Results) (answer : Clearing)
-    (c : ClearsBy made t entry answer exit) (l : RightLengths t entry) where
+    (c : ClearsUnder made t entry answer exit) (l : RightLengths t entry) where
   said : answerOfClearing answer ≡ giving (verdict t) ((made t) .cut, (made t) .margin)
   said = rw (← same-verdict t entry l) (c .answered)
 

@@ -8,17 +8,18 @@ use Rattle.model.specs.declared.money.Mills.{Mills}
 use Rattle.model.proofs.Verdicts.{gave-accepted, gave-refused, number-accepted, number-refused, updated-accepted}
 use Rattle.model.proofs.Verdicts.{updated-refused}
 use Rattle.model.specs.market.Market.{Tables}
+use Rattle.model.specs.declared.rule.Rule.{Rule}
 use Rattle.model.specs.market.Outcome.{Results, Outcome}
 use Rattle.model.specs.contracts.Clears.{ClearsBy}
 use Rattle.model.specs.declared.answers.Clearing.{Clearing}
 use Rattle.model.specs.declared.answers.Clearing.the-variants as clearing
 use Rattle.model.specs.contracts.ClearsOut.{ClearsOutBy}
 
-module _ {made : Tables → Outcome} (t : Tables) (entry exit : Results) (answer : Clearing)
-    (c : ClearsBy made t entry answer exit) (cut margin : ℕ) where
+module _ {made : Rule → Tables → Outcome} (rule : ℕ) (t : Tables) (entry exit : Results) (answer : Clearing)
+    (c : ClearsBy made rule t entry answer exit) (cut margin : ℕ) where
   pub clears-refused :
       (x : Refusal) (r : ℕ) → answer ≡ clearing.Refused x → r ≡ number x
-      → ClearsOutBy made t entry cut margin r exit cut margin
+      → ClearsOutBy made rule t entry cut margin r exit cut margin
   unfolding answerOfClearing
   clears-refused x r q p =
       let v = gave-refused _ _ (number x) (sym (c .answered) ∙ ap answerOfClearing q) in
@@ -31,7 +32,7 @@ module _ {made : Tables → Outcome} (t : Tables) (entry exit : Results) (answer
 
   pub clears-market :
       (a : UnitPrice) (b : Mills) → answer ≡ clearing.Cleared a b
-      → ClearsOutBy made t entry cut margin 0 exit (a .0) (b .0)
+      → ClearsOutBy made rule t entry cut margin 0 exit (a .0) (b .0)
   unfolding answerOfClearing
   clears-market a b q =
       let (v, e) = gave-accepted _ _ (a .0, b .0) (sym (c .answered) ∙ ap answerOfClearing q) in

@@ -1,9 +1,9 @@
 -- A market is accepted exactly within the limits of document 01's 'A market'.
 use Prim.Native.Nat.{ℕ, _*_, _≤_, _<_}
-use mathlib.Core.Bool.{false, not}
+use mathlib.Core.Bool.{Bool, true, false, not, cond}
 use mathlib.Core.List.{List}
-use mathlib.Core.Logic.{⊎-elim}
-use mathlib.Core.Path.{_≡_, sym, ap}
+use mathlib.Core.Logic.{inl, inr, ⊎-elim}
+use mathlib.Core.Path.{_≡_, refl, sym, ap}
 use native.Mathlib.Omega.{arith}
 use native.Mathlib.Nat.{mul-le-mul-right, eq-or-lt-of-le}
 use lib.ListN.{getD, length}
@@ -13,14 +13,17 @@ use Rattle.model.specs.Counting.{_<?_, _=?_, _or_, any}
 use Rattle.model.specs.Verdicts.{accepted, firstFault}
 use Rattle.model.specs.market.Market.{Tables}
 use Rattle.model.specs.market.Faults.{outside, repeats, counts, lengths, listLengths, values, marketFaults}
-use Rattle.model.specs.market.Faults.{verdict, Accepted, clearingFaults}
+use Rattle.model.specs.market.Faults.{unknownRule, verdict, Accepted, tableFaults, clearingFaults}
+use Rattle.model.specs.market.Rules.{named, isUnknown, ruleIn, ruleOf}
+use Rattle.model.specs.declared.rule.Rule.the-variants.{Median, TwoThirds}
+use Rattle.model.specs.declared.rule.NamedRule.the-variants.{Known, Unknown}
 use Rattle.model.specs.book.PlainBook.{PlainBook, entered, overLimit, bookSize, outOfTurn, postingFaults}
 use Rattle.model.specs.market.Outcome.{Results}
 use Rattle.model.specs.claims.Meaning.{Differ, WithinLimits, AcceptedIffWithinLimits, CallWithinLimits}
 use Rattle.model.specs.claims.Meaning.{CallAcceptedIffWithinLimits, AccountsWithin, PostingWithinLimits}
-use Rattle.model.specs.claims.Meaning.{PostingAcceptedIffWithinLimits}
+use Rattle.model.specs.claims.Meaning.{PostingAcceptedIffWithinLimits, NamesRule, RuleNumbers, RightLengths}
 use Rattle.model.proofs.Tests.{or-no, neither, lt-no, not-lt, le-no, not-le, eq-yes, eq-no, is-eq, not-eq}
-use Rattle.model.proofs.Tests.{lt-or-le}
+use Rattle.model.proofs.Tests.{lt-or-le, clash}
 use Rattle.model.proofs.Counting.{some-no, none-some, any-no, none-any}
 use Rattle.model.proofs.Verdicts.{fault-none, no-fault, no-faults, fault-second, fault-free}
 
@@ -125,38 +128,68 @@ accept t w =
 pub accepted-iff-within-limits : AcceptedIffWithinLimits
 accepted-iff-within-limits t = (within t, accept t)
 
-call-within : (t : Tables) (r : Results) → firstFault (clearingFaults t r) ≡ accepted tt → CallWithinLimits t r
-unfolding verdict marketFaults clearingFaults counts lengths listLengths
-call-within t r e =
+-- a number that names a rule, and one that names none
+known : (k : ℕ) → isUnknown (named k) ≡ false → NamesRule k
+unfolding named isUnknown
+known k = go (k =? 1) refl (k =? 2) refl
+  where
+    go : (x : Bool) → (k =? 1) ≡ x → (y : Bool) → (k =? 2) ≡ y
+        → isUnknown (cond x (Known Median) (cond y (Known TwoThirds) Unknown)) ≡ false → NamesRule k
+    go true e y f h = inl (eq-yes _ _ e)
+    go false e true f h = inr (eq-yes _ _ f)
+    go false e false f h = absurd (clash refl h)
+
+is-known : (k : ℕ) → NamesRule k → isUnknown (named k) ≡ false
+unfolding named isUnknown _=?_
+is-known k n = ⊎-elim (λ (e : k ≡ 1). rw e refl) (λ (e : k ≡ 2). rw e refl) n
+
+pub rule-numbers : RuleNumbers
+unfolding named ruleIn _=?_
+rule-numbers = record { rule-1 = refl; rule-2 = refl }
+
+pub tables-within :
+    (t : Tables) (r : Results) → firstFault (tableFaults t r) ≡ accepted tt → Accepted t × RightLengths t r
+unfolding verdict marketFaults tableFaults counts lengths listLengths
+tables-within t r e =
     let (c, e1) = no-fault _ _ _ e in
     let (l, e2) = no-fault _ _ _ e1 in
     let (k, e3) = no-fault _ _ _ e2 in
     let (k012, paid) = or-no _ _ k in
     let (k01, sold) = or-no _ _ k012 in
-    let (stations, charges) = or-no _ _ k01 in
-    record {
-      market-accepted = fault-free _ _ c (fault-free _ _ l e3);
-      lists-fit = record {
+    let (stations, charges) = or-no _ _ k01 in (
+      fault-free _ _ c (fault-free _ _ l e3),
+      record {
         stations-long = equal _ _ stations;
         charges-long = equal _ _ charges;
         sold-long = equal _ _ sold;
         paid-long = equal _ _ paid;
-      };
-    }
+      },
+    )
 
-call-accept : (t : Tables) (r : Results) → CallWithinLimits t r → firstFault (clearingFaults t r) ≡ accepted tt
-unfolding verdict marketFaults clearingFaults counts lengths listLengths
-call-accept t r w =
+call-within :
+    (rule : ℕ) (t : Tables) (r : Results) → firstFault (clearingFaults rule t r) ≡ accepted tt
+    → CallWithinLimits rule t r
+unfolding clearingFaults unknownRule
+call-within rule t r e =
+    let (n, e1) = no-fault _ _ _ e in
+    let (market, lists) = tables-within t r e1 in
+    record { rule-known = known rule n; market-accepted = market; lists-fit = lists }
+
+call-accept :
+    (rule : ℕ) (t : Tables) (r : Results) → CallWithinLimits rule t r
+    → firstFault (clearingFaults rule t r) ≡ accepted tt
+unfolding verdict marketFaults clearingFaults tableFaults unknownRule counts lengths listLengths
+call-accept rule t r w =
     let (c, e1) = no-fault _ _ _ (w .market-accepted) in
     let (l, e2) = no-fault _ _ _ e1 in
-    fault-free _ _ c (fault-free _ _ l (fault-free _ _
+    fault-free _ _ (is-known rule (w .rule-known)) (fault-free _ _ c (fault-free _ _ l (fault-free _ _
     (neither (neither
     (neither (not-unequal _ _ (w .lists-fit .stations-long)) (not-unequal _ _ (w .lists-fit .charges-long)))
     (not-unequal _ _ (w .lists-fit .sold-long))) (not-unequal _ _ (w .lists-fit .paid-long)))
-    e2))
+    e2)))
 
 pub call-accepted-iff-within-limits : CallAcceptedIffWithinLimits
-call-accepted-iff-within-limits t r = (call-within t r, call-accept t r)
+call-accepted-iff-within-limits rule t r = (call-within rule t r, call-accept rule t r)
 
 pub under-limit : (B : PlainBook) → overLimit B ≡ false → AccountsWithin B
 unfolding overLimit
@@ -180,11 +213,12 @@ not-over B w =
     (not-lt _ _ (w .house-most))
 
 posting-within :
-    (t : Tables) (round : ℕ) (B : PlainBook) → firstFault (postingFaults t round B) ≡ accepted tt
-    → PostingWithinLimits t round B
-unfolding verdict postingFaults bookSize outOfTurn
-posting-within t round B e =
-    let (m, e1) = no-faults (marketFaults t) _ e in
+    (rule : ℕ) (t : Tables) (round : ℕ) (B : PlainBook) → firstFault (postingFaults rule t round B) ≡ accepted tt
+    → PostingWithinLimits rule t round B
+unfolding verdict postingFaults unknownRule bookSize outOfTurn
+posting-within rule t round B e =
+    let (n, e0) = no-fault _ _ _ e in
+    let (m, e1) = no-faults (marketFaults t) _ e0 in
     let (size, e2) = no-fault _ _ _ e1 in
     let (turn, e3) = no-fault _ _ _ e2 in
     let (room, e4) = no-fault _ _ _ e3 in
@@ -192,6 +226,7 @@ posting-within t round B e =
     let (left, next) = or-no _ _ turn in
     let (before, after) = or-no _ _ room in
     record {
+      rule-known = known rule n;
       market-accepted = m;
       guests-least = inside _ _ _ g .0;
       guests-most = inside _ _ _ g .1;
@@ -200,20 +235,20 @@ posting-within t round B e =
       rounds-left = le-no _ _ left;
       next-round = equal _ _ next;
       within-before = under-limit B before;
-      within-after = under-limit (entered t round B) after;
+      within-after = under-limit (entered (ruleOf rule) t round B) after;
     }
 
 posting-accept :
-    (t : Tables) (round : ℕ) (B : PlainBook) → PostingWithinLimits t round B
-    → firstFault (postingFaults t round B) ≡ accepted tt
-unfolding verdict postingFaults bookSize outOfTurn
-posting-accept t round B w =
-    rw (fault-second (marketFaults t) _ (w .market-accepted))
+    (rule : ℕ) (t : Tables) (round : ℕ) (B : PlainBook) → PostingWithinLimits rule t round B
+    → firstFault (postingFaults rule t round B) ≡ accepted tt
+unfolding verdict postingFaults unknownRule bookSize outOfTurn
+posting-accept rule t round B w =
+    fault-free _ _ (is-known rule (w .rule-known)) (rw (fault-second (marketFaults t) _ (w .market-accepted))
     (fault-free _ _ (neither (not-outside _ _ _ (w .guests-least) (w .guests-most))
     (not-outside _ _ _ (w .stations-least) (w .stations-most)))
     (fault-free _ _ (neither (not-le _ _ (w .rounds-left)) (not-unequal _ _ (w .next-round)))
     (fault-free _ _ (neither (not-over B (w .within-before)) (not-over _ (w .within-after)))
-    fault-none)))
+    fault-none))))
 
 pub posting-accepted-iff-within-limits : PostingAcceptedIffWithinLimits
-posting-accepted-iff-within-limits t round B = (posting-within t round B, posting-accept t round B)
+posting-accepted-iff-within-limits rule t round B = (posting-within rule t round B, posting-accept rule t round B)

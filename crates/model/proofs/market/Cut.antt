@@ -8,9 +8,11 @@ use native.Mathlib.Nat.{le-refl, le-trans, le-antisymm, le-of-suc-le-suc, not-su
 use native.Mathlib.Omega.{arith}
 use lib.ListN.{getD, length}
 use Rattle.model.specs.Counting.{_<?_, _≤?_, _=?_, only, sum, count}
-use Rattle.model.specs.market.Market.{Market, marketBy, median, cut}
+use Rattle.model.specs.market.Market.{Tables, Market, marketBy, market, cut, opens}
+use Rattle.model.specs.market.Rules.{median, twoThirds, position}
+use Rattle.model.specs.declared.rule.Rule.the-variants.{Median, TwoThirds}
 use Rattle.model.specs.claims.Meaning.{Rising, Rearranged, RisingOrderExists, CutIsAskAtPosition}
-use Rattle.model.specs.claims.Meaning.{MedianIsLeastPosition}
+use Rattle.model.specs.claims.Meaning.{PositionsAreLeast, PositionsLieWithin, RuleTwoOpensNoFewer}
 use Rattle.model.proofs.Tests.{decide, clash, lt-yes, is-lt, not-lt, le-yes, le-no, eq-yes, is-eq, not-eq}
 use Rattle.model.proofs.Tests.{lt-or-le, only-le, le-only, only-yes, only-no}
 use Rattle.model.proofs.Counting.{sum-cong, sum-swap, sum-single, sum-zero, sum-front, count-mono, count-none}
@@ -200,7 +202,26 @@ unfolding marketBy
 cut-is-ask-at-position rule t s rs rl low high = at-position (marketBy rule t) (t .asks) s rs rl refl refl
     (rule (length (t .asks)) - 1) (omega arith) (omega arith)
 
-pub median-is-least-position : MedianIsLeastPosition
-unfolding median
-median-is-least-position m h =
-    record { reaches = omega arith; least = λ p q. omega arith; from-one = omega arith; to-m = omega arith }
+pub positions-are-least : PositionsAreLeast
+unfolding median twoThirds
+positions-are-least m = (
+  record { reaches = omega arith; least = λ p q. omega arith },
+  record { passes = omega arith; least = λ p q. omega arith },
+)
+
+pub positions-lie-within : PositionsLieWithin
+unfolding position median twoThirds
+positions-lie-within Median m h = (omega arith, omega arith)
+positions-lie-within TwoThirds m h = (omega arith, omega arith)
+
+-- a later position lowers no cut
+cut-rises : (p q : ℕ → ℕ) (t : Tables) → p (length (t .asks)) ≤ q (length (t .asks))
+    → cut (marketBy p t) ≤ cut (marketBy q t)
+unfolding cut marketBy
+cut-rises p q t h = greatest-le (length (t .asks)) _ _ (λ j l. only-le _ _ _ (λ e.
+    le-cut (marketBy q t) j l (let few = lt-yes _ _ e in omega (arith, few))))
+
+pub rule-two-opens-no-fewer : RuleTwoOpensNoFewer
+unfolding opens market marketBy position median twoThirds
+rule-two-opens-no-fewer t j e = let own = lt-yes _ _ e in
+    is-lt _ _ (omega (arith, own, cut-rises median twoThirds t (omega arith)))

@@ -10,6 +10,7 @@ use Rattle.model.specs.market.Market.{Tables, bidAt, Market, marketBy, m
 use Rattle.model.specs.market.Market.{screen, queue, provisional, critical}
 use Rattle.model.specs.market.Mechanism.{at, charge, charged, obtained, served, paid, surplus, truthful}
 use Rattle.model.specs.market.Outcome.{screened, decision}
+use Rattle.model.specs.declared.rule.Rule.{Rule}
 use Rattle.model.specs.market.Faults.{Accepted}
 use Rattle.model.specs.market.Gains.{guestGain, stationGain}
 use Rattle.model.specs.claims.Meaning.{ZeroBidIsNoCandidate, GainlessWithoutTrade, RanksCountUp}
@@ -35,9 +36,10 @@ tickets-single t a k i lk li e =
     let long : length (t .tickets) ≡ length (t .amounts) = w .shape .tickets-length in
     same-place (t .tickets) (w .tickets-differ) k i (omega arith) (omega arith) e
 
-pub accepted-keys : (t : Tables) → Accepted t → Keys ((screened t) .key) ((screened t) .guestCount)
+pub accepted-keys :
+    (rule : Rule) (t : Tables) → Accepted t → Keys ((screened rule t) .key) ((screened rule t) .guestCount)
 unfolding screened market marketBy screen
-accepted-keys t a = tickets-single t a
+accepted-keys rule t a = tickets-single t a
 
 pub assigned-to-best : (S : Screened) (i : ℕ) → AssignedToBest S (truthful S) i
 unfolding truthful
@@ -91,12 +93,12 @@ charge-held M K i j li h =
 
 pub zero-bid-is-no-candidate : ZeroBidIsNoCandidate
 unfolding screened market marketBy opens
-zero-bid-is-no-candidate t i j e = ⊎-elim
-    (λ (c : (screened t) .candidate i j ≡ true).
-    let open-ask : getD (t .asks) j 0 < cut (market t) = lt-yes _ _ (candidate-open (market t) i j c) in
-    absurd (omega (arith, candidate-bid (market t) i j c)))
+zero-bid-is-no-candidate rule t i j e = ⊎-elim
+    (λ (c : (screened rule t) .candidate i j ≡ true).
+    let open-ask : getD (t .asks) j 0 < cut (market rule t) = lt-yes _ _ (candidate-open (market rule t) i j c) in
+    absurd (omega (arith, candidate-bid (market rule t) i j c)))
     (λ c. c)
-    (decide ((screened t) .candidate i j))
+    (decide ((screened rule t) .candidate i j))
 
 pub gainless-without-trade : GainlessWithoutTrade
 unfolding guestGain stationGain obtained charged at paid
@@ -108,36 +110,37 @@ gainless-without-trade S D = record {
 
 pub ranks-count-up : RanksCountUp
 unfolding screened screen market marketBy queue
-ranks-count-up t a j = ranks-in-order (queue (screened t) j) (tickets-single t a)
+ranks-count-up rule t a j = ranks-in-order (queue (screened rule t) j) (tickets-single t a)
 
 -- in an accepted market a candidate's total is not 0
 total-positive :
-    (t : Tables) → Accepted t → (i j : ℕ) → i < length (t .amounts) → (screened t) .candidate i j ≡ true
-    → 0 < (screened t) .total i j
+    (rule : Rule) (t : Tables) → Accepted t → (i j : ℕ) → i < length (t .amounts)
+    → (screened rule t) .candidate i j ≡ true
+    → 0 < (screened rule t) .total i j
 unfolding screened screen market marketBy opens
-total-positive t a i j li c =
-    let open-ask : getD (t .asks) j 0 < cut (market t) = lt-yes _ _ (candidate-open (market t) i j c) in
-    let bid : 1 ≤ bidAt t i j = omega (arith, candidate-bid (market t) i j c) in
+total-positive rule t a i j li c =
+    let open-ask : getD (t .asks) j 0 < cut (market rule t) = lt-yes _ _ (candidate-open (market rule t) i j c) in
+    let bid : 1 ≤ bidAt t i j = omega (arith, candidate-bid (market rule t) i j c) in
     omega (arith, accepted-iff-within-limits t .0 a .amount-least i li, mul-le-mul-right (getD (t .amounts) i 0) bid)
 
 pub critical-is-total-of-first-out : CriticalIsTotalOfFirstOut
 unfolding screened screen market marketBy queue
-critical-is-total-of-first-out t a j =
-    critical-is-first-out (queue (screened t) j) (tickets-single t a) (λ i li c. total-positive t a i j li c)
+critical-is-total-of-first-out rule t a j =
+    critical-is-first-out (queue (screened rule t) j) (tickets-single t a) (λ i li c. total-positive rule t a i j li c)
 
 pub equal-totals-go-by-ticket : EqualTotalsGoByTicket
 unfolding screened screen market marketBy queue
-equal-totals-go-by-ticket t j k i e = equal-by-key (queue (screened t) j) k i e
+equal-totals-go-by-ticket rule t j k i e = equal-by-key (queue (screened rule t) j) k i e
 
 pub ticket-of-first-out-bounds-ties : TicketOfFirstOutBoundsTies
 unfolding screened screen market marketBy queue
-ticket-of-first-out-bounds-ties t a j k i lk li o c e =
-    first-out-bounds-ties (queue (screened t) j) (tickets-single t a) k i lk li o c e
+ticket-of-first-out-bounds-ties rule t a j k i lk li o c e =
+    first-out-bounds-ties (queue (screened rule t) j) (tickets-single t a) k i lk li o c e
 
 pub assigned-at-best-place : AssignedAtBestPlace
 unfolding decision
-assigned-at-best-place t i = assigned-to-best (screened t) i
+assigned-at-best-place rule t i = assigned-to-best (screened rule t) i
 
 pub no-loss : NoLoss
 unfolding surplus charge screened decision screen market marketBy truthful
-no-loss t a i j li h = omega (arith, charge-held (market t) (tickets-single t a) i j li h)
+no-loss rule t a i j li h = omega (arith, charge-held (market rule t) (tickets-single t a) i j li h)

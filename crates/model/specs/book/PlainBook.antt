@@ -10,7 +10,9 @@ use Rattle.model.specs.Verdicts.{Row, _gives_, Verdict, accepted, refuse
 use Rattle.model.specs.market.Market.{Tables}
 use Rattle.model.specs.market.Mechanism.{charged, sold, paid, margin}
 use Rattle.model.specs.market.Outcome.{screened, decision}
-use Rattle.model.specs.market.Faults.{outside, marketFaults}
+use Rattle.model.specs.market.Faults.{outside, unknownRule, marketFaults}
+use Rattle.model.specs.market.Rules.{ruleOf}
+use Rattle.model.specs.declared.rule.Rule.{Rule}
 use Rattle.model.specs.book.Posting.{Posting}
 
 -- document 01's book: a number for each guest account, kWh sold and money paid for each station account (two lists of
@@ -26,13 +28,13 @@ pub record PlainBook : Type 0 where
 unfoldable pub raised : ℕ → (ℕ → ℕ) → List ℕ → List ℕ
 raised n f xs = list (length xs) (λ k. getD xs k 0 + only (k <? n) (f k))
 
--- the book with a cleared market entered as a round
-unfoldable pub entered : Tables → (round : ℕ) → PlainBook → PlainBook
-entered t round B = record {
-  guests = raised (length (t .amounts)) (charged (screened t) (decision t)) (B .guests);
-  sold = raised (length (t .asks)) (sold (screened t) (decision t)) (B .sold);
-  paid = raised (length (t .asks)) (paid (screened t) (decision t)) (B .paid);
-  house = B .house + margin (screened t) (decision t);
+-- the book with a market, cleared by a rule, entered as a round
+unfoldable pub entered : Rule → Tables → (round : ℕ) → PlainBook → PlainBook
+entered rule t round B = record {
+  guests = raised (length (t .amounts)) (charged (screened rule t) (decision rule t)) (B .guests);
+  sold = raised (length (t .asks)) (sold (screened rule t) (decision rule t)) (B .sold);
+  paid = raised (length (t .asks)) (paid (screened rule t) (decision rule t)) (B .paid);
+  house = B .house + margin (screened rule t) (decision rule t);
   last = round;
 }
 
@@ -49,11 +51,11 @@ bookSize n m guests stations = (outside n maxGuests guests or outside m maxStati
 unfoldable pub outOfTurn : (round last : ℕ) → Row
 outOfTurn round last = (maxRound ≤? last or not (round =? last + 1)) gives 11
 
-unfoldable pub postingFaults : Tables → (round : ℕ) → PlainBook → List Row
-postingFaults t round B = marketFaults t
+unfoldable pub postingFaults : (rule : ℕ) → Tables → (round : ℕ) → PlainBook → List Row
+postingFaults rule t round B = unknownRule rule ∷ marketFaults t
     ++ (bookSize (length (t .amounts)) (length (t .asks)) (length (B .guests)) (length (B .sold))
     ∷ outOfTurn round (B .last)
-    ∷ ((overLimit B or overLimit (entered t round B)) gives 12)
+    ∷ ((overLimit B or overLimit (entered (ruleOf rule) t round B)) gives 12)
     ∷ [])
 
 -- a book of g guest and s station accounts, all 0
@@ -62,10 +64,14 @@ emptyPlain g s = record { guests = replicate g 0; sold = replicate s 0; paid = r
 
 -- the step: the first fault that holds is answered and changes nothing; otherwise the round is posted
 unfoldable pub answer : PlainBook → Posting → Verdict
-answer B p = firstFault (postingFaults (p .tables) (p .round) B)
+answer B p = firstFault (postingFaults (p .rule) (p .tables) (p .round) B)
+
+-- the book with a posting entered under its rule
+abbrev pub enteredOf : Posting → PlainBook → PlainBook
+enteredOf p B = entered (ruleOf (p .rule)) (p .tables) (p .round) B
 
 unfoldable pub after : PlainBook → Posting → PlainBook
-after B p = updated (answer B p) (entered (p .tables) (p .round) B) B
+after B p = updated (answer B p) (enteredOf p B) B
 
 -- a list of postings, each made to the book as the last left it
 unfoldable pub answers : PlainBook → List Posting → List Verdict

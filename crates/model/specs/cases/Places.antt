@@ -5,6 +5,7 @@ use mathlib.Core.List.{[], _∷_, map}
 use mathlib.Core.Path.{_≡_}
 use lib.ListN.{getD, replicate}
 use Rattle.model.specs.Verdicts.{accepted, refused, firstFault, giving}
+use Rattle.model.specs.declared.rule.Rule.the-variants.{Median}
 use Rattle.model.specs.market.Market.{Tables}
 use Rattle.model.specs.market.Faults.{verdict, Accepted}
 use Rattle.model.specs.market.Outcome.{outcomeOf, outcome}
@@ -44,7 +45,7 @@ placedMarket = numbered (30 ∷ 20 ∷ []) (1 ∷ 1 ∷ []) (3 ∷ 2 ∷ []) (pl
 
 abbrev pub PlacedMarketClears : Type 0
 PlacedMarketClears =
-    giving (verdict placedMarket) (outcome placedMarket)
+    giving (verdict placedMarket) (outcome Median placedMarket)
     ≡ accepted (outcomeOf 30 0 (2 ∷ 0 ∷ []) (90 ∷ 0 ∷ []) (0 ∷ 3 ∷ []) (0 ∷ 90 ∷ []))
 
 -- an accepted call left these bids; so the market is accepted, and guest 1's bid at the nearer station is no lower

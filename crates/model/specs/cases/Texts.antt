@@ -7,6 +7,7 @@ use Rattle.model.specs.cases.Sheets.{sheetE, sheetE0}
 use Rattle.model.specs.market.Outcome.{outcome}
 use Rattle.model.specs.text.MarketText.{marketTextOf}
 use Rattle.model.specs.text.Printed.{printed}
+use Rattle.model.specs.declared.rule.Rule.the-variants.{Median}
 use Rattle.model.specs.declared.page.Page.the-variants.{Sheet}
 
 -- cut 6
@@ -34,6 +35,6 @@ unfoldable pub textNine : List ℕ
 textNine = 114 ∷ 101 ∷ 102 ∷ 117 ∷ 115 ∷ 101 ∷ 100 ∷ 32 ∷ 57 ∷ 10 ∷ []
 
 pub record TextsHold : Type 0 where
-  pub case-e : marketTextOf outcome caseE ≡ textE
+  pub case-e : marketTextOf (outcome Median) caseE ≡ textE
   pub sheet-e : printed Sheet 38 sheetE0 ≡ sheetE
-  pub bid-too-high : marketTextOf outcome (single 1 1 1 1_000_001) ≡ textNine
+  pub bid-too-high : marketTextOf (outcome Median) (single 1 1 1 1_000_001) ≡ textNine

@@ -14,29 +14,30 @@ use Rattle.model.specs.claims.Truth.{AlikeButForGuest, AlikeButForStatio
 use Rattle.model.specs.contracts.Clears.{ClearsBy}
 use Rattle.model.specs.Numbers.{answerOfClearing}
 use Rattle.model.specs.Verdicts.{accepted, refused}
+use Rattle.model.specs.declared.rule.Rule.{Rule}
 use Rattle.model.specs.declared.answers.Clearing.{Clearing}
 
--- a refused call leaves the result lists as they were, by whichever mechanism it would clear
+-- a refused call leaves the result lists as they were, by whichever mechanism and rule it would clear
 abbrev pub RefusedLeaves : Type 0
 RefusedLeaves =
-    (made : Tables → Outcome) (t : Tables) (entry exit : Results) (answer : Clearing) (k : ℕ)
-    → answerOfClearing answer ≡ refused k → ClearsBy made t entry answer exit → exit ≡ entry
+    (made : Rule → Tables → Outcome) (rule : ℕ) (t : Tables) (entry exit : Results) (answer : Clearing) (k : ℕ)
+    → answerOfClearing answer ≡ refused k → ClearsBy made rule t entry answer exit → exit ≡ entry
 
--- a call that was answered as cleared, whatever its result lists held before
-pub record ClearedCallBy (made : Tables → Outcome) (t : Tables) : Type 0 where
+-- a call under the rule of this number that was answered as cleared, whatever its result lists held before
+pub record ClearedCallBy (made : Rule → Tables → Outcome) (rule : ℕ) (t : Tables) : Type 0 where
   pub entry : Results
   pub answer : Clearing
   pub cut : ℕ
   pub margin : ℕ
   pub exit : Results
-  pub call : ClearsBy made t entry answer exit
+  pub call : ClearsBy made rule t entry answer exit
   pub cleared : answerOfClearing answer ≡ accepted (cut, margin)
 
 -- a call of `clear`, and one of `clear_efficient`
-abbrev pub ClearedCall : Tables → Type 0
+abbrev pub ClearedCall : (rule : ℕ) → Tables → Type 0
 ClearedCall = ClearedCallBy outcome
 
-abbrev pub EfficientCall : Tables → Type 0
+abbrev pub EfficientCall : (rule : ℕ) → Tables → Type 0
 EfficientCall = ClearedCallBy efficientOutcome
 
 -- guest i's gain: by its worths w per kWh, worth at the station named times amount, less charge
@@ -47,18 +48,18 @@ guestGainIn t r w i = subℕ (at (λ j. w j * getD (t .amounts) i 0) (getD (r .s
 unfoldable pub stationGainIn : Results → (cost j : ℕ) → ℤ
 stationGainIn r cost j = subℕ (getD (r .paid) j 0) (cost * getD (r .sold) j 0)
 
--- two calls alike but for guest i's bids, the first with its worths: it gains no more in the second
+-- two calls under one rule, alike but for guest i's bids, the first with its worths: it gains no more in the second
 abbrev pub GuestTruthfulCalls : Type 0
 GuestTruthfulCalls =
-    (t t′ : Tables) (k : ClearedCall t) (k′ : ClearedCall t′) (i : ℕ) → i < length (t .amounts)
+    (rule : ℕ) (t t′ : Tables) (k : ClearedCall rule t) (k′ : ClearedCall rule t′) (i : ℕ) → i < length (t .amounts)
     → AlikeButForGuest t t′ i
     → guestGainIn t′ (k′ .exit) (bidAt t i) i ≤ℤ guestGainIn t (k .exit) (bidAt t i) i
 
--- two calls alike but for station j's ask, the first with its cost: it gains no more in the second
-abbrev pub StationTruthfulCallsBy : (made : Tables → Outcome) → Type 0
+-- two calls under one rule, alike but for station j's ask, the first with its cost: it gains no more in the second
+abbrev pub StationTruthfulCallsBy : (made : Rule → Tables → Outcome) → Type 0
 StationTruthfulCallsBy made =
-    (t t′ : Tables) (k : ClearedCallBy made t) (k′ : ClearedCallBy made t′) (j : ℕ) → j < length (t .asks)
-    → AlikeButForStation t t′ j
+    (rule : ℕ) (t t′ : Tables) (k : ClearedCallBy made rule t) (k′ : ClearedCallBy made rule t′) (j : ℕ)
+    → j < length (t .asks) → AlikeButForStation t t′ j
     → stationGainIn (k′ .exit) (getD (t .asks) j 0) j ≤ℤ stationGainIn (k .exit) (getD (t .asks) j 0) j
 
 abbrev pub StationTruthfulCalls : Type 0
@@ -87,7 +88,7 @@ pub record CallWithin (t : Tables) (margin : ℕ) (r : Results) : Type 0 where
       sum (length (t .asks)) (λ j. getD (r .paid) j 0) ≤ sum (length (t .amounts)) (λ i. getD (r .charges) i 0)
 
 abbrev pub CallLimits : Type 0
-CallLimits = (t : Tables) (k : ClearedCall t) → CallWithin t (k .margin) (k .exit)
+CallLimits = (rule : ℕ) (t : Tables) (k : ClearedCall rule t) → CallWithin t (k .margin) (k .exit)
 
 abbrev pub EfficientCallLimits : Type 0
-EfficientCallLimits = (t : Tables) (k : EfficientCall t) → CallWithin t (k .margin) (k .exit)
+EfficientCallLimits = (rule : ℕ) (t : Tables) (k : EfficientCall rule t) → CallWithin t (k .margin) (k .exit)

@@ -6,12 +6,15 @@ use mathlib.Core.Logic.{_↔_}
 use mathlib.Core.Path.{_≡_}
 use lib.ListN.{getD, length, take}
 use Rattle.model.specs.Counting.{_=?_, _and_}
-use Rattle.model.specs.market.Market.{Tables, median, Screened}
+use Rattle.model.specs.market.Market.{Tables, Screened}
 use Rattle.model.specs.market.Mechanism.{Decision}
 use Rattle.model.specs.market.Stable.{Stable, turnedAwayAt}
 use Rattle.model.specs.market.Efficient.{Candidacy, candidacy, candidacies, bayLeft, takeAll, nobody, efficient}
 use Rattle.model.specs.market.Outcome.{outcomeBy, screened, decision, efficientDecision, efficientOutcome}
 use Rattle.model.specs.market.Faults.{Accepted}
+use Rattle.model.specs.market.Rules.{position}
+use Rattle.model.specs.declared.rule.Rule.{Rule}
+use Rattle.model.specs.declared.rule.Rule.the-variants.{Median}
 use Rattle.model.specs.claims.Truth.{GuestTruthfulBy, StationTruthfulBy, ClearsWithin}
 
 -- the p-th candidacy, from 0
@@ -42,7 +45,7 @@ pub record InOrder (S : Screened) : Type 0 where
       × (S .candidate (nth S p .guest) (nth S p .station) ≡ true)
 
 abbrev pub CandidaciesInOrder : Type 0
-CandidaciesInOrder = (t : Tables) → Accepted t → InOrder (screened t)
+CandidaciesInOrder = (rule : Rule) (t : Tables) → Accepted t → InOrder (screened rule t)
 
 -- what is decided when the p-th candidacy is taken: it finds a bay; it isn't skipped and finds its station full
 abbrev pub decidedBefore : Screened → ℕ → Decision
@@ -71,14 +74,14 @@ OfGuest S i p = nth S p .guest ≡ i
 
 abbrev pub AssignedAtFirstBay : Type 0
 AssignedAtFirstBay =
-    (t : Tables) (i j : ℕ) → let S = screened t in
-    ((efficientDecision t) .assigned i ≡ suc j)
+    (rule : Rule) (t : Tables) (i j : ℕ) → let S = screened rule t in
+    ((efficientDecision rule t) .assigned i ≡ suc j)
     ↔ ((p : ℕ) × First (length (candidacies S)) (OfGuest S i) (findsBay S) p × (nth S p .station ≡ j))
 
 abbrev pub UnassignedWithoutBay : Type 0
 UnassignedWithoutBay =
-    (t : Tables) (i : ℕ) → let S = screened t in
-    ((efficientDecision t) .assigned i ≡ 0) ↔ None (length (candidacies S)) (OfGuest S i) (findsBay S)
+    (rule : Rule) (t : Tables) (i : ℕ) → let S = screened rule t in
+    ((efficientDecision rule t) .assigned i ≡ 0) ↔ None (length (candidacies S)) (OfGuest S i) (findsBay S)
 
 -- 'If it is full, the first such unseated guest's total becomes its floor.' A station's critical total is that of the
 -- first of its candidacies that finds it full, 0 where none does
@@ -92,22 +95,22 @@ pub record CriticalIsFirstFull (S : Screened) (j : ℕ) : Type 0 where
   pub zero-if-none : None (length (candidacies S)) (OfStation S j) (findsFull S) → (efficient S) .critical j ≡ 0
 
 abbrev pub CriticalIsTotalOfFirstFull : Type 0
-CriticalIsTotalOfFirstFull = (t : Tables) → Accepted t → (j : ℕ) → CriticalIsFirstFull (screened t) j
+CriticalIsTotalOfFirstFull = (rule : Rule) (t : Tables) → Accepted t → (j : ℕ) → CriticalIsFirstFull (screened rule t) j
 
 -- the assignment is stable in that order, each critical total the greatest that was turned away
 abbrev pub EfficientIsStable : Type 0
 EfficientIsStable =
-    (t : Tables) → Accepted t
-    → Stable (screened t) ((efficientDecision t) .assigned)
+    (rule : Rule) (t : Tables) → Accepted t
+    → Stable (screened rule t) ((efficientDecision rule t) .assigned)
     × ((j : ℕ) → j < length (t .asks)
-    → (efficientDecision t) .critical j ≡ turnedAwayAt (screened t) ((efficientDecision t) .assigned) j)
+    → (efficientDecision rule t) .critical j ≡ turnedAwayAt (screened rule t) ((efficientDecision rule t) .assigned) j)
 
 -- and no other is
 abbrev pub StableDetermines : Type 0
 StableDetermines =
-    (t : Tables) → Accepted t → (a : ℕ → ℕ) → Stable (screened t) a
-    → ((i : ℕ) → i < length (t .amounts) → a i ≡ (efficientDecision t) .assigned i)
-    × ((j : ℕ) → j < length (t .asks) → turnedAwayAt (screened t) a j ≡ (efficientDecision t) .critical j)
+    (rule : Rule) (t : Tables) → Accepted t → (a : ℕ → ℕ) → Stable (screened rule t) a
+    → ((i : ℕ) → i < length (t .amounts) → a i ≡ (efficientDecision rule t) .assigned i)
+    × ((j : ℕ) → j < length (t .asks) → turnedAwayAt (screened rule t) a j ≡ (efficientDecision rule t) .critical j)
 
 -- so its outcome is that of any assignment that is stable, with the greatest totals that it turns away
 abbrev pub decidedBy : Screened → (assigned : ℕ → ℕ) → Decision
@@ -115,22 +118,27 @@ decidedBy S a = record { assigned = a; critical = turnedAwayAt S a }
 
 abbrev pub StableOutcome : Type 0
 StableOutcome =
-    (t : Tables) → Accepted t → (a : ℕ → ℕ) → Stable (screened t) a
-    → outcomeBy (screened t) (decidedBy (screened t) a) ≡ efficientOutcome t
+    (rule : Rule) (t : Tables) → Accepted t → (a : ℕ → ℕ) → Stable (screened rule t) a
+    → outcomeBy (screened rule t) (decidedBy (screened rule t) a) ≡ efficientOutcome rule t
 
 -- 'On quiet days firms prefer more seats': whoever document 01's mechanism assigns is assigned here too
 abbrev pub EfficientAssignsNoFewer : Type 0
 EfficientAssignsNoFewer =
-    (t : Tables) → Accepted t → (i : ℕ) → i < length (t .amounts) → (efficientDecision t) .assigned i ≡ 0
-    → (decision t) .assigned i ≡ 0
+    (rule : Rule) (t : Tables) → Accepted t → (i : ℕ) → i < length (t .amounts)
+    → (efficientDecision rule t) .assigned i ≡ 0
+    → (decision rule t) .assigned i ≡ 0
 
 -- 'Here bidders lose the guarantee that truth pays best; stations keep it, as do the limits on charges, payments and
 -- bays.'
 abbrev pub EfficientNotGuestTruthful : Type 0
-EfficientNotGuestTruthful = GuestTruthfulBy efficient median → ⊥
+EfficientNotGuestTruthful = GuestTruthfulBy efficient (position Median) → ⊥
 
 abbrev pub EfficientStationTruthful : Type 0
 EfficientStationTruthful = (rule : ℕ → ℕ) → StationTruthfulBy efficient rule
 
+-- so under each rule, both markets under the same (document 02, request 6)
+abbrev pub EfficientStationTruthfulUnder : Type 0
+EfficientStationTruthfulUnder = (rule : Rule) → StationTruthfulBy efficient (position rule)
+
 abbrev pub EfficientLimits : Type 0
-EfficientLimits = (t : Tables) → Accepted t → ClearsWithin t (efficientDecision t)
+EfficientLimits = (rule : Rule) (t : Tables) → Accepted t → ClearsWithin rule t (efficientDecision rule t)

@@ -5,7 +5,7 @@ use mathlib.Core.Path.{_≡_}
 use lib.ListN.{getD, length}
 use Rattle.model.specs.Verdicts.{Verdict, accepted, refused}
 use Rattle.model.specs.claims.Meaning.{AccountsWithin}
-use Rattle.model.specs.cases.Cases.{caseE}
+use Rattle.model.specs.cases.Cases.{caseE, sixFirst}
 use Rattle.model.specs.book.Book.{account, accountAt, paidOf, Book, book, emptyBook, plain}
 use Rattle.model.specs.book.Posting.{Posting, posting, toGuest, toSold, toPaid, toHouse}
 use Rattle.model.specs.book.PlainBook.{emptyPlain, answers, final, postedRounds, sumOver, sumAll}
@@ -48,10 +48,17 @@ PostedInTurnExists =
 -- document 01's example: case E as round 1, and once more. There are such calls, and all of them come to the same
 abbrev pub ExampleIsPosted : Type 0
 ExampleIsPosted =
-    PostedInTurn (emptyBook 2 2) (posting caseE 1 ∷ posting caseE 1 ∷ []) (accepted tt ∷ refused 11 ∷ [])
+    PostedInTurn (emptyBook 2 2) (posting 1 caseE 1 ∷ posting 1 caseE 1 ∷ []) (accepted tt ∷ refused 11 ∷ [])
     (book (24 ∷ 0 ∷ []) (account 3 18 ∷ account 0 0 ∷ []) 6 1)
 
 abbrev pub ExampleEndsSo : Type 0
 ExampleEndsSo =
-    (vs : List Verdict) (B : Book) → PostedInTurn (emptyBook 2 2) (posting caseE 1 ∷ posting caseE 1 ∷ []) vs B
+    (vs : List Verdict) (B : Book) → PostedInTurn (emptyBook 2 2) (posting 1 caseE 1 ∷ posting 1 caseE 1 ∷ []) vs B
     → (vs ≡ accepted tt ∷ refused 11 ∷ []) × (B ≡ book (24 ∷ 0 ∷ []) (account 3 18 ∷ account 0 0 ∷ []) 6 1)
+
+-- rounds of both rules in one list, and a number of no rule: the guest pays 4 in the first and 5 in the second
+abbrev pub BothRulesArePosted : Type 0
+BothRulesArePosted =
+    PostedInTurn (emptyBook 1 6) (posting 1 sixFirst 1 ∷ posting 2 sixFirst 2 ∷ posting 3 sixFirst 3 ∷ [])
+    (accepted tt ∷ accepted tt ∷ refused 18 ∷ [])
+    (book (9 ∷ []) (account 2 9 ∷ account 0 0 ∷ account 0 0 ∷ account 0 0 ∷ account 0 0 ∷ account 0 0 ∷ []) 0 2)

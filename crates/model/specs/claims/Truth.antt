@@ -10,6 +10,8 @@ use Rattle.model.specs.Counting.{_≤?_, _=?_, _and_, only, sum}
 use Rattle.model.specs.market.Market.{Tables, bidAt, marketBy, market, opens, Screened, screen}
 use Rattle.model.specs.market.Mechanism.{Decision, at, charged, served, sold, paid, margin, best, truthful}
 use Rattle.model.specs.market.Outcome.{screened, decision}
+use Rattle.model.specs.market.Rules.{position}
+use Rattle.model.specs.declared.rule.Rule.{Rule}
 use Rattle.model.specs.market.Faults.{Accepted}
 use Rattle.model.specs.market.Gains.{guestGain, stationGain}
 
@@ -30,7 +32,7 @@ pub record AlikeButForStation (t t′ : Tables) (j : ℕ) : Type 0 where
   pub same-tickets : t′ .tickets ≡ t .tickets
   pub same-bids : t′ .bids ≡ t .bids
 
--- what a mechanism sees under another rule for the position of the cut
+-- what a mechanism sees under any rule for the position of the cut
 abbrev pub screenedBy : (rule : ℕ → ℕ) → Tables → Screened
 screenedBy rule t = screen (marketBy rule t)
 
@@ -49,12 +51,19 @@ StationTruthfulBy mechanism rule =
     stationGain (screenedBy rule t)
     (mechanism (screenedBy rule t)) (getD (t .asks) j 0) j
 
--- at any position of the cut that depends on the number of stations alone, document 01's among them
+-- at any position of the cut that depends on the number of stations alone, from 1 to m or not
 abbrev pub GuestTruthful : Type 0
 GuestTruthful = (rule : ℕ → ℕ) → GuestTruthfulBy truthful rule
 
 abbrev pub StationTruthful : Type 0
 StationTruthful = (rule : ℕ → ℕ) → StationTruthfulBy truthful rule
+
+-- so under each rule, both markets under the same (document 02, request 6)
+abbrev pub GuestTruthfulUnder : Type 0
+GuestTruthfulUnder = (rule : Rule) → GuestTruthfulBy truthful (position rule)
+
+abbrev pub StationTruthfulUnder : Type 0
+StationTruthfulUnder = (rule : Rule) → StationTruthfulBy truthful (position rule)
 
 -- signed gains and sums without subtraction say the same
 abbrev pub SignedIffUnsigned : Type 0
@@ -70,34 +79,38 @@ pub record Menu : Type 0 where
 unfoldable pub choice : (m : ℕ) → Menu → (total : ℕ → ℕ) → ℕ
 choice m U total = best m (λ j. U .offered j and U .bar j ≤? total j) (λ j. total j - U .price j)
 
--- U is guest i's menu in t: the open stations, each price at the bar or one below; whatever row i states, it is
--- assigned its choice and charged the price
-pub record MenuOf (t : Tables) (i : ℕ) (U : Menu) : Type 0 where
-  pub opens-offer : (j : ℕ) → j < length (t .asks) → U .offered j ≡ opens (market t) j
+-- U is guest i's menu in t under a rule: the open stations, each price at the bar or one below; whatever row i states,
+-- it is assigned its choice and charged the price
+pub record MenuOf (rule : Rule) (t : Tables) (i : ℕ) (U : Menu) : Type 0 where
+  pub opens-offer : (j : ℕ) → j < length (t .asks) → U .offered j ≡ opens (market rule t) j
   pub priced-below : (j : ℕ) → U .price j ≤ U .bar j
   pub priced-near : (j : ℕ) → U .bar j ≤ U .price j + 1
   pub assigns : (t′ : Tables) → Accepted t′ → AlikeButForGuest t t′ i
-      → (decision t′) .assigned i ≡ choice (length (t .asks)) U ((screened t′) .total i)
+      → (decision rule t′) .assigned i ≡ choice (length (t .asks)) U ((screened rule t′) .total i)
   pub charges : (t′ : Tables) → Accepted t′ → AlikeButForGuest t t′ i
-      → charged (screened t′) (decision t′) i ≡ at (U .price) (choice (length (t .asks)) U ((screened t′) .total i))
+      → charged (screened rule t′) (decision rule t′) i
+      ≡ at (U .price) (choice (length (t .asks)) U ((screened rule t′) .total i))
 
 abbrev pub GuestMenu : Type 0
-GuestMenu = (t : Tables) (i : ℕ) → Accepted t → i < length (t .amounts) → (U : Menu) × MenuOf t i U
+GuestMenu =
+    (rule : Rule) (t : Tables) (i : ℕ) → Accepted t → i < length (t .amounts) → (U : Menu) × MenuOf rule t i U
 
--- the limits of every clearing, whichever mechanism decided it
-pub record ClearsWithin (t : Tables) (D : Decision) : Type 0 where
+-- the limits of every clearing, whichever mechanism decided it, under either rule
+pub record ClearsWithin (rule : Rule) (t : Tables) (D : Decision) : Type 0 where
   pub charge-within-bid : (i j : ℕ) → i < length (t .amounts) → D .assigned i ≡ suc j
-      → charged (screened t) D i ≤ bidAt t i j * getD (t .amounts) i 0
-  pub unassigned-free : (i : ℕ) → D .assigned i ≡ 0 → charged (screened t) D i ≡ 0
-  pub payment-covers-ask : (j : ℕ) → getD (t .asks) j 0 * sold (screened t) D j ≤ paid (screened t) D j
+      → charged (screened rule t) D i ≤ bidAt t i j * getD (t .amounts) i 0
+  pub unassigned-free : (i : ℕ) → D .assigned i ≡ 0 → charged (screened rule t) D i ≡ 0
+  pub payment-covers-ask : (j : ℕ) → getD (t .asks) j 0 * sold (screened rule t) D j ≤ paid (screened rule t) D j
   pub sold-as-assigned :
       (j : ℕ)
-      → sold (screened t) D j ≡ sum (length (t .amounts)) (λ i. only (D .assigned i =? suc j) (getD (t .amounts) i 0))
-  pub within-bays : (j : ℕ) → served (screened t) D j ≤ getD (t .bays) j 0
+      → sold (screened rule t) D j
+      ≡ sum (length (t .amounts)) (λ i. only (D .assigned i =? suc j) (getD (t .amounts) i 0))
+  pub within-bays : (j : ℕ) → served (screened rule t) D j ≤ getD (t .bays) j 0
   pub balanced :
-      sum (length (t .amounts)) (charged (screened t) D)
-      ≡ sum (length (t .asks)) (paid (screened t) D) + margin (screened t) D
-  pub covered : sum (length (t .asks)) (paid (screened t) D) ≤ sum (length (t .amounts)) (charged (screened t) D)
+      sum (length (t .amounts)) (charged (screened rule t) D)
+      ≡ sum (length (t .asks)) (paid (screened rule t) D) + margin (screened rule t) D
+  pub covered :
+      sum (length (t .asks)) (paid (screened rule t) D) ≤ sum (length (t .amounts)) (charged (screened rule t) D)
 
 abbrev pub ClearingLimits : Type 0
-ClearingLimits = (t : Tables) → Accepted t → ClearsWithin t (decision t)
+ClearingLimits = (rule : Rule) (t : Tables) → Accepted t → ClearsWithin rule t (decision rule t)

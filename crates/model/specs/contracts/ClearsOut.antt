@@ -6,20 +6,22 @@ use Rattle.model.specs.Verdicts.{firstFault, updated, numberOf}
 use Rattle.model.specs.market.Market.{Tables}
 use Rattle.model.specs.market.Outcome.{Results, Outcome, outcome, efficientOutcome}
 use Rattle.model.specs.market.Faults.{clearingFaults}
+use Rattle.model.specs.market.Rules.{ruleOf}
+use Rattle.model.specs.declared.rule.Rule.{Rule}
 
-pub record ClearsOutBy (made : Tables → Outcome) (t : Tables) (entry : Results) (cut margin r : ℕ) (exit : Results)
-    (cut′ margin′ : ℕ) : Type 0 where
-  pub number-is : r ≡ numberOf (firstFault (clearingFaults t entry))
-  pub left : exit ≡ updated (firstFault (clearingFaults t entry)) ((made t) .results) entry
-  pub cut-is : cut′ ≡ updated (firstFault (clearingFaults t entry)) ((made t) .cut) cut
-  pub margin-is : margin′ ≡ updated (firstFault (clearingFaults t entry)) ((made t) .margin) margin
+pub record ClearsOutBy (made : Rule → Tables → Outcome) (rule : ℕ) (t : Tables) (entry : Results) (cut margin r : ℕ)
+    (exit : Results) (cut′ margin′ : ℕ) : Type 0 where
+  pub number-is : r ≡ numberOf (firstFault (clearingFaults rule t entry))
+  pub left : exit ≡ updated (firstFault (clearingFaults rule t entry)) ((made (ruleOf rule) t) .results) entry
+  pub cut-is : cut′ ≡ updated (firstFault (clearingFaults rule t entry)) ((made (ruleOf rule) t) .cut) cut
+  pub margin-is : margin′ ≡ updated (firstFault (clearingFaults rule t entry)) ((made (ruleOf rule) t) .margin) margin
 
 -- of `bay_market_clear`
 abbrev pub ClearsOut :
-    (t : Tables) (entry : Results) (cut margin r : ℕ) (exit : Results) (cut′ margin′ : ℕ) → Type 0
+    (rule : ℕ) (t : Tables) (entry : Results) (cut margin r : ℕ) (exit : Results) (cut′ margin′ : ℕ) → Type 0
 ClearsOut = ClearsOutBy outcome
 
 -- of `bay_market_clear_efficient`
 abbrev pub ClearsEfficientOut :
-    (t : Tables) (entry : Results) (cut margin r : ℕ) (exit : Results) (cut′ margin′ : ℕ) → Type 0
+    (rule : ℕ) (t : Tables) (entry : Results) (cut margin r : ℕ) (exit : Results) (cut′ margin′ : ℕ) → Type 0
 ClearsEfficientOut = ClearsOutBy efficientOutcome

@@ -9,6 +9,7 @@ use Rattle.model.specs.Counting.{_<?_, _=?_, _or_, some, any}
 use Rattle.model.specs.Verdicts.{Row, _gives_, Verdict, accepted, firstFault}
 use Rattle.model.specs.market.Market.{Tables}
 use Rattle.model.specs.market.Outcome.{Results}
+use Rattle.model.specs.market.Rules.{named, isUnknown}
 
 unfoldable pub outside : (low high : ℕ) → ℕ → Bool
 outside low high x = x <? low or high <? x
@@ -16,6 +17,10 @@ outside low high x = x <? low or high <? x
 -- two places hold the same number
 unfoldable pub repeats : List ℕ → Bool
 repeats xs = some (length xs) (λ k. some k (λ i. getD xs i 0 =? getD xs k 0))
+
+-- a rule number that names none (document 02, request 6)
+unfoldable pub unknownRule : ℕ → Row
+unknownRule rule = isUnknown (named rule) gives 18
 
 -- counts, and lengths of the market's tables
 unfoldable pub counts : (n m : ℕ) → Row
@@ -40,7 +45,7 @@ values t =
     ∷ (repeats (t .tickets) gives 15)
     ∷ []
 
--- the clearing's rows, the one on result lists aside
+-- the clearing's rows, those on the rule and on result lists aside
 unfoldable pub marketFaults : Tables → List Row
 marketFaults t =
     counts (length (t .amounts)) (length (t .asks))
@@ -55,12 +60,16 @@ verdict t = firstFault (marketFaults t)
 abbrev pub Accepted : Tables → Type 0
 Accepted t = verdict t ≡ accepted tt
 
--- a clearing call, with the result lists that it is lent
-unfoldable pub clearingFaults : Tables → Results → List Row
-clearingFaults t r =
+-- and with the result lists that a call is lent
+unfoldable pub tableFaults : Tables → Results → List Row
+tableFaults t r =
     counts (length (t .amounts)) (length (t .asks))
     ∷ lengths (length (t .amounts)) (length (t .asks)) (length (t .bays)) (length (t .tickets)) (length (t .bids))
     (t .width)
     ∷ listLengths (length (t .amounts)) (length (t .asks)) (length (r .stations)) (length (r .charges))
     (length (r .sold)) (length (r .paid))
     ∷ values t
+
+-- a clearing call, by the number of its rule
+unfoldable pub clearingFaults : (rule : ℕ) → Tables → Results → List Row
+clearingFaults rule t r = unknownRule rule ∷ tableFaults t r

@@ -1,10 +1,12 @@
 -- A market, and what a mechanism sees of it once the cut is known. Document 01, 'A market' and 'Clearing' 1 to 5.
 -- Guests and stations count from 0 here. Nothing is sorted: a rank is a count of those before.
-use Prim.Native.Nat.{ℕ, _+_, _*_, _/_}
+use Prim.Native.Nat.{ℕ, _+_, _*_}
 use mathlib.Core.Bool.{Bool, not}
 use mathlib.Core.List.{List}
 use lib.ListN.{getD, length}
 use Rattle.model.specs.Counting.{_<?_, _≤?_, _=?_, _and_, _or_, only, greatest, count}
+use Rattle.model.specs.market.Rules.{position}
+use Rattle.model.specs.declared.rule.Rule.{Rule}
 
 -- a market as it is lent: five tables of any lengths and values, and the row width of the bid table
 pub record Tables : Type 0 where
@@ -52,13 +54,9 @@ marketBy rule t = record {
   key = λ i. getD (t .tickets) i 0;
 }
 
--- ceil((m + 1) / 2)
-unfoldable pub median : ℕ → ℕ
-median m = (m + 1 + 1) / 2
-
--- document 01's market
-unfoldable pub market : Tables → Market
-market t = marketBy median t
+-- the market under a rule (document 02, request 6; document 01's is rule 1)
+unfoldable pub market : Rule → Tables → Market
+market rule t = marketBy (position rule) t
 
 -- 1. the cut: the greatest ask that fewer than `position` asks lie below (`CutIsAskAtPosition`: the ask at that
 -- position in rising order)

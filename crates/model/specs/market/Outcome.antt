@@ -5,6 +5,7 @@ use Rattle.model.specs.Counting.{list}
 use Rattle.model.specs.market.Market.{Tables, market, Screened, screen}
 use Rattle.model.specs.market.Mechanism.{Decision, charged, sold, paid, margin, truthful}
 use Rattle.model.specs.market.Efficient.{efficient}
+use Rattle.model.specs.declared.rule.Rule.{Rule}
 use Rattle.model.specs.declared.mechanism.Mechanism.{Mechanism}
 use Rattle.model.specs.declared.mechanism.Mechanism.the-variants.{Truthful, Efficient}
 
@@ -40,24 +41,24 @@ outcomeBy S D = record {
   };
 }
 
--- what document 01's mechanism sees and decides, and its outcome
-unfoldable pub screened : Tables → Screened
-screened t = screen (market t)
+-- what document 01's mechanism sees and decides under a rule, and its outcome
+unfoldable pub screened : Rule → Tables → Screened
+screened rule t = screen (market rule t)
 
-unfoldable pub decision : Tables → Decision
-decision t = truthful (screened t)
+unfoldable pub decision : Rule → Tables → Decision
+decision rule t = truthful (screened rule t)
 
-unfoldable pub outcome : Tables → Outcome
-outcome t = outcomeBy (screened t) (decision t)
+unfoldable pub outcome : Rule → Tables → Outcome
+outcome rule t = outcomeBy (screened rule t) (decision rule t)
 
 -- and of the efficient mechanism (document 02, request 4)
-unfoldable pub efficientDecision : Tables → Decision
-efficientDecision t = efficient (screened t)
+unfoldable pub efficientDecision : Rule → Tables → Decision
+efficientDecision rule t = efficient (screened rule t)
 
-unfoldable pub efficientOutcome : Tables → Outcome
-efficientOutcome t = outcomeBy (screened t) (efficientDecision t)
+unfoldable pub efficientOutcome : Rule → Tables → Outcome
+efficientOutcome rule t = outcomeBy (screened rule t) (efficientDecision rule t)
 
 -- by the name of the mechanism
-unfoldable pub outcomeIn : Mechanism → Tables → Outcome
+unfoldable pub outcomeIn : Mechanism → Rule → Tables → Outcome
 outcomeIn Truthful = outcome
 outcomeIn Efficient = efficientOutcome

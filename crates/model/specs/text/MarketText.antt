@@ -1,5 +1,5 @@
--- What is printed of a market: its clearing, by either mechanism, or its shortest sheet where the buffer has room for
--- it; or its refusal.
+-- What is printed of a market: its clearing, by either mechanism and rule, or its shortest sheet where the buffer has
+-- room for it; or its refusal.
 use Prim.Native.Nat.{ℕ}
 use mathlib.Core.List.{List}
 use Rattle.model.specs.Verdicts.{Verdict, accepted, refused, firstFault}
@@ -27,6 +27,6 @@ unfoldable pub sheetPageOf : (room : ℕ) → Tables → List ℕ
 sheetPageOf room t = sheetPage (firstFault (writingFaults t room)) t
 
 unfoldable pub pageOf : Page → (room : ℕ) → Tables → List ℕ
-pageOf Clearing room t = marketTextOf outcome t
-pageOf Efficient room t = marketTextOf efficientOutcome t
+pageOf (Clearing rule) room t = marketTextOf (outcome rule) t
+pageOf (Efficient rule) room t = marketTextOf (efficientOutcome rule) t
 pageOf Sheet room t = sheetPageOf room t

@@ -9,12 +9,13 @@ use lib.Seq.{paste}
 use Rattle.model.specs.Limits.{maxGuests, maxStations}
 use Rattle.model.specs.Verdicts.{refused, firstFault}
 use Rattle.model.specs.market.Market.{Tables, market, marketBy, screen}
-use Rattle.model.specs.market.Mechanism.{Decision}
-use Rattle.model.specs.market.Outcome.{Results, Outcome, outcomeBy, screened, outcomeIn, outcomeOf}
+use Rattle.model.specs.market.Outcome.{Results, Outcome, outcomeBy, screened, outcome, efficientOutcome, outcomeIn}
+use Rattle.model.specs.market.Outcome.{outcomeOf}
+use Rattle.model.specs.declared.rule.Rule.{Rule}
 use Rattle.model.specs.market.Faults.{verdict}
 use Rattle.model.specs.declared.mechanism.Mechanism.{Mechanism}
+use Rattle.model.specs.declared.mechanism.Mechanism.the-variants.{Truthful, Efficient}
 use Rattle.model.proofs.Counting.{length-list}
-use Rattle.model.proofs.market.Outcomes.{ComesOf, of-mechanism}
 use Rattle.model.specs.text.Decimal.{field}
 use Rattle.sheet.specs.Wrote.{Wrote}
 use Rattle.report.proofs.text.Fields.{length-field}
@@ -72,25 +73,23 @@ unfolding marketTextOf marketText
 prints-refused made t x e w = rw e (prints w (length-refusal x))
 
 outcome-lengths :
-    (t : Tables) {D : Decision} {o : Outcome} → ComesOf t D o
-    → (length (o .results .stations) ≡ length (t .amounts)) × (length (o .results .sold) ≡ length (t .asks))
-unfolding outcomeBy screened market marketBy screen
-outcome-lengths t m = (
-  ap (λ o. length (o .results .stations)) (m .outcome-is) ∙ length-list _ _,
-  ap (λ o. length (o .results .sold)) (m .outcome-is) ∙ length-list _ _,
-)
+    (x : Mechanism) (rule : Rule) (t : Tables) → let r = (outcomeIn x rule t) .results in
+    (length (r .stations) ≡ length (t .amounts)) × (length (r .sold) ≡ length (t .asks))
+unfolding outcomeIn outcome efficientOutcome outcomeBy screened market marketBy screen
+outcome-lengths Truthful rule t = (length-list _ _, length-list _ _)
+outcome-lengths Efficient rule t = (length-list _ _, length-list _ _)
 
 pub prints-cleared :
-    {l l′ : List ℕ} {q : ℕ} (x : Mechanism) (t : Tables) (k m : ℕ) (exit : Results) → ClearedAs (outcomeIn x) t k m exit
-    → length (t .amounts) ≤ maxGuests → length (t .asks) ≤ maxStations
+    {l l′ : List ℕ} {q : ℕ} (x : Mechanism) (rule : Rule) (t : Tables) (k m : ℕ) (exit : Results)
+    → ClearedAs (outcomeIn x rule) t k m exit → length (t .amounts) ≤ maxGuests → length (t .asks) ≤ maxStations
     → Wrote l 0 (text (outcomeOf k m (exit .stations) (exit .charges) (exit .sold) (exit .paid))) l′ q
-    → Prints (marketTextOf (outcomeIn x) t) l q l′
+    → Prints (marketTextOf (outcomeIn x rule) t) l q l′
 unfolding marketTextOf marketText
-prints-cleared x t k m exit c n s w =
-    let o : outcomeOf k m (exit .stations) (exit .charges) (exit .sold) (exit .paid) ≡ outcomeIn x t = λ i.
+prints-cleared x rule t k m exit c n s w =
+    let o : outcomeOf k m (exit .stations) (exit .charges) (exit .sold) (exit .paid) ≡ outcomeIn x rule t = λ i.
     record { cut = c .cut-is i; margin = c .margin-is i; results = c .results-are i } in
-    let (a, b) = outcome-lengths t (of-mechanism x t) in
-    rw (c .is-accepted) (prints (rw o at w) (length-text (outcomeIn x t) (omega arith) (omega arith)))
+    let (a, b) = outcome-lengths x rule t in
+    rw (c .is-accepted) (prints (rw o at w) (length-text (outcomeIn x rule t) (omega arith) (omega arith)))
 
 -- ---- sheets
 

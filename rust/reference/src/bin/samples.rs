@@ -7,7 +7,7 @@ fn main() -> io::Result<()> {
     let folder = PathBuf::from(env::args_os().nth(1).expect("samples FOLDER"));
     for (name, sheet) in samples::sheets() {
         fs::write(folder.join(format!("{name}.sheet")), &sheet)?;
-        fs::write(folder.join(format!("{name}.txt")), report::printed(&sheet))?;
+        fs::write(folder.join(format!("{name}.txt")), report::printed(1, &sheet))?;
     }
     Ok(())
 }

@@ -24,7 +24,7 @@ charge-guests-requires c κs =
     let at-all-stations = all-stations-before-charges c in
     let entry = entry-before-all-stations (at-all-stations .before) in
     chargeable (regular _ _ _ _ _) (entry .pre .0) (of-truthful _)
-    (truthfully _ (entry .pre .0 .within) (at-all-stations .all-stations .ensures .after))
+    (truthfully _ _ (entry .pre .0 .within) (at-all-stations .all-stations .ensures .after))
     (entry .pre .1 .1 .1 .0) (entry .pre .1 .1 .1 .1)
 
 returns : tie.Need-returns
@@ -34,7 +34,7 @@ returns c =
     let entry = entry-before-all-stations (at-all-stations .before) in (
       at-all-stations .all-stations .ensures,
       assigned (regular _ _ _ _ _) (entry .pre .0) (of-truthful _)
-          (truthfully _ (entry .pre .0 .within) (at-all-stations .all-stations .ensures .after))
+          (truthfully _ _ (entry .pre .0 .within) (at-all-stations .all-stations .ensures .after))
           (at-charge-guests .charge-guests .ensures),
     )
 

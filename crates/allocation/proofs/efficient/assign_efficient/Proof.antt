@@ -90,7 +90,7 @@ serve-all-requires c κs =
     let within = entry .pre .0 .within in
     let room = sym (zeros-long maxGuests _ (within .shape .guests-most)) in (
       (entry .pre .0, open-before-buckets at-buckets .open-stations .ensures .0),
-      (none-called (regular _ _ _ _ _) within (entry .pre .1 .0), (refl, room, room)),
+      (none-called (regular _ _ _ _ _) within (entry .pre .1 .0) _, (refl, room, room)),
     )
 
 all-criticals-requires : tie.Need-all-criticals-requires

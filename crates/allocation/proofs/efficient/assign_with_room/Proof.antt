@@ -1,6 +1,7 @@
 use borrow.Author.Needs.{needs}
 use Rattle.model.specs.market.Market.{regular}
 use Rattle.model.proofs.market.Outcomes.{of-stable}
+use Rattle.allocation.proofs.seats.Listing.{keys}
 use Rattle.allocation.proofs.assignment.Assignment.{stably, chargeable, assigned}
 use Rattle.allocation.proofs.efficient.assign_with_room.Statement.{statement}
 use Rattle.allocation.proofs.efficient.assign_with_room.Tie as tie
@@ -15,7 +16,7 @@ assign-before-charges p = p .before .before .before .before .before .before .bef
 assign-efficient-requires : tie.Need-assign-efficient-requires
 assign-efficient-requires c κs =
     let entry = entry-before-assign c in
-    (record { within = entry .pre .0 .within; is-cut = entry .pre .0 .is-cut }, entry .pre .1 .0)
+    (record { within = entry .pre .0 .within; cut-low = entry .pre .0 .cut-low }, entry .pre .1 .0)
 
 charge-guests-requires : tie.Need-charge-guests-requires
 charge-guests-requires c κs =
@@ -23,8 +24,8 @@ charge-guests-requires c κs =
     let entry = entry-before-assign (at-assign .before) in
     let within = entry .pre .0 .within in
     let done = at-assign .assign-efficient .ensures in
-    chargeable (regular _ _ _ _ _) (entry .pre .0) (of-stable _ _ within (done .stable)) (stably _ within done)
-    (entry .pre .1 .1 .0) (entry .pre .1 .1 .1)
+    chargeable (regular _ _ _ _ _) (entry .pre .0) (of-stable _ _ (keys _ _ within) (done .stable))
+    (stably _ within done) (entry .pre .1 .1 .0) (entry .pre .1 .1 .1)
 
 returns : tie.Need-returns
 returns c =
@@ -34,8 +35,8 @@ returns c =
     let within = entry .pre .0 .within in
     let done = at-assign .assign-efficient .ensures in (
       done,
-      assigned (regular _ _ _ _ _) (entry .pre .0) (of-stable _ _ within (done .stable)) (stably _ within done)
-          (at-charges .charge-guests .ensures),
+      assigned (regular _ _ _ _ _) (entry .pre .0) (of-stable _ _ (keys _ _ within) (done .stable))
+          (stably _ within done) (at-charges .charge-guests .ensures),
     )
 
 pub assign-with-room-spec : {M : Type 1} → statement M

@@ -113,7 +113,8 @@ returns c =
     let entry = entry-before-held (full .before .before .before) in
     let (s-is, best-is) = entry .pre .1 .1 .1 .0 in
     into-last-free (regular _ _ _ _ _) (entry .pre .0) (entry .pre .1 .0) (entry .pre .1 .1 .0) s-is best-is
-    (entry .pre .1 .1 .1 .1) (sym (full .if1 .taken)) (closed-in-market (regular _ _ _ _ _) (at-close .close .ensures))
+    (entry .pre .1 .1 .1 .1) (sym (full .if1 .taken))
+    (closed-in-market (regular _ _ _ _ _) _ (at-close .close .ensures))
 
 returns-2 : tie.Need-returns-2
 returns-2 c =

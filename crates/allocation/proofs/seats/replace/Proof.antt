@@ -140,7 +140,7 @@ returns c =
     let (s-is, best-is) = entry .pre .1 .1 .1 .0 in
     into-last (regular _ _ _ _ _) (entry .pre .0) (entry .pre .1 .0) (entry .pre .1 .1 .0) s-is best-is
     (entry .pre .1 .1 .1 .1) (at-relink .relink .ensures) (add-one _)
-    (closed-in-market (regular _ _ _ _ _) (at-close .close .ensures))
+    (closed-in-market (regular _ _ _ _ _) _ (at-close .close .ensures))
 
 pub replace-spec : {M : Type 1} → statement M
 replace-spec =

@@ -2,7 +2,7 @@ use mathlib.Core.Path.{sym, _∙_}
 use native.Mathlib.Omega.{arith}
 use borrow.Author.Needs.{needs}
 use Rattle.model.specs.market.Market.{regular}
-use Rattle.model.specs.market.Outcome.{screened}
+use Rattle.allocation.specs.Screens.{screenedAt}
 use Rattle.allocation.specs.Efficient.{of}
 use Rattle.allocation.specs.Seating.{seating}
 use Rattle.allocation.proofs.service.Service.{turnsLeft, turns-fall, InHand, in-hand-start, in-hand-waits}
@@ -13,13 +13,13 @@ use Rattle.allocation.proofs.service.serve.Tie as tie
 abbrev Inv-loop : tie.InvT-loop
 Inv-loop asks bays amounts tickets bids cut opened x chosen₀ held₀ firsts₀ nexts₀ lasts₀ befores₀ bars₀ hand₀
     chosen held firsts nexts lasts befores bars hand =
-    InHand (regular asks bays amounts tickets bids) x hand (of chosen₀)
+    InHand (regular asks bays amounts tickets bids) (cut .0) x hand (of chosen₀)
     (seating chosen held firsts nexts lasts befores bars)
 
 abbrev μ-loop : tie.MeasureT-loop
 μ-loop asks bays amounts tickets bids cut opened x chosen₀ held₀ firsts₀ nexts₀ lasts₀ befores₀ bars₀ hand₀
     chosen held firsts nexts lasts befores bars hand =
-    turnsLeft (screened (regular asks bays amounts tickets bids)) hand (of chosen)
+    turnsLeft (screenedAt (regular asks bays amounts tickets bids) (cut .0)) hand (of chosen)
 
 abbrev entry-before-first-turn : tie.After-slice-known7 Inv-loop μ-loop → tie.Start Inv-loop μ-loop
 entry-before-first-turn p =

@@ -13,7 +13,7 @@ use Rattle.allocation.proofs.service.serve_line.Tie as tie
 abbrev Inv-loop : tie.InvT-loop
 Inv-loop asks bays amounts tickets bids cut opened line called₀ chosen₀ held₀ firsts₀ nexts₀ lasts₀ befores₀ bars₀ r₀
     called chosen held firsts nexts lasts befores bars r =
-    AllCalled (regular asks bays amounts tickets bids) (r - length amounts) called
+    AllCalled (regular asks bays amounts tickets bids) (cut .0) (r - length amounts) called
     (seating chosen held firsts nexts lasts befores bars)
 
 abbrev μ-loop : tie.MeasureT-loop

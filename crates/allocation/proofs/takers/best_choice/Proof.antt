@@ -1,19 +1,23 @@
 use Prim.Native.Nat.{ℕ, _+_, _-_, _*_, _<_}
-use mathlib.Core.Path.{refl}
+use mathlib.Core.Path.{_≡_, refl}
 use native.Mathlib.Omega.{arith}
 use lib.ListN.{length}
 use borrow.Author.Needs.{needs}
-use Rattle.model.specs.market.Market.{regular, screen, market, marketBy}
-use Rattle.model.specs.market.Outcome.{screened}
-use Rattle.allocation.specs.Efficient.{of}
+use Rattle.model.specs.market.Market.{regular}
+use Rattle.allocation.specs.Screens.{screenedAt}
+use Rattle.allocation.specs.Efficient.{Priced, of}
+use Rattle.allocation.specs.Seating.{Opened}
 use Rattle.allocation.proofs.takers.Takers.{BestSoFar, best-start, best-turn, best-end, no-choice-is, in-bids}
 use Rattle.allocation.proofs.takers.Takers.{no-choice-low, total-low, choice-here, below-cut}
 use Rattle.allocation.proofs.takers.best_choice.Statement.{statement}
 use Rattle.allocation.proofs.takers.best_choice.Tie as tie
 
+-- at the cut that the first top and the open stations are of
 abbrev Inv-loop : tie.InvT-loop
 Inv-loop asks bays amounts tickets bids opened bars x row scale ticket low top₀ q₀ top q =
-    BestSoFar (screened (regular asks bays amounts tickets bids)) (of bars) x opened top q
+    let t = regular asks bays amounts tickets bids in
+    (c : ℕ) → Priced t c → Opened asks c opened → top₀ ≡ c * scale
+    → BestSoFar (screenedAt t c) (of bars) x opened top q
 
 abbrev μ-loop : tie.MeasureT-loop
 μ-loop asks bays amounts tickets bids opened bars x row scale ticket low top₀ q₀ top q = length opened - q
@@ -61,7 +65,7 @@ mul-top c =
 loop-holds : tie.Need-loop-holds Inv-loop μ-loop
 loop-holds c =
     let entry = entry-before-row (c .before .before .before) in
-    best-start (no-choice-is (regular _ _ _ _ _) (entry .pre .0) (entry .pre .1 .1 .1) refl refl)
+    λ cut p opened e. best-start (no-choice-is (regular _ _ _ _ _) p (entry .pre .1 .1 .1) refl e)
 
 -- the station in hand is one of the market's, and open
 abbrev station : tie.In-loop Inv-loop μ-loop → ℕ
@@ -110,21 +114,21 @@ better-requires c κs =
     )
 
 loop-again : tie.Need-loop-again Inv-loop μ-loop
-unfolding screened screen market marketBy
+unfolding screenedAt
 loop-again c =
     let in-loop = c .before .before .before .before in
     let at-loop = in-loop .before in
     let entry = entry-before-loop at-loop in
-    let (here, ask) = is-station in-loop in
-    best-turn (at-loop .loop .inv) (in-loop .loop-test .taken) here
-    (below-cut (regular _ _ _ _ _) (entry .pre .0) (entry .pre .1 .1 .1) here refl ask)
-    (choice-here (regular _ _ _ _ _) (entry .pre .0) (entry .pre .1 .1 .1) here refl _ _ refl (c .better .ensures))
+    λ cut p opened e. let (here, ask) = opened .stations _ (in-loop .loop-test .taken) in
+    best-turn (at-loop .loop .inv cut p opened e) (in-loop .loop-test .taken) here
+    (below-cut (regular _ _ _ _ _) p (entry .pre .1 .1 .1) here refl ask)
+    (choice-here (regular _ _ _ _ _) p (entry .pre .1 .1 .1) here refl _ _ refl (c .better .ensures))
 
 returns : tie.Need-returns Inv-loop μ-loop
 returns c =
     let entry = entry-before-loop (c .before) in
-    best-end (regular _ _ _ _ _) (entry .pre .0) (entry .pre .1 .1 .1) (entry .pre .1 .0) (c .before .loop .inv)
-    (c .loop-test .left)
+    best-end (regular _ _ _ _ _) (entry .pre .0) (entry .pre .1 .1 .1) (entry .pre .1 .0)
+    (c .before .loop .inv _ (entry .pre .0) (entry .pre .1 .0) refl) (c .loop-test .left)
 
 pub best-choice-spec : {M : Type 1} → statement M
 best-choice-spec =

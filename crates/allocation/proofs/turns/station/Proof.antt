@@ -12,7 +12,7 @@ use Rattle.allocation.specs.Totals.{Totals, totalAt, Gathered}
 use Rattle.allocation.specs.Stages.{gatheredIf, turnTotals}
 use Rattle.allocation.proofs.ties.Ties.{crowded}
 use Rattle.allocation.proofs.turns.Turns.{offerable, all-low, none-above, top-low, critical-low}
-use Rattle.allocation.proofs.turns.Turns.{after-closed-turn}
+use Rattle.allocation.proofs.turns.Turns.{after-closed}
 use Rattle.allocation.proofs.turns.Turns.{after-open-turn}
 use Rattle.allocation.proofs.turns.station.Statement.{statement}
 use Rattle.allocation.proofs.turns.station.Tie as tie
@@ -148,8 +148,8 @@ returns-2 : tie.Need-returns-2
 unfolding turnTotals gatheredIf
 returns-2 c =
     let entry = entry-before-below (c .before) in (
-      after-closed-turn (regular _ _ _ _ _) _ _ (entry .pre .0)
-          (lt-no _ _ (sym (c .before .below .ensures) ∙ c .if1 .left)) (entry .pre .1 .1 .1),
+      after-closed (regular _ _ _ _ _) _ _ (lt-no _ _ (sym (c .before .below .ensures) ∙ c .if1 .left)) _
+          (entry .pre .1 .1 .1),
       rw (sym (c .before .below .ensures) ∙ c .if1 .left) refl,
     )
 

@@ -3,9 +3,8 @@ use native.Mathlib.Omega.{arith}
 use borrow.Author.Needs.{needs}
 use Rattle.model.specs.market.Market.{regular}
 use Rattle.model.proofs.Loops.{long}
-use Rattle.model.proofs.market.Outcomes.{of-mechanism}
 use Rattle.clearing.proofs.Answers.{cut-low, at-cut, least-at-cut, stations-count, charges-count, stations-low}
-use Rattle.clearing.proofs.Answers.{clears-accepted}
+use Rattle.clearing.proofs.Answers.{clears-accepted, of-mechanism, clears-under-rule}
 use Rattle.clearing.proofs.accepted.clear_with_room.Statement.{statement}
 use Rattle.clearing.proofs.accepted.clear_with_room.Tie as tie
 
@@ -24,7 +23,7 @@ sell-before-margin p = p .before .before .before .before .before .before
 least-charges-requires : tie.Need-least-charges-requires
 least-charges-requires c κs =
     let entry = entry-before-cut (c .before) in (
-      (entry .pre .1 .1, cut-low (regular _ _ _ _ _) _ (entry .pre .0) (c .before .cut .ensures)),
+      (entry .pre .1 .1, cut-low _ (regular _ _ _ _ _) _ (entry .pre .0) (c .before .cut .ensures)),
       entry .pre .0 .amount-most,
     )
 
@@ -33,7 +32,7 @@ assign-by-requires c κs =
     let at-least = least-before-assign c in
     let after-cut = at-least .before .before in
     let entry = entry-before-cut after-cut in (
-      at-cut (regular _ _ _ _ _) (entry .pre .0) (after-cut .cut .ensures) (at-least .least-charges .ensures),
+      at-cut _ (regular _ _ _ _ _) (entry .pre .0) (after-cut .cut .ensures) (at-least .least-charges .ensures),
       (entry .pre .1 .0 .stations-long, entry .pre .1 .0 .charges-long),
     )
 
@@ -43,11 +42,11 @@ sell-requires c κs =
     let at-least = least-before-assign (at-assign .before) in
     let entry = entry-before-cut (at-least .before .before) in
     let done = at-assign .assign-by .ensures in (
-      (stations-count (regular _ _ _ _ _) (of-mechanism _ _) done, entry .pre .0 .shape .guests-most),
+      (stations-count (regular _ _ _ _ _) _ (of-mechanism _ _ _) done, entry .pre .0 .shape .guests-most),
       (
         entry .pre .0 .amount-most,
         (
-          stations-low (regular _ _ _ _ _) (of-mechanism _ _) done (entry .pre .0),
+          stations-low (regular _ _ _ _ _) _ (of-mechanism _ _ _) done (entry .pre .0),
           (
             omega (arith, entry .pre .1 .0 .sold-long, entry .pre .0 .shape .stations-most),
             entry .pre .1 .0 .paid-long ∙ sym (entry .pre .1 .0 .sold-long),
@@ -62,7 +61,7 @@ margin-requires c κs =
     let at-assign = assign-before-sell (at-sell .before) in
     let at-least = least-before-assign (at-assign .before) in
     let entry = entry-before-cut (at-least .before .before) in
-    let many = charges-count (regular _ _ _ _ _) (of-mechanism _ _) (at-assign .assign-by .ensures) in (
+    let many = charges-count (regular _ _ _ _ _) _ (of-mechanism _ _ _) (at-assign .assign-by .ensures) in (
       long _ _ (at-least .least-charges .ensures) ∙ sym many,
       omega (arith, many, entry .pre .0 .shape .guests-most),
     )
@@ -74,11 +73,12 @@ returns c =
     let at-least = least-before-assign (at-assign .before) in
     let after-cut = at-least .before .before in
     let entry = entry-before-cut after-cut in
-    let A = at-cut (regular _ _ _ _ _) (entry .pre .0) (after-cut .cut .ensures) (at-least .least-charges .ensures)
+    let A = at-cut _ (regular _ _ _ _ _) (entry .pre .0) (after-cut .cut .ensures) (at-least .least-charges .ensures)
     in (
-      clears-accepted (regular _ _ _ _ _) (of-mechanism _ _) (at-assign .assign-by .ensures) A
-          _ _ refl (entry .pre .1 .0 .sold-long) (at-sell .sell .ensures) (c .margin .ensures),
-      least-at-cut _ A,
+      clears-under-rule _ _ (regular _ _ _ _ _) (after-cut .cut .ensures)
+          (clears-accepted (regular _ _ _ _ _) _ (of-mechanism _ _ _) (at-assign .assign-by .ensures) A
+          _ _ refl (entry .pre .1 .0 .sold-long) (at-sell .sell .ensures) (c .margin .ensures)),
+      least-at-cut _ _ A (after-cut .cut .ensures),
     )
 
 pub clear-with-room-spec : {M : Type 1} → statement M

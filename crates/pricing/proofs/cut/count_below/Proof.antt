@@ -6,7 +6,7 @@ use lib.ListN.{length, getD}
 use borrow.Author.Needs.{needs}
 use Rattle.model.specs.Counting.{_<?_, count}
 use Rattle.model.proofs.Loops.{Folded, folded-end, counted-none, count-turn, count-low}
-use Rattle.pricing.specs.MedianAsk.{under}
+use Rattle.pricing.specs.CutAsk.{under}
 use Rattle.pricing.proofs.cut.count_below.Statement.{statement}
 use Rattle.pricing.proofs.cut.count_below.Tie as tie
 

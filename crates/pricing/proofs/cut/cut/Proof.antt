@@ -4,8 +4,7 @@ use lib.ListN.{length, getD}
 use borrow.Author.Needs.{needs}
 use Rattle.model.specs.Counting.{greatest}
 use Rattle.model.proofs.Loops.{Folded, folded-end, greatest-none, greatest-turn}
-use Rattle.pricing.specs.MedianAsk.{eligible, medianAsk}
-use Rattle.pricing.proofs.cut.MedianAsk.{median-is}
+use Rattle.pricing.specs.CutAsk.{eligible, cutAsk}
 use Rattle.pricing.proofs.cut.cut.Statement.{statement}
 use Rattle.pricing.proofs.cut.cut.Tie as tie
 
@@ -24,10 +23,10 @@ loop-again c =
     greatest-turn (c .before .before .before .loop .inv) (c .before .before .loop-test .taken) refl (c .raised .ensures)
 
 returns : tie.Need-returns Inv-loop μ-loop
-unfolding medianAsk
-returns c = rw (← median-is) (folded-end (c .before .loop .inv) (c .loop-test .left))
+unfolding cutAsk
+returns c = rw (← c .before .before .position .ensures) (folded-end (c .before .loop .inv) (c .loop-test .left))
 
 pub cut-spec : {M : Type 1} → statement M
 cut-spec =
-    tie.close (tie.spec Inv-loop μ-loop (λ c. search needs) loop-holds (λ c. search needs) (λ c. search needs)
+    tie.close (tie.spec Inv-loop μ-loop (λ c κs. search needs) loop-holds (λ c. search needs) (λ c. search needs)
     (λ c κs. search needs) (λ c. search needs) (λ c. search needs) loop-again returns)

@@ -2,8 +2,8 @@ use mathlib.Core.Path.{_≡_, sym, _∙_}
 use native.Mathlib.Omega.{arith}
 use borrow.Author.Needs.{needs}
 use Rattle.model.proofs.Tests.{lt-yes, lt-no}
-use Rattle.pricing.specs.MedianAsk.{eligible}
-use Rattle.pricing.proofs.cut.MedianAsk.{eligible-yes, eligible-no}
+use Rattle.pricing.specs.CutAsk.{eligible}
+use Rattle.pricing.proofs.cut.CutAsk.{eligible-yes, eligible-no}
 use Rattle.pricing.proofs.cut.raised.Statement.{statement}
 use Rattle.pricing.proofs.cut.raised.Tie as tie
 

@@ -8,22 +8,22 @@ returns : tie.Need-returns
 unfolding pageOf outcomeIn
 returns c =
     let at-print-clearing = c .before .before in
-    let at-asked = at-print-clearing .before .before in
-    rw (at-asked .enum-told .given .1) (at-print-clearing .print-clearing .ensures)
+    let at-asked = at-print-clearing .before .before .before in
+    rw (at-asked .asked .given .1) (at-print-clearing .print-clearing .ensures)
 
 returns-2 : tie.Need-returns-2
 unfolding pageOf outcomeIn
 returns-2 c =
     let at-print-clearing = c .before .before in
-    let at-asked = at-print-clearing .before .before in
-    rw (at-asked .enum-told2 .given .1) (at-print-clearing .print-clearing2 .ensures)
+    let at-asked = at-print-clearing .before .before .before in
+    rw (at-asked .asked2 .given .1) (at-print-clearing .print-clearing2 .ensures)
 
 returns-3 : tie.Need-returns-3
 unfolding pageOf
 returns-3 c =
     let at-print-sheet = c .before .before in
     let at-asked = at-print-sheet .before .before in
-    rw (at-asked .enum-told3 .given .1) (at-print-sheet .print-sheet .ensures)
+    rw (at-asked .enum-told .given .1) (at-print-sheet .print-sheet .ensures)
 
 pub print-market-spec : {M : Type 1} → statement M
 print-market-spec =

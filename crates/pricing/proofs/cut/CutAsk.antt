@@ -1,15 +1,10 @@
 -- Laws of the cut.
-use Prim.Native.Nat.{ℕ, _+_, _/_, _≤_, _<_}
+use Prim.Native.Nat.{ℕ, _≤_, _<_}
 use mathlib.Core.List.{List}
 use mathlib.Core.Path.{_≡_}
 use native.Mathlib.Omega.{arith}
-use Rattle.model.specs.market.Market.{median}
 use Rattle.model.proofs.Tests.{only-yes, only-no, is-lt, not-lt}
-use Rattle.pricing.specs.MedianAsk.{under, eligible}
-
-pub median-is : (m : ℕ) → m / 2 + 1 ≡ median m
-unfolding median
-median-is m = omega arith
+use Rattle.pricing.specs.CutAsk.{under, eligible}
 
 pub eligible-yes : (asks : List ℕ) (p x n : ℕ) → n ≡ under asks x → n < p → eligible asks p x ≡ x
 unfolding eligible
