@@ -1,9 +1,6 @@
 pub mod Assignment
-pub mod Criticals
-pub mod Efficient
 pub mod Offers
 pub mod Screens
-pub mod Seating
 pub mod Selection
 pub mod Stages
 pub mod Ties

@@ -1,17 +1,8 @@
-// Who gets a bay where: stations take their turns, and each guest its best offer; in a quiet round guests are served
-// one at a time.
+// Who gets a bay where, in a truthful round: stations take their turns, and each guest its best offer.
 pub mod assignment;
-mod criticals;
-pub mod efficient;
-mod line;
 mod offers;
-mod opening;
-mod seats;
 mod selection;
-mod service;
-mod signed;
-mod standing;
-mod takers;
+pub mod signed;
 mod ties;
 mod totals;
 mod turns;

@@ -57,16 +57,13 @@ fn bound_by_order(totals: &[u32], tickets: &[u32], t: Mills, places: u32) -> u32
     tickets[i]
 }
 
-// The greatest ticket.
-pub const LAST_TICKET: u32 = 4_294_967_295;
-
 // The same, however tickets stand: by bisection, with a count at each step.
 fn bound_by_ticket(totals: &[u32], tickets: &[u32], t: Mills, places: u32) -> u32
     requires { ⌜ Tied (now totals) (now tickets) (t .0) places × Differ (now tickets) ⌝ }
     ensures { λ r. ⌜ tiesBelow (now (totals .entry)) (now (tickets .entry)) (t .0) r ≡ places ⌝ }
 {
     let mut low: u32 = 0;
-    let mut high = LAST_TICKET;
+    let mut high = u32::MAX;
     while low < high {
         let mid = low + (high - low) / 2;
         let n = count_ties(totals, tickets, t, mid);

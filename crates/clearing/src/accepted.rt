@@ -1,6 +1,5 @@
 // The clearing of an accepted market, by either mechanism: they differ in the assignment alone.
 use allocation::assignment;
-use allocation::efficient;
 use model::answers::Clearing;
 use model::limits::MAX_GUESTS;
 use model::mechanism::Mechanism;
@@ -10,6 +9,7 @@ use pricing::charges;
 use pricing::cut;
 use pricing::margin;
 use pricing::sales;
+use quiet::efficient;
 ghost use mathlib.Core.Path.{_≡_};
 ghost use lib.ListN.{length};
 ghost use Rattle.model.specs.claims.Meaning.{WithinLimits, RightLengths};

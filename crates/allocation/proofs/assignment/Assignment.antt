@@ -13,7 +13,6 @@ use Rattle.model.specs.market.Mechanism.{Decision, at, charge, best, truthful, 
 use Rattle.model.specs.market.Outcome.{Outcome, outcomeBy}
 use Rattle.allocation.specs.Screens.{screenedAt}
 use Rattle.model.specs.claims.Meaning.{WithinLimits}
-use Rattle.model.specs.claims.Efficient.{decidedBy}
 use Rattle.model.proofs.Tests.{only-yes, only-no, is-lt, not-lt}
 use Rattle.model.proofs.Counting.{list-cong}
 use Rattle.model.proofs.Loops.{long, element, is-list, relist, zeros, zeros-are}
@@ -22,7 +21,6 @@ use Rattle.pricing.specs.Charges.{Chargeable, chargedAt, Charged}
 use Rattle.allocation.specs.Stages.{AtCut, stationBy, gainBy, criticalBy, After, AfterIn, turnTotals, totalsAfter}
 use Rattle.allocation.specs.Stages.{Turned}
 use Rattle.allocation.specs.Assignment.{Assigned}
-use Rattle.allocation.specs.Efficient.{of, StablyAssigned}
 
 -- the turns that a loop has taken: j of them, as far as the stations go
 pub record Turning (t : Tables) (c j : ℕ) (totals₀ totals chosen gains criticals : List ℕ) : Type 0 where
@@ -86,18 +84,6 @@ truthfully t c w a = record {
   criticals-long = omega (arith, long _ _ (a .criticals-are));
   criticals-are = λ j l. element _ _ (a .criticals-are) (suc j) (omega (arith, w .shape .stations-most))
       ∙ only-yes _ _ (is-lt _ _ l);
-}
-
--- a stable assignment
-pub stably :
-    (t : Tables) {c : ℕ} {chosen criticals : List ℕ} → WithinLimits t → StablyAssigned t c chosen criticals
-    → Decided t (decidedBy (screenedAt t c) (of chosen)) chosen criticals
-unfolding at
-stably t w s = record {
-  chosen-are = is-list _ _ _ (s .chosen-long) (λ _ _. refl);
-  criticals-long = omega (arith, long _ _ (s .criticals-are));
-  criticals-are = λ j l. element _ _ (s .criticals-are) (suc j) (omega (arith, w .shape .stations-most))
-      ∙ only-yes _ _ (is-lt _ _ (omega arith));
 }
 
 module _ (t : Tables) {c : ℕ} {least chosen criticals : List ℕ} (A : AtCut t c least) {D : Decision} {o : Outcome}

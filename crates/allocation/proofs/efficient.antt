@@ -1,4 +1,0 @@
-pub mod Holding
-pub mod Moves
-pub mod Order
-pub mod Start

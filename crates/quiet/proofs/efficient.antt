@@ -1,0 +1,5 @@
+pub mod Decides
+pub mod Holding
+pub mod Moves
+pub mod Order
+pub mod Start

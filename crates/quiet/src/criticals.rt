@@ -1,0 +1,146 @@
+// The critical totals of a quiet round: at each station the greatest total that was turned away. They are raised guest
+// by guest, row by row; the rows' loop has no branch.
+use allocation::signed;
+use model::money::UnitPrice;
+ghost use Prim.Native.Nat.{suc, _+_, _*_, _^_, _<_, _≤_, max};
+ghost use mathlib.Core.Path.{_≡_};
+ghost use lib.ListN.{length};
+ghost use Rattle.model.specs.Limits.{maxStations, maxPrice, maxAmount};
+ghost use Rattle.model.specs.Counting.{_<?_, only, list};
+ghost use Rattle.model.specs.contracts.Lent.{regularOf, regularIn};
+ghost use Rattle.allocation.specs.Screens.{screenedAt};
+ghost use Rattle.allocation.specs.Totals.{maxTotal};
+ghost use Rattle.quiet.specs.Efficient.{Priced, of, Seats, criticalOf};
+ghost use Rattle.quiet.specs.Criticals.{leastRank, totalFrom, raisedBy, passedOver};
+ghost use Rattle.quiet.specs.Criticals.{Renewed, Row, Rows, Room};
+
+// A bid's rank in its row is 64 times the bid and more the lower its station: of two bids the one of greater rank
+// stands before the other.
+const BID: u32 = 64;
+
+// Half of what 32 bits hold: ranks and totals are below it.
+const HALF: u32 = 2_147_483_648;
+
+// The critical total so far, or a bid's total where its rank is not below the least that was turned away.
+fn raised(bid: u32, j: u32, amount: u32, least: u32, top: u32) -> u32
+    requires { ⌜ (bid ≤ maxPrice) × (j < maxStations) × (amount ≤ maxAmount) × (least < 2 ^ 31) × (top ≤ maxTotal) ⌝ }
+    ensures { λ r. ⌜ r ≡ max top (totalFrom least bid j amount) ⌝ }
+{
+    let rank = bid * BID + (63 - j);
+    signed::larger(top, (rank + HALF - least) / HALF * (bid * amount))
+}
+
+// Raises the critical totals of all stations by a row of bids.
+fn raise_row(bids: &[u32], row: usize, m: usize, amount: u32, least: u32, criticals: &mut [u32])
+    requires { ⌜ Row (now bids) row m ⌝ }
+    requires { ⌜ (amount ≤ maxAmount) × (least < 2 ^ 31) ⌝ }
+    requires { ⌜ Room m (now criticals) ⌝ }
+    ensures { λ _. ⌜ Renewed m (raisedBy (now (bids .entry)) row amount least (now (criticals .entry)))
+        (now (criticals .entry)) (now (criticals .exit)) ⌝ }
+{
+    let mut j = 0;
+    while j < m {
+        criticals[j + 1] = raised(bids[row + j], j as u32, amount, least, criticals[j + 1]);
+        j += 1;
+    }
+}
+
+// The least rank at which a bid of this row was turned away: above that of its guest's seat, by its number, or that of
+// the cut where it has none.
+fn least_rank(bids: &[u32], row: usize, cut: UnitPrice, seat: u32) -> u32
+    requires { ⌜ Row (now bids) row seat × (cut .0 ≤ maxPrice) ⌝ }
+    ensures { λ r. ⌜ (r ≡ leastRank (now (bids .entry)) row (cut .0) seat) × (r < 2 ^ 31) ⌝ }
+{
+    if seat == 0 {
+        return cut.0 * BID;
+    }
+    bids[row + ((seat - 1) as usize)] * BID + (65 - seat)
+}
+
+// Raises them by guest i's row.
+fn raise(
+    amounts: &[u16],
+    bids: &[u32],
+    m: usize,
+    cut: UnitPrice,
+    chosen: &[u32],
+    i: usize,
+    criticals: &mut [u32],
+)
+    requires { ⌜ Rows (now amounts) (now bids) (now chosen) m (cut .0) ⌝ }
+    requires { ⌜ i < length (now amounts) ⌝ }
+    requires { ⌜ Room m (now criticals) ⌝ }
+    ensures { λ _. ⌜ (let bids = now (bids .entry) in
+        Renewed m (raisedBy bids (i * m) (of (now (amounts .entry)) i)
+        (leastRank bids (i * m) (cut .0) (of (now (chosen .entry)) i)) (now (criticals .entry)))
+        (now (criticals .entry)) (now (criticals .exit))) ⌝ }
+{
+    let row = i * m;
+    let least = least_rank(bids, row, cut, chosen[i]);
+    raise_row(bids, row, m, amounts[i] as u32, least, criticals);
+}
+
+// Raises them from nothing by every guest's row, as if all stations were open.
+fn raise_all(
+    amounts: &[u16],
+    bids: &[u32],
+    m: usize,
+    cut: UnitPrice,
+    chosen: &[u32],
+    criticals: &mut [u32],
+)
+    requires { ⌜ Rows (now amounts) (now bids) (now chosen) m (cut .0) ⌝ }
+    requires { ⌜ (m ≤ maxStations) × (now criticals ≡ list (maxStations + 1) (λ _. 0)) ⌝ }
+    ensures { λ _. ⌜ Renewed m (passedOver (now (amounts .entry)) (now (bids .entry)) (now (chosen .entry)) m
+        (cut .0) (length (now (amounts .entry)))) (now (criticals .entry)) (now (criticals .exit)) ⌝ }
+{
+    let mut i = 0;
+    while i < amounts.len() {
+        raise(amounts, bids, m, cut, chosen, i, criticals);
+        i += 1;
+    }
+}
+
+// A critical total, or 0 where the station is closed.
+fn if_open(ask: UnitPrice, cut: UnitPrice, critical: u32) -> u32
+    ensures { λ r. ⌜ r ≡ only (ask .0 <? cut .0) critical ⌝ }
+{
+    if ask.below(cut) { critical } else { 0 }
+}
+
+// Closed stations turn nobody away.
+fn clear_closed(asks: &[u32], cut: UnitPrice, criticals: &mut [u32])
+    requires { ⌜ length (now asks) < length (now criticals) ⌝ }
+    ensures { λ _. ⌜ (let asks = now (asks .entry) in
+        Renewed (length asks) (λ j. only (of asks j <? cut .0) (of (now (criticals .entry)) (suc j)))
+        (now (criticals .entry)) (now (criticals .exit))) ⌝ }
+{
+    let mut j = 0;
+    while j < asks.len() {
+        let ask = UnitPrice(asks[j]);
+        criticals[j + 1] = if_open(ask, cut, criticals[j + 1]);
+        j += 1;
+    }
+}
+
+// The critical total of each station, at its number.
+pub fn all_criticals(
+    asks: &[u32],
+    bays: &[u16],
+    amounts: &[u16],
+    tickets: &[u32],
+    bids: &[u32],
+    cut: UnitPrice,
+    chosen: &[u32],
+    criticals: &mut [u32],
+)
+    requires { ⌜ Priced (regularOf asks bays amounts tickets bids) (cut .0) ⌝ }
+    requires { ⌜ Seats (regularOf asks bays amounts tickets bids) (cut .0) (now chosen) ⌝ }
+    requires { ⌜ now criticals ≡ list (maxStations + 1) (λ _. 0) ⌝ }
+    ensures { λ _. ⌜ (let t = regularIn asks bays amounts tickets bids in
+        now (criticals .exit)
+        ≡ list (maxStations + 1) (criticalOf (screenedAt t (cut .0)) (of (now (chosen .entry))) (length (t .asks)))) ⌝ }
+{
+    raise_all(amounts, bids, asks.len(), cut, chosen, criticals);
+    clear_closed(asks, cut, criticals);
+}
