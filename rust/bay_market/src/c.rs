@@ -1,9 +1,9 @@
 //! The functions of include/bay_market.h, where each is documented.
 //!
 //! Mind the order of arguments: `bay_market_read` takes amounts, tickets, asks, bays, bids, the others that take a market
-//! asks, bays, amounts, tickets, bids, after the rule's number where they clear. Amounts and bays have one type, tickets, asks and bids another, so the compiler
-//! cannot see a swap. `bay_market_place_bids` takes prices, falls, then the guests' first and second coordinates, then
-//! the stations'. The safe functions name each.
+//! asks, bays, amounts, tickets, bids, after the rule's number where they clear. Amounts and bays have one type, tickets,
+//! asks and bids another, so the compiler cannot see a swap. `bay_market_place_bids` takes prices, falls, then the guests'
+//! first and second coordinates, then the stations'. The safe functions name each.
 
 use crate::StationAccount;
 

@@ -194,8 +194,8 @@ pub fn clear(rule: Rule, market: &Market, results: &mut Results) -> Result<Clear
     clear_by(Mechanism::Truthful, rule, market, results)
 }
 
-/// Clears a market by a rule and the efficient mechanism, for quiet days: whoever [`clear`] seats is seated here too, and others may
-/// be. Stations keep the guarantee that truth pays best; guests lose it. Only truthful rounds are posted.
+/// Clears a market by a rule and the efficient mechanism, for quiet days: whoever [`clear`] seats is seated here too, and
+/// others may be. Stations keep the guarantee that truth pays best; guests lose it. Only truthful rounds are posted.
 ///
 /// ```
 /// use bay_market::Rule;

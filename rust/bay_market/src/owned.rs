@@ -116,8 +116,8 @@ impl Market {
         self.clear_by(rule, lent::clear)
     }
 
-    /// The efficient round by a rule, for quiet days: whoever [`clear`](Market::clear) seats is seated here too, and others may be.
-    /// Stations keep the guarantee that truth pays best; guests lose it. Only truthful rounds are posted.
+    /// The efficient round by a rule, for quiet days: whoever [`clear`](Market::clear) seats is seated here too, and others
+    /// may be. Stations keep the guarantee that truth pays best; guests lose it. Only truthful rounds are posted.
     ///
     /// ```
     /// use bay_market::{Market, Refusal, Rule};

@@ -1,5 +1,6 @@
-//! A search for a false report that pays, on small markets, both under one rule, and the limits of every outcome met on the way. In efficient
-//! rounds no station's report pays, but some guest's does; and whoever is seated in the truthful round is seated.
+//! A search for a false report that pays, on small markets, both under one rule, and the limits of every outcome met on
+//! the way. In efficient rounds no station's report pays, but some guest's does; and whoever is seated in the truthful
+//! round is seated.
 
 use crate::Tally;
 use crate::call::Mechanism;

@@ -27,7 +27,8 @@ impl Ledger {
         Ledger { guests: vec![0; guests], stations: vec![StationAccount::default(); stations], house: 0, last: 0 }
     }
 
-    /// Posts a market, cleared under the rule of a number, as a round, or answers the number of the first fault and changes nothing.
+    /// Posts a market, cleared under the rule of a number, as a round, or answers the number of the first fault and changes
+    /// nothing.
     pub fn post(&mut self, rule: u8, market: &Market, round: u32) -> Result<(), u8> {
         faults::clearing_fault(rule, market, ListLengths::of(market))?;
         let (guests, stations) = (self.guests.len(), self.stations.len());
