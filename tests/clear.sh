@@ -155,7 +155,7 @@ expect 2 '' 'clear: no such file: --quiet' './clear -- --quiet'
 # rules: asks 1 to 6, one bay each, one guest that bids 9 at station 4, which is open under rule 2 alone
 printf '\1\0\6\0' >"$work/six"
 for ask in 1 2 3 4 5 6; do
-    printf "\\$ask\\0\\0\\0\\1\\0" >>"$work/six"
+    printf '%b\0\0\0\1\0' "\\0$ask" >>"$work/six"
 done
 printf '\1\0\1\0\0\0\10\11\0\0\0' >>"$work/six"
 for first in '' '--rule 1' --quiet '--quiet --rule 1' '--rule 1 --quiet'; do
