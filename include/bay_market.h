@@ -1,6 +1,6 @@
 /*
  * The bay market: reading and writing market sheets, placing bids from parking places, clearing a market, in a truthful
- * round or in an efficient one for quiet days, posting a truthful round to a ledger.
+ * round or in an efficient one for quiet days, telling guests what decided a truthful round, posting one to a ledger.
  *
  * For x86-64 Linux: link libbay_market.a, or libbay_market.so. Both need memcpy and memset of the C library and
  * nothing else. Nothing is allocated; a call takes at most BAY_MARKET_MAX_STACK bytes of stack.
@@ -14,9 +14,9 @@
  * Calls share no state, so threads may call at the same time on different memory.
  *
  * MIND THE ORDER OF ARGUMENTS. bay_market_read takes amounts, tickets, asks, bays, bids, as the sheet's reader fills
- * them; bay_market_write, bay_market_clear, bay_market_clear_efficient and bay_market_post take asks, bays, amounts,
- * tickets, bids, the last three after the rule's number. Amounts and bays have one type, tickets, asks and bids
- * another, so a compiler cannot see a swap.
+ * them; bay_market_write, bay_market_clear, bay_market_clear_efficient, bay_market_explain and bay_market_post take
+ * asks, bays, amounts, tickets, bids, the last four after the rule's number. Amounts and bays have one type, tickets,
+ * asks and bids another, so a compiler cannot see a swap.
  * bay_market_place_bids takes prices, falls, then the guests' first and second coordinates, then the stations'.
  *
  * Prices are in mills (thousandths of the currency unit) per kWh, charges and payments in mills,
@@ -55,6 +55,28 @@ extern "C" {
  */
 #define BAY_MARKET_RULE_MEDIAN 1
 #define BAY_MARKET_RULE_TWO_THIRDS 2
+
+/* What decided about a guest at a station (bay_market_explain): the first of 1 to 4 that applies, else 0. */
+enum bay_market_code {
+    BAY_MARKET_HELD = 0,      /* the guest holds a place there, seated there or elsewhere */
+    BAY_MARKET_NO_BID = 1,    /* its bid there is 0 */
+    BAY_MARKET_NOT_OPEN = 2,  /* the station's ask is not below the cut */
+    BAY_MARKET_BELOW_CUT = 3, /* its bid there is below the cut */
+    BAY_MARKET_OUTBID = 4     /* it is a candidate there without a place */
+};
+
+/* What a code says. */
+static inline const char *bay_market_code_text(uint8_t code)
+{
+    switch (code) {
+    case BAY_MARKET_HELD: return "place held";
+    case BAY_MARKET_NO_BID: return "no bid";
+    case BAY_MARKET_NOT_OPEN: return "station not open";
+    case BAY_MARKET_BELOW_CUT: return "bid below the cut";
+    case BAY_MARKET_OUTBID: return "outbid";
+    default: return "not a code of the engine";
+    }
+}
 
 /* scripts/refusals writes what follows from refusals.txt */
 enum bay_market_refusal {
@@ -210,6 +232,27 @@ uint8_t bay_market_clear_efficient(uint8_t rule,
                                    uint32_t *sold, size_t sold_len,
                                    uint64_t *paid, size_t paid_len,
                                    uint32_t *cut, uint64_t *margin);
+
+/*
+ * Tells each guest what decided the truthful round of that rule, the one of bay_market_clear; an efficient round has no
+ * codes. codes[i * m + j] is the code of guest i at station j, both from 0 (enum bay_market_code): row after row as the
+ * bids. A guest's outcome stands in three lists: a win has its station and its charge, as bay_market_clear gives them,
+ * and reason 0; a loss has station 0, charge 0 and as its reason the highest code of the guest's row, 1 to 4.
+ *
+ * Refusals in this order: 18, 2 and 5 as in clearing; 10 where codes_len is not n times m or stations_len, charges_len
+ * or reasons_len is not n; then 6 to 9 and 15 as in clearing.
+ */
+uint8_t bay_market_explain(uint8_t rule,
+                           const uint32_t *asks, size_t asks_len,
+                           const uint16_t *bays, size_t bays_len,
+                           const uint16_t *amounts, size_t amounts_len,
+                           const uint32_t *tickets, size_t tickets_len,
+                           const uint32_t *bids, size_t bids_len,
+                           size_t width,
+                           uint8_t *codes, size_t codes_len,
+                           uint16_t *stations, size_t stations_len,
+                           uint32_t *charges, size_t charges_len,
+                           uint8_t *reasons, size_t reasons_len);
 
 /*
  * Clears a market as bay_market_clear does, in a truthful round by the rule of that number, and posts it to the ledger

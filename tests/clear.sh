@@ -70,6 +70,39 @@ expect 0 "$quiet" '' './clear --quiet -- examples/table_i.sheet'
 expect 0 "$(cat examples/case_e.txt)" '' './clear --quiet examples/case_e.sheet'
 expect 1 "$(cat examples/refused.txt)" '' './clear --quiet examples/refused.sheet'
 
+# what decided: wins and losses of Table I and case E
+why='guest 1 wins station 4 charge 15
+guest 2 loses: bid below the cut
+guest 3 wins station 2 charge 18
+guest 4 loses: outbid
+guest 5 loses: outbid'
+expect 0 "$why" '' './clear --why examples/table_i.sheet'
+expect 0 "$why" '' './clear --why <examples/table_i.sheet'
+expect 0 "$why" '' 'cat examples/table_i.sheet | ./clear --why -'
+expect 0 "$why" '' './clear --why -- examples/table_i.sheet'
+expect 0 $'guest 1 wins station 1 charge 24\nguest 2 loses: outbid' '' './clear --why examples/case_e.sheet'
+expect 1 "$(cat examples/refused.txt)" '' './clear --why examples/refused.sheet'
+# two stations that ask 1 and 3, and four guests with each kind of row; without its guests nothing is told
+{
+    printf '\4\0\2\0\1\0\0\0\1\0\3\0\0\0\1\0'
+    printf '\1\0\1\0\0\0\0'
+    printf '\1\0\2\0\0\0\2\11\0\0\0'
+    printf '\1\0\3\0\0\0\3\2\0\0\0\11\0\0\0'
+    printf '\1\0\4\0\0\0\1\5\0\0\0'
+} >"$work/reasons"
+reasons='guest 1 loses: no bid
+guest 2 loses: station not open
+guest 3 loses: bid below the cut
+guest 4 wins station 1 charge 3'
+expect 0 "$reasons" '' "./clear --why $work/reasons"
+{
+    printf '\0\0'
+    head -c 16 "$work/reasons" | tail -c 14
+} >"$work/nobody"
+expect 0 $'cut 3\nstation 1 *' '' "./clear $work/nobody"
+expect 0 '' '' "./clear --why $work/nobody"
+[ ! -s "$work/out" ]
+
 # case E with a set bit for a bid of 0: the same clearing, and 4 bytes more than are written
 {
     head -c 33 examples/case_e.sheet
@@ -94,6 +127,8 @@ expect 1 'refused 15' '' "./clear $work/equal"
 expect 1 'refused 15' '' "./clear --write $work/equal"
 expect 0 $'cut 6\nguest 1 station 0 charge 0\nguest 2 station 1 charge 24\n*' '' "./clear --quiet $work/tickets"
 expect 1 'refused 15' '' "./clear --quiet $work/equal"
+expect 0 $'guest 1 loses: outbid\nguest 2 wins station 1 charge 24' '' "./clear --why $work/tickets"
+expect 1 'refused 15' '' "./clear --why $work/equal"
 
 # the largest sheet, a byte more, and no byte
 {
@@ -117,6 +152,9 @@ expect 1 'refused 1' '' './clear --write </dev/null'
 expect 0 $'cut 1\n*' '' "./clear --quiet $work/largest"
 expect 1 'refused 4' '' "{ cat $work/largest; printf x; } | ./clear --quiet"
 expect 1 'refused 1' '' './clear --quiet </dev/null'
+expect 0 $'guest 1 loses: station not open\n*guest 200 loses: station not open' '' "./clear --why $work/largest"
+expect 1 'refused 4' '' "{ cat $work/largest; printf x; } | ./clear --why"
+expect 1 'refused 1' '' './clear --why </dev/null'
 # all its bids 0
 {
     cat "$work/stations"
@@ -143,14 +181,21 @@ expect 2 '' 'clear: no such file: nofile' './clear --write nofile'
 expect 2 '' 'clear: no such file: --write' './clear -- --write'
 expect 2 '' 'clear: a folder, not a file: examples' './clear --write examples'
 expect 0 'usage: ./clear*--quiet*' '' './clear --quiet --help'
-expect 2 '' 'clear: only one of --quiet and --write*' './clear --quiet --write examples/case_e.sheet'
-expect 2 '' 'clear: only one of --quiet and --write*' './clear --write --quiet examples/case_e.sheet'
-expect 2 '' 'clear: only one of --quiet and --write*' './clear --quiet --quiet examples/case_e.sheet'
+for two in '--quiet --write' '--write --quiet' '--quiet --quiet' '--why --write' '--write --why' '--quiet --why' \
+    '--why --quiet' '--why --why' '--why --rule 2 --quiet'; do
+    expect 2 '' 'clear: only one of --quiet, --why and --write*' "./clear $two examples/case_e.sheet"
+done
 expect 2 '' 'clear: no such option: -x*' './clear --quiet -x'
 expect 2 '' 'clear: more than one FILE*' './clear --quiet a b'
 expect 2 '' 'clear: more than one FILE*' './clear examples/case_e.sheet --quiet'
 expect 2 '' 'clear: no such file: nofile' './clear --quiet nofile'
 expect 2 '' 'clear: no such file: --quiet' './clear -- --quiet'
+expect 0 'usage: ./clear*--why*' '' './clear --why --help'
+expect 2 '' 'clear: no such option: -x*' './clear --why -x'
+expect 2 '' 'clear: more than one FILE*' './clear --why a b'
+expect 2 '' 'clear: more than one FILE*' './clear examples/case_e.sheet --why'
+expect 2 '' 'clear: no such file: nofile' './clear --why nofile'
+expect 2 '' 'clear: no such file: --why' './clear -- --why'
 
 # rules: asks 1 to 6, one bay each, one guest that bids 9 at station 4, which is open under rule 2 alone
 printf '\1\0\6\0' >"$work/six"
@@ -165,9 +210,16 @@ for second in '--rule 2' '--quiet --rule 2' '--rule 2 --quiet'; do
     expect 0 $'cut 5\nguest 1 station 4 charge 5\n*station 4 sold 1 paid 5\n*' '' "./clear $second $work/six"
     expect 0 $'cut 5\nguest 1 station 4 charge 5\n*' '' "./clear $second <$work/six"
 done
+for first in --why '--why --rule 1' '--rule 1 --why'; do
+    expect 0 'guest 1 loses: station not open' '' "./clear $first $work/six"
+done
+for second in '--why --rule 2' '--rule 2 --why'; do
+    expect 0 'guest 1 wins station 4 charge 5' '' "./clear $second $work/six"
+    expect 0 'guest 1 wins station 4 charge 5' '' "./clear $second <$work/six"
+done
 expect 0 "$(cat examples/table_i.txt)" '' './clear --rule 1 examples/table_i.sheet'
 expect 1 "$(cat examples/refused.txt)" '' './clear --rule 2 examples/refused.sheet'
-for wrong in 0 3 255 12 x "''" --quiet; do
+for wrong in 0 3 255 12 x "''" --quiet --why; do
     expect 2 '' 'clear: no such rule: *' "./clear --rule $wrong examples/case_e.sheet"
 done
 expect 2 '' 'clear: no such rule: none*' './clear --rule'
@@ -192,6 +244,12 @@ expect 3 '' 'clear: cannot write standard output' './clear --write examples/refu
 expect 3 '' 'clear: cannot read standard input' './clear --quiet </'
 expect 3 '' 'clear: cannot write standard output' './clear --quiet examples/full.sheet >/dev/full'
 expect 3 '' 'clear: cannot write standard output' './clear --quiet examples/refused.sheet >/dev/full'
+expect 3 '' 'clear: cannot read standard input' './clear --why </'
+expect 3 '' 'clear: cannot read standard input' './clear --why <&-'
+expect 3 '' 'clear: cannot read /proc/self/mem' './clear --why /proc/self/mem'
+expect 3 '' 'clear: cannot write standard output' './clear --why examples/full.sheet >/dev/full'
+expect 3 '' 'clear: cannot write standard output' './clear --why examples/case_e.sheet >&-'
+expect 3 '' 'clear: cannot write standard output' './clear --why examples/refused.sheet >/dev/full'
 expect_sheet examples/case_e.sheet './clear --write examples/case_e.sheet 2>&-'
 expect_sheet examples/case_e.sheet './clear --write examples/case_e.sheet <&-'
 expect 0 "$(cat examples/case_e.txt)" '' './clear examples/case_e.sheet 2>&-'
@@ -201,9 +259,11 @@ program=$(scripts/current)/clear
 expect 3 '' 'clear: cannot write standard output' "$program <examples/case_e.sheet >/dev/full; exit 3"
 expect 3 '' 'clear: cannot write standard output' "$program --write <examples/case_e.sheet >/dev/full; exit 3"
 expect 3 '' 'clear: cannot write standard output' "$program --quiet <examples/case_e.sheet >/dev/full; exit 3"
+expect 3 '' 'clear: cannot write standard output' "$program --why <examples/case_e.sheet >/dev/full; exit 3"
 for arguments in -- --writ --write1 --writes.. --quie --quiet1 --quiets.. "''" - '--quiet --write' '--write --quiet' --rule \
     '--rule 0' '--rule 3' '--rule 12' '--rule x' '--rules 2' '--rule 2 --quiet' '--quiet --rule' '--quiet --rule 3' \
-    '--write --rule 2' '--rule 2 --write' '--quiet --rule 2 x'; do
+    '--write --rule 2' '--rule 2 --write' '--quiet --rule 2 x' --wh --why1 --whys.. '--why --write' '--why --quiet' \
+    '--quiet --why' '--why --why' '--rule 2 --why' '--why --rule' '--why --rule 3' '--why --rule 2 x'; do
     expect 3 '' 'clear: no such argument' "$program $arguments <examples/case_e.sheet; exit 3"
 done
 if [ "$(id -u)" != 0 ]; then
@@ -224,6 +284,7 @@ expect 0 "$case_e" '' "cd .. && CDPATH=$root $(basename "$root")/clear $root/exa
 if command -v script >/dev/null; then
     expect 0 "$(cat examples/table_i.txt)" '' "script -qec ./clear /dev/null </dev/null | tr -d '\r'"
     expect 0 "$quiet" '' "script -qec './clear --quiet' /dev/null </dev/null | tr -d '\r'"
+    expect 0 "$why" '' "script -qec './clear --why' /dev/null </dev/null | tr -d '\r'"
     expect_sheet examples/table_i.sheet "script -qec './clear --write >$work/sample' /dev/null </dev/null; cat $work/sample"
     expect 2 'clear: a sheet is bytes and not for a terminal*' '' \
         "script -qec './clear --write examples/case_e.sheet' /dev/null </dev/null"
@@ -245,7 +306,14 @@ for program in 'kill -9 $$' 'exit 1' 'echo oops >&2'; do
     expect 3 '' 'clear: the program failed: *' "$copy/clear $copy/examples/case_e.sheet"
     expect 3 '' 'clear: the program failed: *' "$copy/clear --write $copy/examples/case_e.sheet"
     expect 3 '' 'clear: the program failed: *' "$copy/clear --quiet $copy/examples/case_e.sheet"
+    expect 3 '' 'clear: the program failed: *' "$copy/clear --why $copy/examples/case_e.sheet"
 done
+# one that prints another page than was asked for
+printf '#!/bin/sh\necho cut 6\n' >"$copy/prebuilt/x86_64-linux/clear"
+expect 3 '' 'clear: the program failed: *' "$copy/clear --why $copy/examples/case_e.sheet"
+printf '#!/bin/sh\necho guest 1 loses: outbid\n' >"$copy/prebuilt/x86_64-linux/clear"
+expect 3 '' 'clear: the program failed: *' "$copy/clear $copy/examples/case_e.sheet"
+expect 3 '' 'clear: the program failed: *' "$copy/clear --quiet $copy/examples/case_e.sheet"
 # one that stops inside the sheet, and one that writes a text
 for program in "head -c 20 $root/examples/case_e.sheet; kill -9 \$\$" 'echo cut 6'; do
     printf '#!/bin/sh\n%s\n' "$program" >"$copy/prebuilt/x86_64-linux/clear"

@@ -10,7 +10,7 @@ seed=20261115
 rm -rf "$wrong"
 mkdir -p "$wrong"
 (cd "$wrong" && ar x "$real/libbay_market.a")
-for function in read write place_bids clear clear_efficient post; do
+for function in read write place_bids clear clear_efficient explain post; do
     objcopy --redefine-sym "bay_market_$function=real_bay_market_$function" "$wrong/bay_market.o"
 done
 gcc -std=c11 -O1 -Wall -Wextra -Werror -fPIC -Iinclude -c tests/wrong_engine.c -o "$wrong/wrong_engine.o"
@@ -33,7 +33,7 @@ finds() {
     found=$((found + 1))
 }
 
-for part in read write trip place_bids clear clear_efficient post truth truth_efficient; do
+for part in read write trip place_bids clear clear_efficient explain facts post truth truth_efficient; do
     BAY_MARKET_FAULT='' "$compare" $seed $part >/dev/null
 done
 # what has the faults of efficient clearing is right without one
@@ -44,7 +44,7 @@ lists() {
     case $1 in
     read) echo sheet ;;
     place_bids) echo prices falls guest_first guest_second station_first station_second ;;
-    write | clear | clear_efficient | post) echo asks bays amounts tickets bids ;;
+    write | clear | clear_efficient | explain | post) echo asks bays amounts tickets bids ;;
     esac
 }
 filled() {
@@ -53,6 +53,7 @@ filled() {
     write) echo sheet ;;
     place_bids) echo bids ;;
     clear | clear_efficient) echo stations charges sold paid ;;
+    explain) echo codes stations charges reasons ;;
     post) echo guests stations ;;
     esac
 }
@@ -64,12 +65,14 @@ numbers() {
     post) echo house last ;;
     esac
 }
-for function in read write place_bids clear clear_efficient post; do
+# the types that own what guests are told take no other code, station, charge or reason than there is
+no_such='the engine gave'
+for function in read write place_bids clear clear_efficient explain post; do
     for way in c slices owned; do
-        finds "$function answer" 'differs' $function $way
+        finds "$function answer" "differs|$no_such" $function $way
         finds "$function number" 'differs' $function $way
         for part in $(filled $function) $(numbers $function); do
-            finds "$function $part first accepted" 'differ' $function $way
+            finds "$function $part first accepted" "differ|$no_such" $function $way
         done
     done
     for part in $(lists $function) $(filled $function); do
@@ -105,10 +108,10 @@ for way in c slices owned; do
 done
 # faults of tickets
 for way in c slices owned; do
-    for function in clear clear_efficient post; do
+    for function in clear clear_efficient explain post; do
         finds "$function higher" 'differ' $function $way
     done
-    for function in write clear clear_efficient post; do
+    for function in write clear clear_efficient explain post; do
         finds "$function equal" 'answered 0, expected 15|owned [a-z]+ differs' $function $way
         finds "$function repeat-early" 'answered 15, expected 9|owned [a-z]+ differs' $function $way
     done
@@ -124,7 +127,7 @@ for way in c slices; do
     finds 'write repeat-late' 'answered 14, expected 15' write $way
 done
 # faults of the rule; the types know no other rule than two
-for function in clear clear_efficient post; do
+for function in clear clear_efficient explain post; do
     for way in c slices owned; do
         finds "$function first" 'differ|answered 0, expected 18' $function $way
         finds "$function second" 'differ' $function $way
@@ -136,6 +139,38 @@ done
 for way in c slices owned; do
     for fault in truthful rising far later skipped last unseated full no-floor untouched; do
         finds "clear_efficient $fault" 'differ' clear_efficient $way
+    done
+done
+# faults of telling; the types that own their lists make them
+for way in c slices owned; do
+    for fault in cut-first open-first bid-late at-cut open seated excused bay lowest first-code told charge no-floor quiet \
+        transposed untouched; do
+        finds "explain $fault" "(codes|stations|charges|reasons) differ|owned explanation differs|$no_such" explain $way
+    done
+    for fault in cut-first open-first bid-late at-cut open; do
+        finds "explain $fault" 'has code [0-9] at station [0-9]+, which is not so' facts $way
+    done
+    for fault in seated excused bay; do
+        finds "explain $fault" "places are held at station|loses by 0|$no_such" facts $way
+    done
+    for fault in lowest first-code; do
+        finds "explain $fault" 'loses by [0-9], and its highest code is [0-9]' facts $way
+    done
+    for fault in charge no-floor quiet; do
+        finds "explain $fault" "is told station [0-9]+ charge [0-9]+, cleared|$no_such" facts $way
+    done
+    finds 'explain told' "wins at a place that is not held, or with reason|$no_such" facts $way
+    finds 'explain higher' 'is told station|before a holder' facts $way
+    finds 'explain transposed' 'which is not so|loses by|wins at a place' facts $way
+    finds 'explain answer' 'answered 5, expected 0' facts $way
+done
+for way in c slices; do
+    finds 'explain kept' 'stations differ' explain $way
+    finds 'explain list-late' 'answered 6, expected 10' explain $way
+    finds 'explain list-early' 'answered 10, expected 5' explain $way
+    for list in codes stations charges reasons; do
+        finds "explain $list long taken" 'answered 0, expected 10' explain $way
+        finds "explain $list short taken" 'answered 0, expected 10' explain $way
     done
 done
 # faults of placing; the types that own their lists have both coordinates of a cell, and make the bid table
@@ -171,7 +206,8 @@ finds 'clear_efficient sold first accepted' 'sold other kWh' truth_efficient
 
 export BAY_MARKET_PROGRAM=$PWD/tests/wrong_program BAY_MARKET_REAL=$real/clear
 BAY_MARKET_FAULT='' "$compare" $seed print >/dev/null
-for fault in text refusal repeat stderr line status quiet truthful rule sheet byte refused-sheet repeat-sheet; do
+for fault in text refusal repeat stderr line status quiet truthful rule sheet byte refused-sheet repeat-sheet why \
+    why-rule why-refusal why-clearing why-empty; do
     finds $fault 'differs' print
 done
 status=0

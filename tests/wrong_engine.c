@@ -19,6 +19,26 @@
  *   clear_efficient full         a full station seats one guest more
  *   clear_efficient no-floor     charges are cut times amount, whatever the floor
  *   clear_efficient untouched    the result lists stay as they were
+ *   explain cut-first            3 goes before 2: a bid below the cut where the station is not open
+ *   explain open-first           2 goes before 1: no bid where the station is not open
+ *   explain bid-late             3 goes before 1: no bid where the station is open
+ *   explain at-cut               a candidate that is outbid with a bid at the cut is below it
+ *   explain open                 a station that asks the cut is open
+ *   explain seated               a seated guest's other places are outbid
+ *   explain excused              a seated guest is outbid nowhere
+ *   explain bay                  of the guests that are outbid at a station the first by number is shown a place
+ *   explain lowest               a loss has the lowest code of its row
+ *   explain first-code           a loss has the first code of its row
+ *   explain told                 a win has the highest code of its row as its reason
+ *   explain charge               a seated guest's charge is that of another place it holds
+ *   explain no-floor             a charge is cut times amount, whatever the floor
+ *   explain quiet                stations and charges are those of the efficient round
+ *   explain transposed           the codes stand station after station
+ *   explain untouched            the lists stay as they were
+ *   explain kept                 the outcome of a loss is not written but for its reason
+ *   explain list-late            10 comes after 6
+ *   explain list-early           10 goes before 5
+ *   explain LIST WAY taken       a list that alone is too long or too short is taken
  *   FUNCTION equal               equal tickets are accepted; of a market, as the next two
  *   FUNCTION repeat-early        15 goes before 9
  *   FUNCTION repeat-late         15 comes after 13 or 14, the next refusal of a posting or a writing
@@ -61,6 +81,8 @@ uint8_t REAL(bay_market_write)(MARKET_TYPES, uint8_t *, size_t, size_t *);
     uint64_t *
 uint8_t REAL(bay_market_clear)(uint8_t, MARKET_TYPES, RESULT_TYPES);
 uint8_t REAL(bay_market_clear_efficient)(uint8_t, MARKET_TYPES, RESULT_TYPES);
+uint8_t REAL(bay_market_explain)(uint8_t, MARKET_TYPES, uint8_t *, size_t, uint16_t *, size_t, uint32_t *, size_t,
+                                 uint8_t *, size_t);
 uint8_t REAL(bay_market_post)(uint8_t, MARKET_TYPES, uint32_t, uint64_t *, size_t,
                               struct bay_market_station_account *, size_t, uint64_t *, uint32_t *);
 uint8_t REAL(bay_market_place_bids)(const uint32_t *, size_t, const uint32_t *, size_t, const uint16_t *, size_t,
@@ -512,6 +534,239 @@ uint8_t bay_market_clear_efficient(uint8_t rule, MARKET_PARAMETERS, RESULT_PARAM
     return SPOIL("clear_efficient", answer, parts);
 }
 
+static int above16(const uint16_t *list, size_t count, uint16_t most)
+{
+    for (size_t i = 0; i < count; i++) {
+        if (list[i] > most) {
+            return 1;
+        }
+    }
+    return 0;
+}
+
+static int above32(const uint32_t *list, size_t count, uint32_t most)
+{
+    for (size_t i = 0; i < count; i++) {
+        if (list[i] > most) {
+            return 1;
+        }
+    }
+    return 0;
+}
+
+/* A list's length, and the one that it should have. */
+struct fit {
+    const char *name;
+    size_t length, wanted;
+};
+
+/* The fault's list, and no other, is too long or too short, as the fault says. */
+static int taken(char words[4][16], const struct fit *lists, size_t count)
+{
+    int taken = 0;
+
+    for (size_t i = 0; i < count; i++) {
+        const char *way = lists[i].length > lists[i].wanted ? "long" : "short";
+        if (lists[i].length == lists[i].wanted) {
+            continue;
+        }
+        if (strcmp(words[1], lists[i].name) != 0 || strcmp(words[2], way) != 0 || strcmp(words[3], "taken") != 0) {
+            return 0;
+        }
+        taken = 1;
+    }
+    return taken;
+}
+
+/* What an explanation is lent besides: parameters, arguments, parts. */
+#define TOLD_PARAMETERS uint8_t *codes, size_t codes_len, uint16_t *stations, size_t stations_len, \
+    uint32_t *charges, size_t charges_len, uint8_t *reasons, size_t reasons_len
+#define TOLD codes, codes_len, stations, stations_len, charges, charges_len, reasons, reasons_len
+#define TOLD_LISTS LIST(codes), LIST(stations), LIST(charges), LIST(reasons)
+
+/* The code of a guest at a station, with a fault; `code` is the right one. */
+static uint8_t wrong_code(const char *wrong, uint8_t code, uint32_t bid, uint32_t ask, uint32_t cut, int seated_there,
+                          int seated)
+{
+    if (strcmp(wrong, "cut-first") == 0 && code == BAY_MARKET_NOT_OPEN && bid < cut) {
+        return BAY_MARKET_BELOW_CUT;
+    }
+    if (strcmp(wrong, "open-first") == 0 && code == BAY_MARKET_NO_BID && ask >= cut) {
+        return BAY_MARKET_NOT_OPEN;
+    }
+    if (strcmp(wrong, "bid-late") == 0 && code == BAY_MARKET_NO_BID && ask < cut) {
+        return BAY_MARKET_BELOW_CUT;
+    }
+    if (strcmp(wrong, "at-cut") == 0 && code == BAY_MARKET_OUTBID && bid == cut) {
+        return BAY_MARKET_BELOW_CUT;
+    }
+    if (strcmp(wrong, "open") == 0 && code == BAY_MARKET_NOT_OPEN && ask == cut) {
+        return bid < cut ? BAY_MARKET_BELOW_CUT : BAY_MARKET_OUTBID;
+    }
+    if (strcmp(wrong, "seated") == 0 && code == BAY_MARKET_HELD && !seated_there) {
+        return BAY_MARKET_OUTBID;
+    }
+    if (strcmp(wrong, "excused") == 0 && code == BAY_MARKET_OUTBID && seated) {
+        return BAY_MARKET_HELD;
+    }
+    return code;
+}
+
+/* Shows the first guest that is outbid at each station a place. */
+static void one_bay_more(uint8_t *codes, size_t n, size_t m)
+{
+    for (size_t j = 0; j < m; j++) {
+        for (size_t i = 0; i < n; i++) {
+            if (codes[i * m + j] == BAY_MARKET_OUTBID) {
+                codes[i * m + j] = BAY_MARKET_HELD;
+                break;
+            }
+        }
+    }
+}
+
+/* The charge of a holder at a station, from 0: the floor is the greatest total of those that are outbid there. */
+static uint32_t charge_at(size_t j, uint32_t least, const uint8_t *codes, size_t m, const uint16_t *amounts, size_t n,
+                          const uint32_t *bids)
+{
+    uint32_t charge = least;
+
+    for (size_t i = 0; i < n; i++) {
+        uint32_t total = bids[i * m + j] * amounts[i];
+        if (codes[i * m + j] == BAY_MARKET_OUTBID && total > charge) {
+            charge = total;
+        }
+    }
+    return charge;
+}
+
+/* The reason of a guest with this row of codes that wins or loses, with a fault. */
+static uint8_t wrong_reason(const char *wrong, int wins, const uint8_t *row, size_t m)
+{
+    uint8_t lowest = row[0], highest = row[0];
+
+    for (size_t j = 1; j < m; j++) {
+        lowest = row[j] < lowest ? row[j] : lowest;
+        highest = row[j] > highest ? row[j] : highest;
+    }
+    if (wins) {
+        return strcmp(wrong, "told") == 0 ? highest : 0;
+    }
+    return strcmp(wrong, "lowest") == 0 ? lowest : strcmp(wrong, "first-code") == 0 ? row[0] : highest;
+}
+
+/* Spoils what an accepted market's guests are told: charges, codes, and the reasons with them. */
+static void tell_wrong(const char *wrong, uint8_t rule, MARKET_PARAMETERS, TOLD_PARAMETERS)
+{
+    static uint8_t turned[BAY_MARKET_MAX_BIDS];
+    const size_t n = amounts_len, m = asks_len;
+    uint16_t seats[BAY_MARKET_MAX_GUESTS];
+    uint32_t charged[BAY_MARKET_MAX_GUESTS], sold[BAY_MARKET_MAX_STATIONS], cut;
+    uint64_t paid[BAY_MARKET_MAX_STATIONS], margin;
+
+    (void)codes_len, (void)reasons_len;
+    REAL(bay_market_clear)(rule, MARKET(tickets), seats, n, charged, n, sold, m, paid, m, &cut, &margin);
+    if (strcmp(wrong, "quiet") == 0) {
+        REAL(bay_market_clear_efficient)(rule, MARKET(tickets), stations, stations_len, charges, charges_len, sold, m,
+                                         paid, m, &cut, &margin);
+    }
+    for (size_t i = 0; i < n; i++) {
+        if (seats[i] != 0 && strcmp(wrong, "no-floor") == 0) {
+            charges[i] = cut * amounts[i];
+        }
+        for (size_t j = 0; seats[i] != 0 && strcmp(wrong, "charge") == 0 && j < m; j++) {
+            if (codes[i * m + j] == BAY_MARKET_HELD && j + 1 != seats[i]) {
+                charges[i] = charge_at(j, cut * amounts[i], codes, m, amounts, n, bids);
+            }
+        }
+    }
+    for (size_t i = 0; i < n; i++) {
+        for (size_t j = 0; j < m; j++) {
+            codes[i * m + j] = wrong_code(wrong, codes[i * m + j], bids[i * m + j], asks[j], cut, seats[i] == j + 1,
+                                          seats[i] != 0);
+        }
+    }
+    if (strcmp(wrong, "bay") == 0) {
+        one_bay_more(codes, n, m);
+    }
+    for (size_t i = 0; i < n; i++) {
+        reasons[i] = wrong_reason(wrong, stations[i] != 0, codes + i * m, m);
+    }
+    if (strcmp(wrong, "transposed") == 0) {
+        memcpy(turned, codes, n * m);
+        for (size_t i = 0; i < n * m; i++) {
+            codes[i % m * n + i / m] = turned[i];
+        }
+    }
+}
+
+/* An accepted call whose lists stay as they were, or with `kept` those of stations and charges where a guest loses. */
+static uint8_t not_told(int kept, uint8_t rule, MARKET_PARAMETERS, TOLD_PARAMETERS)
+{
+    static uint8_t codes_apart[BAY_MARKET_MAX_BIDS], reasons_apart[BAY_MARKET_MAX_GUESTS];
+    uint16_t seats[BAY_MARKET_MAX_GUESTS];
+    uint32_t charged[BAY_MARKET_MAX_GUESTS];
+    uint8_t answer = REAL(bay_market_explain)(rule, MARKET(tickets), kept ? codes : codes_apart, codes_len, seats,
+                                              stations_len, charged, charges_len, kept ? reasons : reasons_apart,
+                                              reasons_len);
+
+    for (size_t i = 0; answer == 0 && kept && i < amounts_len; i++) {
+        if (seats[i] != 0) {
+            stations[i] = seats[i];
+            charges[i] = charged[i];
+        }
+    }
+    return answer;
+}
+
+/* The answer with 10 out of its place or not given. */
+static uint8_t list_out_of_place(char words[4][16], uint8_t answer, const uint32_t *asks, size_t m,
+                                 const struct fit *lists, size_t count)
+{
+    int fits = 1;
+
+    for (size_t i = 0; i < count; i++) {
+        fits = fits && lists[i].length == lists[i].wanted;
+    }
+    if (answer == BAY_MARKET_LENT_LENGTHS && taken(words, lists, count)) {
+        return BAY_MARKET_ACCEPTED;
+    }
+    if (strcmp(words[1], "list-late") == 0 && answer == BAY_MARKET_LENT_LENGTHS
+        && above32(asks, m, BAY_MARKET_MAX_PRICE)) {
+        return BAY_MARKET_ASK_OUT_OF_RANGE;
+    }
+    if (strcmp(words[1], "list-early") == 0 && answer == BAY_MARKET_LENGTHS_DIFFER && !fits) {
+        return BAY_MARKET_LENT_LENGTHS;
+    }
+    return answer;
+}
+
+uint8_t bay_market_explain(uint8_t rule, MARKET_PARAMETERS, TOLD_PARAMETERS)
+{
+    const size_t n = amounts_len, m = asks_len;
+    const struct part parts[] = {MARKET_LISTS, TOLD_LISTS};
+    const struct fit lists[] = {{"codes", codes_len, n * m}, {"stations", stations_len, n}, {"charges", charges_len, n},
+                                {"reasons", reasons_len, n}};
+    const uint32_t *seen = others("explain", tickets, tickets_len);
+    char words[4][16];
+    uint8_t answer;
+
+    rule = other_rule("explain", rule, asks_len);
+    if (!fault("explain", words)) {
+        return REAL(bay_market_explain)(rule, MARKET(tickets), TOLD);
+    }
+    if (strcmp(words[1], "untouched") == 0 || strcmp(words[1], "kept") == 0) {
+        return not_told(strcmp(words[1], "kept") == 0, rule, MARKET(tickets), TOLD);
+    }
+    answer = REAL(bay_market_explain)(rule, MARKET(seen), TOLD);
+    answer = out_of_place("explain", answer, tickets, tickets_len, 0);
+    if (answer == 0 && seen == tickets) {
+        tell_wrong(words[1], rule, MARKET(tickets), TOLD);
+    }
+    answer = list_out_of_place(words, answer, asks, m, lists, sizeof lists / sizeof *lists);
+    return SPOIL("explain", answer, parts);
+}
+
 uint8_t bay_market_post(uint8_t rule, MARKET_PARAMETERS, uint32_t round, uint64_t *guests, size_t guests_len,
                         struct bay_market_station_account *stations, size_t stations_len,
                         uint64_t *house, uint32_t *last)
@@ -561,50 +816,6 @@ static void place_wrong(const char *wrong, const uint32_t *prices, const uint32_
                 ? prices[i] + lost : bid;
         }
     }
-}
-
-static int above16(const uint16_t *list, size_t count, uint16_t most)
-{
-    for (size_t i = 0; i < count; i++) {
-        if (list[i] > most) {
-            return 1;
-        }
-    }
-    return 0;
-}
-
-static int above32(const uint32_t *list, size_t count, uint32_t most)
-{
-    for (size_t i = 0; i < count; i++) {
-        if (list[i] > most) {
-            return 1;
-        }
-    }
-    return 0;
-}
-
-/* A list's length, and the one that it should have. */
-struct fit {
-    const char *name;
-    size_t length, wanted;
-};
-
-/* The fault's list, and no other, is too long or too short, as the fault says. */
-static int taken(char words[4][16], const struct fit *lists, size_t count)
-{
-    int taken = 0;
-
-    for (size_t i = 0; i < count; i++) {
-        const char *way = lists[i].length > lists[i].wanted ? "long" : "short";
-        if (lists[i].length == lists[i].wanted) {
-            continue;
-        }
-        if (strcmp(words[1], lists[i].name) != 0 || strcmp(words[2], way) != 0 || strcmp(words[3], "taken") != 0) {
-            return 0;
-        }
-        taken = 1;
-    }
-    return taken;
 }
 
 /* The answer of a call whose lengths fit, with a fault of the cells' or the prices' limits, or with 17 before 16. */

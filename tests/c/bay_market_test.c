@@ -1,6 +1,6 @@
 /*
- * Case E of document 01 by rule 1, rules, tickets, quiet rounds, parking places, refusals and limits, through
- * include/bay_market.h.
+ * Case E of document 01 by rule 1, rules, tickets, quiet rounds, what decided, parking places, refusals and limits,
+ * through include/bay_market.h.
  */
 #include "bay_market.h"
 
@@ -204,6 +204,74 @@ static void test_floor(void)
     expect(cut == 1 && margin == 8, "the floor's margin");
 }
 
+/* What case E's guests are told, with room for more. */
+struct told {
+    uint8_t codes[5], reasons[3];
+    uint16_t stations[3];
+    uint32_t charges[3];
+};
+
+static uint8_t explain_e(uint8_t rule, size_t width, size_t codes_len, size_t stations_len, size_t charges_len,
+                         size_t reasons_len, struct told *told)
+{
+    return bay_market_explain(rule, asks, m, bays, m, amounts, n, tickets, n, bids, 4, width, told->codes, codes_len,
+                              told->stations, stations_len, told->charges, charges_len, told->reasons, reasons_len);
+}
+
+static void test_explain(void)
+{
+    static const uint8_t codes[5] = {0, 1, 4, 1, 77}, reasons[3] = {0, 4, 77};
+    static const uint16_t stations[3] = {1, 0, 77};
+    static const uint32_t charges[3] = {24, 0, 77};
+    const uint32_t ask = asks[0];
+    struct told told, before;
+
+    memset(&told, 77, sizeof told);
+    memcpy(&before, &told, sizeof told);
+    expect(explain_e(3, 1, 3, 2, 2, 2, &told) == BAY_MARKET_UNKNOWN_RULE, "18 goes before all else");
+    expect(explain_e(1, 1, 3, 2, 2, 2, &told) == BAY_MARKET_LENGTHS_DIFFER, "another row width goes before the lists");
+    asks[0] = BAY_MARKET_MAX_PRICE + 1;
+    for (size_t wrong = 1; wrong <= 3; wrong += 2) { /* one too short, one too long */
+        expect(explain_e(1, m, wrong + 2, 2, 2, 2, &told) == BAY_MARKET_LENT_LENGTHS, "another length of the codes");
+        expect(explain_e(1, m, 4, wrong, 2, 2, &told) == BAY_MARKET_LENT_LENGTHS, "another length of the stations");
+        expect(explain_e(1, m, 4, 2, wrong, 2, &told) == BAY_MARKET_LENT_LENGTHS, "another length of the charges");
+        expect(explain_e(1, m, 4, 2, 2, wrong, &told) == BAY_MARKET_LENT_LENGTHS, "another length of the reasons");
+    }
+    expect(explain_e(1, m, 4, 2, 2, 2, &told) == BAY_MARKET_ASK_OUT_OF_RANGE, "values come after the lists");
+    asks[0] = ask;
+    expect(memcmp(&told, &before, sizeof told) == 0, "a refused explanation writes nothing");
+    for (uint8_t rule = 1; rule <= 2; rule++) {
+        told = (struct told){{77, 77, 77, 77, 77}, {77, 77, 77}, {77, 77, 77}, {77, 77, 77}};
+        expect(explain_e(rule, m, 4, 2, 2, 2, &told) == BAY_MARKET_ACCEPTED, "case E is explained");
+        expect(memcmp(told.codes, codes, sizeof codes) == 0, "its codes, and nothing beyond");
+        expect(memcmp(told.stations, stations, sizeof stations) == 0, "the station of a win, 0 of a loss");
+        expect(memcmp(told.charges, charges, sizeof charges) == 0, "the charge of a win, 0 of a loss");
+        expect(memcmp(told.reasons, reasons, sizeof reasons) == 0, "0 for a win, the highest code for a loss");
+    }
+}
+
+/* Table I: guests 1 and 3 hold both places of stations 2 and 4, which are open, and each is seated at one of them. */
+static void test_explain_table_i(void)
+{
+    static const uint32_t asked[5] = {4, 1, 3, 2, 5}, five[5] = {1, 2, 3, 4, 5};
+    static const uint16_t open_bays[5] = {1, 2, 4, 2, 3}, kwh[5] = {5, 2, 6, 4, 3};
+    static const uint32_t table[25] = {0, 4, 0, 5, 2, 2, 0, 5, 1, 0, 7, 5, 0, 4, 0, 6, 4, 0, 3, 0, 0, 0, 2, 3, 5};
+    static const uint8_t expected[25] = {1, 0, 1, 0, 2, 2, 1, 2, 3, 1, 2, 0, 1, 0, 1, 2, 4, 1, 4, 1, 1, 1, 2, 4, 2};
+    static const uint16_t seats[5] = {4, 0, 2, 0, 0};
+    static const uint32_t charged[5] = {15, 0, 18, 0, 0};
+    static const uint8_t lost[5] = {0, BAY_MARKET_BELOW_CUT, 0, BAY_MARKET_OUTBID, BAY_MARKET_OUTBID};
+    uint8_t codes[25], reasons[5];
+    uint16_t stations[5];
+    uint32_t charges[5];
+
+    memset(codes, 77, sizeof codes);
+    expect(bay_market_explain(1, asked, 5, open_bays, 5, kwh, 5, five, 5, table, 25, 5, codes, 25, stations, 5, charges,
+                              5, reasons, 5) == BAY_MARKET_ACCEPTED, "Table I is explained");
+    expect(memcmp(codes, expected, sizeof expected) == 0, "the codes of Table I");
+    expect(memcmp(stations, seats, sizeof seats) == 0 && memcmp(charges, charged, sizeof charged) == 0, "its wins");
+    expect(memcmp(reasons, lost, sizeof lost) == 0, "its losses");
+}
+
 /* A guest at (0, 0) and stations at (3, 4), (1, 1) and (31, 31): what is stated, and how long the bid table is. */
 static uint8_t place(uint32_t price, uint32_t fall, const uint16_t *first, size_t seconds, uint32_t *table,
                      size_t length)
@@ -345,6 +413,10 @@ static void test_null(void)
     expect(sold == 0 && paid == 0 && cut == 5 && margin == 0, "nobody buys in it");
     expect(bay_market_clear_efficient(1, NULL, 0, NULL, 0, NULL, 0, NULL, 0, NULL, 0, 0, NULL, 0, NULL, 0, NULL, 0,
                                       NULL, 0, &cut, &margin) == BAY_MARKET_COUNTS_OUT_OF_RANGE, "one with no station");
+    expect(bay_market_explain(1, &ask, 1, &bay, 1, NULL, 0, NULL, 0, NULL, 0, 1, NULL, 0, NULL, 0, NULL, 0, NULL, 0)
+           == BAY_MARKET_ACCEPTED, "no guests to tell");
+    expect(bay_market_explain(1, NULL, 0, NULL, 0, NULL, 0, NULL, 0, NULL, 0, 0, NULL, 0, NULL, 0, NULL, 0, NULL, 0)
+           == BAY_MARKET_COUNTS_OUT_OF_RANGE, "no station to tell of");
     expect(bay_market_post(1, NULL, 0, NULL, 0, NULL, 0, NULL, 0, NULL, 0, 0, 1, NULL, 0, NULL, 0, &house, &last)
            == BAY_MARKET_COUNTS_OUT_OF_RANGE, "no station to post");
     expect(bay_market_post(1, &ask, 1, &bay, 1, NULL, 0, NULL, 0, NULL, 0, 1, 2, NULL, 0, NULL, 0, &house, &last)
@@ -371,6 +443,14 @@ static void test_texts(void)
             expect(strcmp(bay_market_refusal_text(one), bay_market_refusal_text(two)) != 0, "each answer has its text");
         }
     }
+    expect(strcmp(bay_market_code_text(BAY_MARKET_HELD), "place held") == 0, "the text of a place held");
+    expect(strcmp(bay_market_code_text(BAY_MARKET_OUTBID), "outbid") == 0, "the text of an outbid guest");
+    expect(strcmp(bay_market_code_text(BAY_MARKET_OUTBID + 1), bay_market_code_text(255)) == 0, "no code");
+    for (uint8_t one = 0; one <= BAY_MARKET_OUTBID; one++) {
+        for (uint8_t two = (uint8_t)(one + 1); two <= BAY_MARKET_OUTBID + 1; two++) {
+            expect(strcmp(bay_market_code_text(one), bay_market_code_text(two)) != 0, "each code has its text");
+        }
+    }
 }
 
 int main(void)
@@ -382,6 +462,8 @@ int main(void)
     test_rules();
     test_efficient();
     test_floor();
+    test_explain();
+    test_explain_table_i();
     test_places();
     test_placed_market();
     test_post();

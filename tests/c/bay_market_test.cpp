@@ -1,5 +1,5 @@
-// The header from C++: empty vectors, whose data() may be null, a table that is cleared by both mechanisms and written,
-// bids that are placed, and texts.
+// The header from C++: empty vectors, whose data() may be null, a table that is cleared by both mechanisms, explained and
+// written, bids that are placed, and texts.
 #include "bay_market.h"
 
 #include <cstdio>
@@ -39,6 +39,19 @@ int main()
     good = good && clear_by(bay_market_clear_efficient) == BAY_MARKET_TICKETS_REPEAT && margin == 6;
     tickets[1] = 4;
     bids = {8, 0, 8, 0};
+    std::vector<std::uint8_t> codes, reasons(2, 77);
+    const auto explain = [&] {
+        return bay_market_explain(BAY_MARKET_RULE_MEDIAN, asks.data(), asks.size(), bays.data(), bays.size(),
+                                  amounts.data(), amounts.size(), tickets.data(), tickets.size(), bids.data(),
+                                  bids.size(), asks.size(), codes.data(), codes.size(), stations.data(),
+                                  stations.size(), charges.data(), charges.size(), reasons.data(), reasons.size());
+    };
+    good = good && explain() == BAY_MARKET_LENT_LENGTHS && reasons[0] == 77;
+    codes.resize(4, 77);
+    good = good && explain() == BAY_MARKET_ACCEPTED && stations[0] == 0 && stations[1] == 1 && charges[1] == 24;
+    good = good && codes == std::vector<std::uint8_t>{BAY_MARKET_OUTBID, BAY_MARKET_NO_BID, BAY_MARKET_HELD, BAY_MARKET_NO_BID};
+    good = good && reasons[0] == BAY_MARKET_OUTBID && reasons[1] == 0 && charges[0] == 0;
+    good = good && std::string(bay_market_code_text(reasons[0])) == "outbid";
     std::vector<std::uint8_t> sheet;
     std::size_t length = 77;
     const auto write = [&] {

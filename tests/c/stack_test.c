@@ -21,6 +21,7 @@ static uint16_t stations[BAY_MARKET_MAX_GUESTS];
 static uint32_t charges[BAY_MARKET_MAX_GUESTS], sold[BAY_MARKET_MAX_STATIONS];
 static uint64_t paid[BAY_MARKET_MAX_STATIONS], margin, guests[BAY_MARKET_MAX_GUESTS], house;
 static struct bay_market_station_account accounts[BAY_MARKET_MAX_STATIONS];
+static uint8_t codes[BAY_MARKET_MAX_BIDS], reasons[BAY_MARKET_MAX_GUESTS];
 static uint8_t answer;
 
 static void none(void)
@@ -50,6 +51,12 @@ static void call_clear_efficient(void)
 {
     answer = bay_market_clear_efficient(2, asks, m, bays, m, amounts, n, tickets, n, bids, (size_t)n * m, m,
                                         stations, n, charges, n, sold, m, paid, m, &cut, &margin);
+}
+
+static void call_explain(void)
+{
+    answer = bay_market_explain(2, asks, m, bays, m, amounts, n, tickets, n, bids, (size_t)n * m, m, codes,
+                                (size_t)n * m, stations, n, charges, n, reasons, n);
 }
 
 static void call_post(void)
@@ -135,7 +142,8 @@ int main(void)
         const char *name;
         void (*call)(void);
     } calls[] = {{"read", call_read}, {"write", call_write}, {"clear", call_clear},
-                 {"clear_efficient", call_clear_efficient}, {"post", call_post}, {"place_bids", call_place_bids}};
+                 {"clear_efficient", call_clear_efficient}, {"explain", call_explain}, {"post", call_post},
+                 {"place_bids", call_place_bids}};
     size_t most = 0, base = depth(none);
 
     for (uint32_t spread = 1; spread <= 900000; spread *= 30) {

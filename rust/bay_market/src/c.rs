@@ -1,9 +1,9 @@
 //! The functions of include/bay_market.h, where each is documented.
 //!
 //! Mind the order of arguments: `bay_market_read` takes amounts, tickets, asks, bays, bids, the others that take a market
-//! asks, bays, amounts, tickets, bids, after the rule's number where they clear. Amounts and bays have one type, tickets,
-//! asks and bids another, so the compiler cannot see a swap. `bay_market_place_bids` takes prices, falls, then the guests'
-//! first and second coordinates, then the stations'. The safe functions name each.
+//! asks, bays, amounts, tickets, bids, after the rule's number where they have one. Amounts and bays have one type,
+//! tickets, asks and bids another, so the compiler cannot see a swap. `bay_market_place_bids` takes prices, falls, then
+//! the guests' first and second coordinates, then the stations'. The safe functions name each.
 
 use crate::StationAccount;
 
@@ -68,6 +68,20 @@ unsafe extern "C" {
         sold: *mut u32, sold_len: usize,
         paid: *mut u64, paid_len: usize,
         cut: *mut u32, margin: *mut u64,
+    ) -> u8;
+
+    pub fn bay_market_explain(
+        rule: u8,
+        asks: *const u32, asks_len: usize,
+        bays: *const u16, bays_len: usize,
+        amounts: *const u16, amounts_len: usize,
+        tickets: *const u32, tickets_len: usize,
+        bids: *const u32, bids_len: usize,
+        width: usize,
+        codes: *mut u8, codes_len: usize,
+        stations: *mut u16, stations_len: usize,
+        charges: *mut u32, charges_len: usize,
+        reasons: *mut u8, reasons_len: usize,
     ) -> u8;
 
     pub fn bay_market_post(

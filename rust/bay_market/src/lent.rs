@@ -54,6 +54,16 @@ pub struct Cleared {
     pub margin: u64,
 }
 
+/// What an explanation fills: n rows of m codes, and each guest's outcome as its station, charge and reason. A win has
+/// reason 0, a loss station 0 and charge 0. The numbers are those of [`Code`](crate::Code) and [`Reason`](crate::Reason).
+#[derive(Debug)]
+pub struct Explanation<'a> {
+    pub codes: &'a mut [u8],
+    pub stations: &'a mut [u16],
+    pub charges: &'a mut [u32],
+    pub reasons: &'a mut [u8],
+}
+
 /// What the reader fills: the first places of tables of the greatest size.
 ///
 /// Another size is no table:
@@ -243,6 +253,44 @@ fn clear_by(mechanism: Mechanism, rule: Rule, market: &Market, results: &mut Res
         )
     };
     Refusal::check(answer).map(|()| cleared)
+}
+
+/// Tells each guest what decided the truthful round by a rule, that of [`clear`]: a code for each guest and station, and
+/// each guest's outcome.
+///
+/// ```
+/// use bay_market::lent::{Explanation, Market, explain};
+/// use bay_market::{Code, GuestOutcome, Reason, Rule};
+///
+/// let (amounts, tickets) = (&[3, 3], &[1, 2]);
+/// let market = Market { asks: &[2, 6], bays: &[1, 1], amounts, tickets, bids: &[8, 0, 8, 0], width: 2 };
+/// let (mut codes, mut stations, mut charges, mut reasons) = ([77; 4], [77; 2], [77; 2], [77; 2]);
+/// let mut explanation =
+///     Explanation { codes: &mut codes, stations: &mut stations, charges: &mut charges, reasons: &mut reasons };
+/// assert_eq!(explain(Rule::Median, &market, &mut explanation), Ok(()));
+/// assert_eq!((codes, stations, charges, reasons), ([0, 1, 4, 1], [1, 0], [24, 0], [0, 4]));
+/// assert_eq!(Code::from_number(codes[2]), Some(Code::NotHeld(Reason::Outbid)));
+/// let outcome = GuestOutcome::from_numbers(stations[0], charges[0], reasons[0]);
+/// assert_eq!(outcome, Some(GuestOutcome::Win { station: 1, charge: 24 }));
+/// ```
+#[rustfmt::skip] // pointer and length on one line
+pub fn explain(rule: Rule, market: &Market, explanation: &mut Explanation) -> Result<(), Refusal> {
+    // SAFETY: as in `write`.
+    Refusal::check(unsafe {
+        c::bay_market_explain(
+            rule.number(),
+            market.asks.as_ptr(), market.asks.len(),
+            market.bays.as_ptr(), market.bays.len(),
+            market.amounts.as_ptr(), market.amounts.len(),
+            market.tickets.as_ptr(), market.tickets.len(),
+            market.bids.as_ptr(), market.bids.len(),
+            market.width,
+            explanation.codes.as_mut_ptr(), explanation.codes.len(),
+            explanation.stations.as_mut_ptr(), explanation.stations.len(),
+            explanation.charges.as_mut_ptr(), explanation.charges.len(),
+            explanation.reasons.as_mut_ptr(), explanation.reasons.len(),
+        )
+    })
 }
 
 /// Clears a market by a rule as [`clear`] does and posts it to the ledger as a round.

@@ -1,7 +1,7 @@
 //! The proved clearing engine for charging bays.
 //!
-//! [`Market`], [`Places`], [`Clearing`] and [`Ledger`] own their lists; the module [`lent`] has the same over slices that
-//! the caller lends, and [`c`] the functions of the C header.
+//! [`Market`], [`Places`], [`Clearing`], [`Explanation`] and [`Ledger`] own their lists; the module [`lent`] has the same
+//! over slices that the caller lends, and [`c`] the functions of the C header.
 //!
 //! ```
 //! use bay_market::{Ledger, Market, Refusal, Rule};
@@ -22,11 +22,13 @@
 //! ```
 
 pub mod c;
+mod decided;
 pub mod lent;
 mod owned;
 mod refusal;
 
-pub use owned::{Cell, Clearing, Ledger, Market, Places};
+pub use decided::{Code, GuestOutcome, Reason};
+pub use owned::{Cell, Clearing, Explanation, Ledger, Market, Places};
 pub use refusal::Refusal;
 
 pub const MAX_GUESTS: usize = 200;

@@ -1,6 +1,6 @@
 //! The engine over lists of its own.
 
-use crate::{MAX_BIDS, MAX_GUESTS, MAX_SHEET, MAX_STATIONS, Refusal, Rule, StationAccount, lent};
+use crate::{Code, GuestOutcome, MAX_BIDS, MAX_GUESTS, MAX_SHEET, MAX_STATIONS, Refusal, Rule, StationAccount, lent};
 
 /// A market: n amounts and tickets, m asks, m bays, and n times m bids, guest after guest (0: no bid).
 #[derive(Clone, Debug, Default, PartialEq, Eq)]
@@ -38,6 +38,14 @@ pub struct Clearing {
     pub sold: Vec<u32>,
     pub paid: Vec<u64>,
     pub margin: u64,
+}
+
+/// What decided a market's truthful round: a code for each guest and station, guest after guest as the bids, and each
+/// guest's outcome.
+#[derive(Clone, Debug, PartialEq, Eq)]
+pub struct Explanation {
+    pub codes: Vec<Code>,
+    pub outcomes: Vec<GuestOutcome>,
 }
 
 /// The ledger (document 01: the book).
@@ -145,6 +153,38 @@ impl Market {
         let mut results = lent::Results { stations: &mut seats, charges: &mut charges, sold: &mut sold, paid: &mut paid };
         let lent::Cleared { cut, margin } = clear(rule, &self.lend(), &mut results)?;
         Ok(Clearing { cut, stations: seats, charges, sold, paid, margin })
+    }
+
+    /// Tells each guest what decided the truthful round by a rule, that of [`clear`](Market::clear).
+    ///
+    /// ```
+    /// use bay_market::{Code, GuestOutcome, Market, Reason, Refusal, Rule};
+    ///
+    /// let (amounts, tickets) = (vec![3, 3], vec![1, 2]);
+    /// let market = Market { asks: vec![2, 6], bays: vec![1, 1], amounts, tickets, bids: vec![8, 0, 8, 7] };
+    /// let told = market.explain(Rule::Median)?;
+    /// assert_eq!(told.outcomes, [GuestOutcome::Win { station: 1, charge: 24 }, GuestOutcome::Loss(Reason::Outbid)]);
+    /// assert_eq!(told.codes[..2], [Code::Held, Code::NotHeld(Reason::NoBid)]);
+    /// assert_eq!(told.codes[2..], [Code::NotHeld(Reason::Outbid), Code::NotHeld(Reason::NotOpen)]);
+    /// assert_eq!(Reason::Outbid.to_string(), "outbid");
+    /// # Ok::<(), Refusal>(())
+    /// ```
+    pub fn explain(&self, rule: Rule) -> Result<Explanation, Refusal> {
+        let (n, m) = within_limits(self.amounts.len(), self.asks.len());
+        let (mut codes, mut reasons) = (vec![0; n * m], vec![0; n]);
+        let (mut seats, mut charges) = (vec![0; n], vec![0; n]);
+        let mut explanation =
+            lent::Explanation { codes: &mut codes, stations: &mut seats, charges: &mut charges, reasons: &mut reasons };
+        lent::explain(rule, &self.lend(), &mut explanation)?;
+        let code = |number| Code::from_number(number).unwrap_or_else(|| unreachable!("the engine gave code {number}"));
+        let outcome = |((station, charge), reason)| {
+            GuestOutcome::from_numbers(station, charge, reason)
+                .unwrap_or_else(|| unreachable!("the engine gave station {station}, charge {charge}, reason {reason}"))
+        };
+        Ok(Explanation {
+            codes: codes.into_iter().map(code).collect(),
+            outcomes: seats.into_iter().zip(charges).zip(reasons).map(outcome).collect(),
+        })
     }
 
     pub fn lend(&self) -> lent::Market<'_> {
@@ -281,6 +321,45 @@ mod tests {
         assert_eq!(table_i().clear_efficient(Rule::Median), Ok(Clearing { cut: 3, stations, charges, sold, paid, margin: 0 }));
     }
 
+    /// Codes, and station, charge and reason of each guest.
+    type Numbers = (Vec<u8>, Vec<(u16, u32, u8)>);
+
+    fn told(market: &Market, rule: Rule) -> Result<Numbers, Refusal> {
+        let outcome = |outcome| match outcome {
+            GuestOutcome::Win { station, charge } => (station, charge, 0),
+            GuestOutcome::Loss(reason) => (0, 0, reason.number()),
+        };
+        let told = market.explain(rule)?;
+        Ok((told.codes.into_iter().map(Code::number).collect(), told.outcomes.into_iter().map(outcome).collect()))
+    }
+
+    #[test]
+    fn explains_case_e_and_table_i() {
+        assert_eq!(told(&case_e(), Rule::Median), Ok((vec![0, 1, 4, 1], vec![(1, 24, 0), (0, 0, 4)])));
+        let higher_first = Market { tickets: vec![9, 4], ..case_e() };
+        assert_eq!(told(&higher_first, Rule::Median), Ok((vec![4, 1, 0, 1], vec![(0, 0, 4), (1, 24, 0)])));
+        // guest 1 holds a place at station 2 too, and guest 3 one at station 4
+        let codes = vec![
+            1, 0, 1, 0, 2, //
+            2, 1, 2, 3, 1, //
+            2, 0, 1, 0, 1, //
+            2, 4, 1, 4, 1, //
+            1, 1, 2, 4, 2,
+        ];
+        let outcomes = vec![(4, 15, 0), (0, 0, 3), (2, 18, 0), (0, 0, 4), (0, 0, 4)];
+        assert_eq!(told(&table_i(), Rule::Median), Ok((codes, outcomes)));
+    }
+
+    #[test]
+    fn explains_each_rule_and_no_guests() {
+        let (asks, bays) = (vec![1, 2, 3, 4, 5, 6], vec![1; 6]);
+        let six = Market { asks, bays, amounts: vec![1], tickets: vec![1], bids: vec![3, 4, 0, 9, 5, 0] };
+        assert_eq!(told(&six, Rule::Median), Ok((vec![3, 0, 1, 2, 2, 1], vec![(2, 4, 0)])));
+        assert_eq!(told(&six, Rule::TwoThirds), Ok((vec![3, 3, 1, 0, 2, 1], vec![(4, 5, 0)])));
+        let none = Market { amounts: vec![], tickets: vec![], bids: vec![], ..case_e() };
+        assert_eq!(told(&none, Rule::Median), Ok((vec![], vec![])));
+    }
+
     #[test]
     fn writes_case_e() {
         assert_eq!(case_e().to_sheet(), Ok(SHEET_E.into()));
@@ -308,6 +387,11 @@ mod tests {
         assert_eq!(Market::default().clear_efficient(Rule::Median), Err(Refusal::CountsOutOfRange));
         assert_eq!(Market { amounts: vec![1; 201], ..case_e() }.clear_efficient(Rule::Median), Err(Refusal::CountsOutOfRange));
         assert_eq!(Market { bays: vec![1], ..case_e() }.clear_efficient(Rule::Median), Err(Refusal::LengthsDiffer));
+        assert_eq!(Market::default().explain(Rule::Median), Err(Refusal::CountsOutOfRange));
+        assert_eq!(Market { amounts: vec![1; 201], ..case_e() }.explain(Rule::Median), Err(Refusal::CountsOutOfRange));
+        assert_eq!(Market { asks: vec![1; 41], ..case_e() }.explain(Rule::Median), Err(Refusal::CountsOutOfRange));
+        assert_eq!(Market { bays: vec![1], ..case_e() }.explain(Rule::Median), Err(Refusal::LengthsDiffer));
+        assert_eq!(Market { tickets: vec![4, 4], ..case_e() }.explain(Rule::Median), Err(Refusal::TicketsRepeat));
     }
 
     fn cells<const N: usize>(cells: [(u16, u16); N]) -> Vec<Cell> {

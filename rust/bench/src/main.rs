@@ -3,13 +3,13 @@
 mod baseline;
 
 use baseline::Scratch;
-use bay_market::lent::{self, Cleared, Counts, Results, Tables};
+use bay_market::lent::{self, Cleared, Counts, Explanation, Results, Tables};
 use bay_market::{Ledger, MAX_BIDS, MAX_GUESTS, MAX_SHEET, MAX_STATIONS, Rule, StationAccount};
 use reference::clearing::{self, Outcome};
 use reference::market::Market;
 use reference::places::{self, Places};
 use reference::random::{self, Random, Shape, Spread};
-use reference::{ledger, sheet};
+use reference::{explaining, ledger, sheet};
 use std::hint::black_box;
 use std::time::{Duration, Instant};
 
@@ -166,6 +166,83 @@ fn clearings(random: &mut Random, contenders: &[Clear], expected: fn(u8, &Market
             .collect();
         let mut runs: Vec<&mut dyn FnMut(&Market)> = runs.iter_mut().map(|run| run as _).collect();
         print_row(name, &medians(&markets, &mut runs));
+    }
+}
+
+/// Owned lists of what guests are told.
+#[derive(PartialEq, Eq)]
+struct Told {
+    codes: Vec<u8>,
+    stations: Vec<u16>,
+    charges: Vec<u32>,
+    reasons: Vec<u8>,
+}
+
+impl Told {
+    fn new(market: &Market) -> Told {
+        let n = market.guests();
+        Told { codes: vec![77; n * market.stations()], stations: vec![77; n], charges: vec![77; n], reasons: vec![77; n] }
+    }
+
+    fn lend(&mut self) -> Explanation<'_> {
+        let Told { codes, stations, charges, reasons } = self;
+        Explanation { codes, stations, charges, reasons }
+    }
+
+    /// What the reference tells.
+    fn expected(rule: Rule, market: &Market) -> Told {
+        let explanation = explaining::explain(rule.number(), market);
+        let mut told = Told { codes: explanation.codes, stations: vec![], charges: vec![], reasons: vec![] };
+        for outcome in explanation.outcomes {
+            let (station, charge, reason) = match outcome {
+                explaining::GuestOutcome::Win { station, charge } => (station as u16, charge as u32, 0),
+                explaining::GuestOutcome::Loss(code) => (0, 0, code),
+            };
+            told.stations.push(station);
+            told.charges.push(charge);
+            told.reasons.push(reason);
+        }
+        told
+    }
+}
+
+type Explain = fn(&mut Scratch, Rule, &lent::Market, &mut Explanation) -> Result<(), u8>;
+
+const EXPLANATIONS: [Explain; 2] = [
+    |_, rule, market, explanation| lent::explain(rule, market, explanation).map_err(|refusal| refusal.number()),
+    baseline::explain,
+];
+
+/// Times the engine against a baseline that tells what decided, and against the plain clearing with `select`.
+fn explanations(random: &mut Random) {
+    print_head("telling what decided", &["select with codes", "select, clearing alone"]);
+    for (name, rule, shape) in cases() {
+        let markets: Vec<Market> = (0..MARKETS).map(|_| shape.market(random)).collect();
+        let mut working = EXPLANATIONS.map(|_| (Scratch::new(), Told::new(&markets[0])));
+        let (mut scratch, mut lists) = (Scratch::new(), Lists::new(&markets[0]));
+        let run = |explain: Explain, market: &Market, (scratch, told): &mut (Box<Scratch>, Told)| {
+            black_box(explain(scratch, rule, &lend(market), &mut told.lend())).expect("an accepted market");
+        };
+        for market in &markets {
+            verify_clearing(&mut scratch, rule, market, &TRUTHFUL[1..2], &clearing::clear(rule.number(), market));
+            for (explain, working) in EXPLANATIONS.iter().zip(&mut working) {
+                run(*explain, market, working);
+                assert!(working.1 == Told::expected(rule, market), "a contender differs from the reference");
+            }
+        }
+        let [engine, with_codes] = &mut working;
+        let mut alone = |market: &Market| {
+            black_box(TRUTHFUL[1](&mut scratch, rule, &lend(market), &mut lists.lend())).expect("an accepted market");
+        };
+        let medians = medians(
+            &markets,
+            &mut [
+                &mut |market| run(EXPLANATIONS[0], market, engine),
+                &mut |market| run(EXPLANATIONS[1], market, with_codes),
+                &mut alone,
+            ],
+        );
+        print_row(name, &medians);
     }
 }
 
@@ -366,6 +443,7 @@ fn main() {
     clearings(&mut random, &TRUTHFUL, clearing::clear);
     print_head("efficient clearing", &["sort"]);
     clearings(&mut Random::new(8), &EFFICIENT, clearing::clear_efficient); // the same markets
+    explanations(&mut Random::new(8)); // and again
     readings(&mut random);
     writings(&mut random);
     postings(&mut random);

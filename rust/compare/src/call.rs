@@ -3,11 +3,13 @@
 
 use crate::lent::Lent;
 use bay_market::c::{
-    bay_market_clear, bay_market_clear_efficient, bay_market_place_bids, bay_market_post, bay_market_read, bay_market_write,
+    bay_market_clear, bay_market_clear_efficient, bay_market_explain, bay_market_place_bids, bay_market_post, bay_market_read,
+    bay_market_write,
 };
-use bay_market::{Cell, MAX_BIDS, MAX_GUESTS, MAX_SHEET, MAX_STATIONS, Refusal, Rule, StationAccount, lent};
+use bay_market::{Cell, Code, MAX_BIDS, MAX_GUESTS, MAX_SHEET, MAX_STATIONS, Reason, Refusal, Rule, StationAccount, lent};
 use reference::clearing::{self, Outcome};
-use reference::faults::{ListLengths, OUTPUT_TOO_SHORT};
+use reference::explaining::{Explanation, GuestOutcome};
+use reference::faults::{ExplanationLengths, ListLengths, OUTPUT_TOO_SHORT};
 use reference::ledger::Ledger;
 use reference::market::Market;
 use reference::places::Places;
@@ -446,6 +448,142 @@ fn known(rule: u8) -> Rule {
     Rule::from_number(rule).expect("a rule")
 }
 
+/// What an explanation is lent: the number of a rule, a market, and lists of these lengths.
+#[derive(Clone, Copy)]
+pub struct Explaining<'a> {
+    pub rule: u8,
+    pub market: &'a Market,
+    pub lists: ExplanationLengths,
+}
+
+/// Tells what decided and holds answer and memory to what is expected.
+pub fn explain(random: &mut Random, explaining: Explaining, expected: &Result<Explanation, u8>) -> Result<(), String> {
+    let Explaining { rule, market, lists } = explaining;
+    each_way(|way| match (way, Rule::from_number(rule)) {
+        (Way::C, _) | (Way::Slices, Some(_)) => explain_lent(way, random, explaining, expected),
+        (_, None) => Ok(()), // the types do not let it happen
+        (Way::Owned, _) if market.width != market.stations() || lists != ExplanationLengths::of(market) => Ok(()),
+        (Way::Owned, Some(rule)) => {
+            let expected = expected.as_ref().map(own_explanation).map_err(|&number| number);
+            require(own(market).explain(rule).map_err(Refusal::number) == expected, "the owned explanation differs")
+        }
+    })
+}
+
+#[rustfmt::skip] // pointer and length on one line
+fn explain_lent(
+    way: Way, random: &mut Random, explaining: Explaining, expected: &Result<Explanation, u8>,
+) -> Result<(), String> {
+    let Explaining { rule, market, lists } = explaining;
+    let mut tables = Tables::of(random, market);
+    let mut codes: Lent<u8> = Lent::noise(random, lists.codes);
+    let mut stations: Lent<u16> = Lent::noise(random, lists.stations);
+    let mut charges: Lent<u32> = Lent::noise(random, lists.charges);
+    let mut reasons: Lent<u8> = Lent::noise(random, lists.reasons);
+    let answer = match way {
+        // SAFETY: as in `read_lent`.
+        Way::C => unsafe {
+            bay_market_explain(
+                rule,
+                tables.asks.pointer(), tables.asks.len(),
+                tables.bays.pointer(), tables.bays.len(),
+                tables.amounts.pointer(), tables.amounts.len(),
+                tables.tickets.pointer(), tables.tickets.len(),
+                tables.bids.pointer(), tables.bids.len(),
+                market.width,
+                codes.pointer(), codes.len(),
+                stations.pointer(), stations.len(),
+                charges.pointer(), charges.len(),
+                reasons.pointer(), reasons.len(),
+            )
+        },
+        _ => {
+            let mut explanation = lent::Explanation {
+                codes: codes.slice(), stations: stations.slice(), charges: charges.slice(), reasons: reasons.slice(),
+            };
+            numbered(lent::explain(known(rule), &tables.lend(market.width), &mut explanation), |()| ())
+        }
+    };
+    require_answer(answer, expected)?;
+    require(tables.untouched(), "the market was written")?;
+    let Ok(explanation) = expected else {
+        let outcomes = stations.untouched() && charges.untouched() && reasons.untouched();
+        return require(codes.untouched() && outcomes, "a refused call wrote");
+    };
+    let outcomes: Vec<(u16, u32, u8)> = explanation.outcomes.iter().map(outcome_numbers).collect();
+    require(codes.holds(explanation.codes.iter().copied()), "codes differ")?;
+    require(stations.holds(outcomes.iter().map(|outcome| outcome.0)), "stations differ")?;
+    require(charges.holds(outcomes.iter().map(|outcome| outcome.1)), "charges differ")?;
+    require(reasons.holds(outcomes.iter().map(|outcome| outcome.2)), "reasons differ")
+}
+
+/// Station, charge and reason of an outcome: a win has reason 0, a loss station 0 and charge 0.
+fn outcome_numbers(outcome: &GuestOutcome) -> (u16, u32, u8) {
+    match *outcome {
+        GuestOutcome::Win { station, charge } => (station as u16, narrow(charge), 0),
+        GuestOutcome::Loss(code) => (0, 0, code),
+    }
+}
+
+/// What the engine tells, as numbers.
+#[derive(Clone, Debug)]
+pub struct Told {
+    pub codes: Vec<u8>,
+    pub stations: Vec<u16>,
+    pub charges: Vec<u32>,
+    pub reasons: Vec<u8>,
+}
+
+/// What the engine tells of an accepted market, by each way, held to something.
+pub fn tell(rule: Rule, market: &Market, hold: impl Fn(&Told) -> Result<(), String>) -> Result<(), String> {
+    each_way(|way| hold(&tell_by(way, rule, market)?))
+}
+
+#[rustfmt::skip] // pointer and length on one line
+fn tell_by(way: Way, rule: Rule, market: &Market) -> Result<Told, String> {
+    let accepted = |answer| require_answer::<()>(answer, &Ok(()));
+    let n = market.guests();
+    let mut told = Told {
+        codes: vec![77; n * market.stations()], stations: vec![77; n], charges: vec![77; n], reasons: vec![77; n],
+    };
+    accepted(match way {
+        // SAFETY: each pointer and length is that of a vector.
+        Way::C => unsafe {
+            bay_market_explain(
+                rule.number(),
+                market.asks.as_ptr(), market.asks.len(),
+                market.bays.as_ptr(), market.bays.len(),
+                market.amounts.as_ptr(), market.amounts.len(),
+                market.tickets.as_ptr(), market.tickets.len(),
+                market.bids.as_ptr(), market.bids.len(),
+                market.width,
+                told.codes.as_mut_ptr(), told.codes.len(),
+                told.stations.as_mut_ptr(), told.stations.len(),
+                told.charges.as_mut_ptr(), told.charges.len(),
+                told.reasons.as_mut_ptr(), told.reasons.len(),
+            )
+        },
+        Way::Slices => {
+            let mut explanation = lent::Explanation {
+                codes: &mut told.codes, stations: &mut told.stations,
+                charges: &mut told.charges, reasons: &mut told.reasons,
+            };
+            numbered(lent::explain(rule, &own(market).lend(), &mut explanation), |()| ())
+        }
+        Way::Owned => numbered(own(market).explain(rule), |explanation| {
+            told.codes = explanation.codes.into_iter().map(Code::number).collect();
+            let numbers = |outcome| match outcome {
+                bay_market::GuestOutcome::Win { station, charge } => ((station, charge), 0),
+                bay_market::GuestOutcome::Loss(reason) => ((0, 0), reason.number()),
+            };
+            let (seats, reasons): (Vec<(u16, u32)>, Vec<u8>) = explanation.outcomes.into_iter().map(numbers).unzip();
+            (told.stations, told.charges) = seats.into_iter().unzip();
+            told.reasons = reasons;
+        }),
+    })?;
+    Ok(told)
+}
+
 /// A posting to a ledger as it is before, and the ledger as it is to be after.
 pub struct Posting<'a> {
     pub rule: u8,
@@ -518,7 +656,7 @@ fn station_accounts(ledger: &Ledger) -> Vec<StationAccount> {
     ledger.stations.iter().map(|account| StationAccount { sold: narrow(account.sold), paid: narrow(account.paid) }).collect()
 }
 
-/// The reference's market, outcome and ledger as those that the engine's crate owns.
+/// The reference's market, outcome, explanation and ledger as those that the engine's crate owns.
 pub fn own(market: &Market) -> bay_market::Market {
     bay_market::Market {
         asks: market.asks.clone(),
@@ -551,6 +689,19 @@ fn own_outcome(outcome: &Outcome) -> bay_market::Clearing {
         sold: outcome.sold.iter().map(|&sold| narrow(sold)).collect(),
         paid: outcome.paid.iter().map(|&paid| narrow(paid)).collect(),
         margin: narrow(outcome.margin),
+    }
+}
+
+fn own_explanation(explanation: &Explanation) -> bay_market::Explanation {
+    let outcome = |outcome: &GuestOutcome| match *outcome {
+        GuestOutcome::Win { station, charge } => {
+            bay_market::GuestOutcome::Win { station: station as u16, charge: narrow(charge) }
+        }
+        GuestOutcome::Loss(code) => bay_market::GuestOutcome::Loss(Reason::from_number(code).expect("a reason")),
+    };
+    bay_market::Explanation {
+        codes: explanation.codes.iter().map(|&code| Code::from_number(code).expect("a code")).collect(),
+        outcomes: explanation.outcomes.iter().map(outcome).collect(),
     }
 }
 

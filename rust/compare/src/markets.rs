@@ -191,6 +191,12 @@ pub fn changes(n: usize, m: usize) -> Vec<Change> {
     changes
 }
 
+/// Every change of the market itself.
+pub fn market_changes(market: &Market) -> Vec<Change> {
+    let all = changes(market.guests(), market.stations()).into_iter();
+    all.filter(|change| !matches!(change, Change::List(..))).collect()
+}
+
 /// Lengths that are not the given one.
 pub fn other_lengths(length: usize) -> Vec<usize> {
     [0, length.saturating_sub(1), length + 1, 2 * length].into_iter().filter(|&other| other != length).collect()

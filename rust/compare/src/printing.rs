@@ -1,13 +1,13 @@
 //! The clearing program, target/dist/clear or the one that BAY_MARKET_PROGRAM names, against the reference's text, with
-//! --quiet against its text of the efficient clearing, either by rule 2 with --rule 2, and with --write against its sheet.
-//! It ends with 0 and writes nothing to standard error, whatever the sheet.
+//! --quiet against its text of the efficient clearing, with --why against that of what decided, each by rule 2 with
+//! --rule 2, and with --write against its sheet. It ends with 0 and writes nothing to standard error, whatever the sheet.
 
 use crate::Tally;
 use crate::markets::{accepted, hex, shapes, small};
 use crate::reading::{any_sheet, damaged};
 use reference::faults::{MAX_AMOUNT, MAX_BAYS, MAX_PRICE};
 use reference::random::{Random, Shape};
-use reference::report::{printed, printed_quiet, written};
+use reference::report::{printed, printed_quiet, printed_why, written};
 use reference::sheet::{shortest, stating};
 use std::io::Write;
 use std::path::{Path, PathBuf};
@@ -81,6 +81,8 @@ pub fn run(random: &mut Random, tally: &mut Tally, cases: usize) -> Result<(), S
             9 => sheet.resize(200_000, 0),
             // an ask, bays, an amount or a bid out of range, or equal tickets
             13 | 17 | 21 | 25 | 29 => sheet = out_of_range(random, case % 40),
+            // no guests, of which nothing is told
+            33 => sheet = shortest(&Shape { guests: 0..=0, ..small() }.market(random)),
             _ => {}
         }
         let text = printed(1, &sheet);
@@ -90,6 +92,8 @@ pub fn run(random: &mut Random, tally: &mut Tally, cases: usize) -> Result<(), S
             (&["--quiet"], printed_quiet(1, &sheet).into_bytes()),
             (&["--rule", "2"], printed(2, &sheet).into_bytes()),
             (&["--quiet", "--rule", "2"], printed_quiet(2, &sheet).into_bytes()),
+            (&["--why"], printed_why(1, &sheet).into_bytes()),
+            (&["--why", "--rule", "2"], printed_why(2, &sheet).into_bytes()),
             (&["--write"], written(&sheet)),
         ];
         for (arguments, expected) in asked {

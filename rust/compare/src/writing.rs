@@ -2,7 +2,7 @@
 
 use crate::Tally;
 use crate::call;
-use crate::markets::{Change, accepted, changed, changes, middling, shapes, sheet, show, small, tied};
+use crate::markets::{accepted, changed, market_changes, middling, shapes, sheet, show, small, tied};
 use bay_market::MAX_SHEET;
 use reference::market::Market;
 use reference::random::{Random, Shape};
@@ -17,12 +17,6 @@ fn check(random: &mut Random, tally: &mut Tally, market: &Market, output: usize)
 /// Lengths of an output, for a sheet of the given length.
 fn outputs(length: usize) -> [usize; 8] {
     [0, 4, length / 2, length - 1, length, length + 1, length + 1_000, MAX_SHEET]
-}
-
-/// Every change that a writing sees.
-fn seen(market: &Market) -> Vec<Change> {
-    let all = changes(market.guests(), market.stations()).into_iter();
-    all.filter(|change| !matches!(change, Change::List(..))).collect()
 }
 
 /// The length of the market's sheet, or of the one that the market before a change had.
@@ -51,7 +45,7 @@ pub fn run(random: &mut Random, tally: &mut Tally, cases: usize) -> Result<(), S
         }
         let mut sheet = shortest(&market).len();
         if random.chance(40) {
-            let changes = seen(&market);
+            let changes = market_changes(&market);
             for _ in 0..random.within(1..=4) {
                 let change = *random.pick(&changes);
                 market = changed(random, &market, change);
@@ -66,7 +60,7 @@ pub fn run(random: &mut Random, tally: &mut Tally, cases: usize) -> Result<(), S
     for shape in [some(small()), some(tied()), some(middling()), Shape::full()] {
         let market = shape.market(random);
         let sheet = shortest(&market).len();
-        let changes = seen(&market);
+        let changes = market_changes(&market);
         for first in &changes {
             let with_one = changed(random, &market, *first);
             let sheet = length(&with_one, sheet);

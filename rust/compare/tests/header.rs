@@ -61,7 +61,8 @@ fn the_functions_agree() {
     let in_header = functions(&header[header.find("struct bay_market").unwrap()..], "\nuint8_t ", ");", in_rust);
     let declared =
         functions(&bare(DECLARATIONS), "pub fn ", ") -> u8;", |text| text.split_whitespace().collect::<Vec<_>>().join(" "));
-    let names = ["clear", "clear_efficient", "place_bids", "post", "read", "write"].map(|name| format!("bay_market_{name}"));
+    let names = ["clear", "clear_efficient", "explain", "place_bids", "post", "read", "write"];
+    let names = names.map(|name| format!("bay_market_{name}"));
     assert_eq!(in_header.keys().collect::<Vec<_>>(), names.iter().collect::<Vec<_>>());
     assert_eq!(in_header["bay_market_clear_efficient"], in_header["bay_market_clear"]);
     assert_eq!(in_header, declared);
@@ -77,6 +78,28 @@ fn the_account_agrees() {
     assert_eq!(std::mem::offset_of!(bay_market::StationAccount, sold), 0);
     assert_eq!(std::mem::offset_of!(bay_market::StationAccount, paid), 8);
     assert_eq!(size_of::<bay_market::StationAccount>(), 16);
+}
+
+#[test]
+fn the_codes_agree() {
+    let (_, rest) = HEADER.split_once("enum bay_market_code {").expect("the codes");
+    let (codes, _) = rest.split_once('}').expect("their end");
+    let codes = bare(codes);
+    let codes: Vec<(&str, u8)> = codes
+        .split(',')
+        .filter_map(|code| code.trim().strip_prefix("BAY_MARKET_")?.split_once(" = "))
+        .map(|(name, number)| (name, number.parse().expect("a number")))
+        .collect();
+    use bay_market::{Code, Reason};
+    let reasons =
+        [("NO_BID", Reason::NoBid), ("NOT_OPEN", Reason::NotOpen), ("BELOW_CUT", Reason::BelowCut), ("OUTBID", Reason::Outbid)];
+    let named = |(name, reason)| (name, Code::NotHeld(reason).number());
+    let expected: Vec<(&str, u8)> = [("HELD", Code::Held.number())].into_iter().chain(reasons.map(named)).collect();
+    assert_eq!(codes, expected);
+    for (name, reason) in reasons {
+        let text = format!("case BAY_MARKET_{name}: return \"{}\";", reason.text());
+        assert!(HEADER.contains(&text), "{text}");
+    }
 }
 
 #[test]

@@ -1,8 +1,9 @@
-//! Document 01's cases and limits and document 02's of tickets and quiet rounds, each market also through its sheet;
-//! document 02's of parking places.
+//! Document 01's cases and limits and document 02's of tickets, quiet rounds and what decided, each market also through
+//! its sheet; document 02's of parking places.
 
 use crate::clearing::{Outcome, clear, clear_efficient};
-use crate::faults::{ListLengths, clearing_fault, market_fault};
+use crate::explaining::{GuestOutcome, GuestOutcome::Loss, explain};
+use crate::faults::{ExplanationLengths, ListLengths, clearing_fault, explaining_fault, market_fault};
 use crate::ledger::{Ledger, MAX_ACCOUNT, StationAccount};
 use crate::market::Market;
 use crate::places::{Cell, Places, place_bids, placing_fault, squared_distance, walk};
@@ -200,6 +201,102 @@ fn clearing_refuses_in_the_tables_order() {
     assert_eq!(clearing_fault(1, &market, lists), Err(15));
     market.tickets = vec![7, 6];
     assert_eq!(clearing_fault(1, &market, lists), Ok(()));
+}
+
+#[test]
+fn explaining_refuses_in_the_tables_order() {
+    // every fault at once, mended one after the other
+    let mut market = Market { width: 1, ..Market::new(&[1_000_001; 41], &[0; 40], &[0; 2], &[7; 3], &[1_000_001; 80]) };
+    let right = ExplanationLengths { codes: 80, stations: 2, charges: 2, reasons: 2 };
+    let wrong = ExplanationLengths { codes: 79, ..right };
+    for rule in [0, 3, 255] {
+        assert_eq!(explaining_fault(rule, &market, wrong), Err(18));
+    }
+    assert_eq!(explaining_fault(1, &market, wrong), Err(2));
+    market.asks.pop();
+    assert_eq!(explaining_fault(2, &market, wrong), Err(5));
+    market.width = 40;
+    assert_eq!(explaining_fault(1, &market, wrong), Err(5));
+    market.tickets.pop();
+    for length in [0, 1, 3, 79, 81] {
+        assert_eq!(explaining_fault(1, &market, ExplanationLengths { codes: length, ..right }), Err(10));
+        assert_eq!(explaining_fault(1, &market, ExplanationLengths { stations: length, ..right }), Err(10));
+        assert_eq!(explaining_fault(1, &market, ExplanationLengths { charges: length, ..right }), Err(10));
+        assert_eq!(explaining_fault(1, &market, ExplanationLengths { reasons: length, ..right }), Err(10));
+    }
+    assert_eq!(explaining_fault(1, &market, right), Err(6));
+    market.asks = vec![1; 40];
+    assert_eq!(explaining_fault(1, &market, right), Err(7));
+    market.bays = vec![1; 40];
+    assert_eq!(explaining_fault(1, &market, right), Err(8));
+    market.amounts = vec![1; 2];
+    assert_eq!(explaining_fault(1, &market, right), Err(9));
+    market.bids = vec![1; 80];
+    assert_eq!(explaining_fault(1, &market, right), Err(15));
+    market.tickets = vec![7, 6];
+    assert_eq!(explaining_fault(1, &market, right), Ok(()));
+}
+
+fn win(station: usize, charge: u128) -> GuestOutcome {
+    GuestOutcome::Win { station, charge }
+}
+
+/// An accepted market's codes, row after row, and outcomes, under a rule.
+fn explains(rule: u8, market: &Market, codes: &[u8], outcomes: &[GuestOutcome]) {
+    accepted(market);
+    let explanation = explain(rule, market);
+    assert_eq!(explanation.codes, codes);
+    assert_eq!(explanation.outcomes, outcomes);
+}
+
+#[test]
+fn what_decided_the_cases() {
+    explains(1, &samples::case_e(), &[0, 1, 4, 1], &[win(1, 24), Loss(4)]);
+    explains(1, &Market { tickets: vec![9, 4], ..samples::case_e() }, &[4, 1, 0, 1], &[Loss(4), win(1, 24)]);
+    // cut 3, stations 2 and 4 open: of three candidates at 2 and four at 4, guests 1 and 3 hold both places of each
+    let codes = [
+        1, 0, 1, 0, 2, //
+        2, 1, 2, 3, 1, //
+        2, 0, 1, 0, 1, //
+        2, 4, 1, 4, 1, //
+        1, 1, 2, 4, 2,
+    ];
+    explains(1, &samples::table_i(), &codes, &[win(4, 15), Loss(3), win(2, 18), Loss(4), Loss(4)]);
+    explains(1, &one_bay(&[5], &[1], &[9]), &[2], &[Loss(2)]);
+    explains(1, &one_bay(&[5], &[1], &[0]), &[1], &[Loss(1)]);
+    explains(1, &one_bay(&[2, 6], &[1], &[6, 0]), &[0, 1], &[win(1, 6)]);
+    explains(1, &one_bay(&[2, 6], &[1], &[5, 0]), &[3, 1], &[Loss(3)]);
+    explains(1, &one_bay(&[4, 4], &[1], &[9, 9]), &[2, 2], &[Loss(2)]);
+    explains(1, &one_bay(&[2, 6], &[], &[]), &[], &[]);
+    // a bid below the cut where the station is not open, and a cut of 0
+    explains(1, &one_bay(&[2, 6], &[1], &[0, 1]), &[1, 2], &[Loss(2)]);
+    explains(1, &one_bay(&[0, 0], &[1], &[0, 1]), &[1, 2], &[Loss(2)]);
+    // guest 1 is outbid at station 1 and wins at station 2
+    let elsewhere = one_bay(&[1, 1, 2, 2], &[1, 1], &[5, 9, 0, 0, 7, 0, 0, 0]);
+    explains(1, &elsewhere, &[4, 0, 1, 1, 0, 1, 1, 1], &[win(2, 2), win(1, 5)]);
+}
+
+#[test]
+fn what_decided_by_each_rule() {
+    let market = six([3, 4, 0, 9, 5, 0]);
+    explains(1, &market, &[3, 0, 1, 2, 2, 1], &[win(2, 4)]);
+    explains(2, &market, &[3, 3, 1, 0, 2, 1], &[win(4, 5)]);
+}
+
+#[test]
+fn the_text_of_what_decided() {
+    let why = |rule, market: &Market| report::printed_why(rule, &shortest(market));
+    assert_eq!(why(1, &samples::case_e()), "guest 1 wins station 1 charge 24\nguest 2 loses: outbid\n");
+    // cut 3, station 1 open
+    let four = one_bay(&[1, 3], &[1; 4], &[0, 0, 0, 9, 2, 9, 5, 0]);
+    let text = "guest 1 loses: no bid\nguest 2 loses: station not open\nguest 3 loses: bid below the cut\n\
+        guest 4 wins station 1 charge 3\n";
+    assert_eq!(why(1, &four), text);
+    assert_eq!(why(1, &six([0, 0, 0, 9, 0, 0])), "guest 1 loses: station not open\n");
+    assert_eq!(why(2, &six([0, 0, 0, 9, 0, 0])), "guest 1 wins station 4 charge 5\n");
+    assert_eq!(why(1, &one_bay(&[2, 6], &[], &[])), "");
+    assert_eq!(why(1, &samples::refused()), "refused 6\n");
+    assert_eq!(report::printed_why(1, &SHEET_E[..3]), "refused 1\n");
 }
 
 const SHEET_E: [u8; 38] = [

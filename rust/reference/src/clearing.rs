@@ -25,8 +25,8 @@ struct Candidate {
 
 /// A place that a guest holds at a station.
 #[derive(Clone)]
-struct Place {
-    station: usize,
+pub struct Place {
+    pub station: usize,
     total: u128,
     charge: u128,
 }
@@ -36,7 +36,7 @@ fn amount(market: &Market, guest: usize) -> u128 {
 }
 
 /// 1. The cut, under the rule of a number.
-fn cut(rule: u8, market: &Market) -> u128 {
+pub fn cut(rule: u8, market: &Market) -> u128 {
     let mut rising = market.asks.clone();
     rising.sort();
     let m = market.stations();
@@ -91,10 +91,9 @@ fn settled(market: &Market, cut: u128, stations: Vec<usize>, floors: &[u128]) ->
     outcome
 }
 
-/// The clearing of an accepted market, under rule 1 or 2.
-pub fn clear(rule: u8, market: &Market) -> Outcome {
+/// The places that each guest holds, and each station's floor.
+pub fn places_held(market: &Market, cut: u128) -> (Vec<Vec<Place>>, Vec<u128>) {
     let (n, m) = (market.guests(), market.stations());
-    let cut = cut(rule, market);
     let mut floors = vec![0; m];
     let mut places: Vec<Vec<Place>> = vec![Vec::new(); n];
     for station in 1..=m {
@@ -110,7 +109,14 @@ pub fn clear(rule: u8, market: &Market) -> Outcome {
             places[candidate.guest - 1].push(Place { station, total: candidate.total, charge });
         }
     }
-    let mut seats = vec![0; n];
+    (places, floors)
+}
+
+/// The clearing of an accepted market, under rule 1 or 2.
+pub fn clear(rule: u8, market: &Market) -> Outcome {
+    let cut = cut(rule, market);
+    let (mut places, floors) = places_held(market, cut);
+    let mut seats = vec![0; market.guests()];
     for (seat, held) in seats.iter_mut().zip(&mut places) {
         // 7. the place with the greatest total less charge, of equal ones at the lower station
         held.sort_by_key(|place| (Reverse(place.total - place.charge), place.station));

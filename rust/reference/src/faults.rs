@@ -1,5 +1,5 @@
-//! Document 01, 'Refusals by place', with document 02's: the clearing's rows. Those of reading, writing, placing and
-//! posting stand with these.
+//! Document 01, 'Refusals by place', with document 02's: the rows of clearing and of explaining. Those of reading,
+//! writing, placing and posting stand with these.
 
 use crate::market::Market;
 
@@ -46,12 +46,39 @@ impl ListLengths {
     }
 }
 
+/// How long the lists are that an explanation is lent.
+#[derive(Clone, Copy, Debug, PartialEq, Eq)]
+pub struct ExplanationLengths {
+    pub codes: usize,
+    pub stations: usize,
+    pub charges: usize,
+    pub reasons: usize,
+}
+
+impl ExplanationLengths {
+    /// The lengths that a market's explanation has.
+    pub fn of(market: &Market) -> ExplanationLengths {
+        let (n, m) = (market.guests(), market.stations());
+        ExplanationLengths { codes: n * m, stations: n, charges: n, reasons: n }
+    }
+}
+
 pub fn counts_in_range(n: usize, m: usize) -> bool {
     n <= MAX_GUESTS && (1..=MAX_STATIONS).contains(&m)
 }
 
 /// The first fault of a clearing under the rule of a number, by its own number.
 pub fn clearing_fault(rule: u8, market: &Market, lists: ListLengths) -> Result<(), u8> {
+    call_fault(rule, market, lists == ListLengths::of(market))
+}
+
+/// The first fault of an explanation under the rule of a number, by its own number.
+pub fn explaining_fault(rule: u8, market: &Market, lists: ExplanationLengths) -> Result<(), u8> {
+    call_fault(rule, market, lists == ExplanationLengths::of(market))
+}
+
+/// The first fault of a call that is lent a market and lists for its results, which fit the market or not.
+fn call_fault(rule: u8, market: &Market, lists_fit: bool) -> Result<(), u8> {
     if ![1, 2].contains(&rule) {
         return Err(UNKNOWN_RULE);
     }
@@ -62,7 +89,7 @@ pub fn clearing_fault(rule: u8, market: &Market, lists: ListLengths) -> Result<(
     if market.bays.len() != m || market.tickets.len() != n || market.bids.len() != n * m || market.width != m {
         return Err(LENGTHS_DIFFER);
     }
-    if lists != ListLengths::of(market) {
+    if !lists_fit {
         return Err(LENT_LENGTHS);
     }
     if market.asks.iter().any(|&ask| ask > MAX_PRICE) {

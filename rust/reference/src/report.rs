@@ -1,6 +1,7 @@
 //! What the clearing program prints, and what it writes.
 
 use crate::clearing::{Outcome, clear, clear_efficient};
+use crate::explaining::{BELOW_CUT, GuestOutcome, NO_BID, NOT_OPEN, OUTBID, explain};
 use crate::faults::market_fault;
 use crate::market::Market;
 use crate::sheet::{GREATEST, read, write};
@@ -33,6 +34,38 @@ fn printed_by(clear: fn(u8, &Market) -> Outcome, rule: u8, sheet: &[u8]) -> Stri
     match cleared {
         Ok(cleared) => outcome(&cleared),
         Err(number) => refused(number),
+    }
+}
+
+/// What the program prints for a sheet by a rule, 1 or 2, where it is to tell what decided.
+pub fn printed_why(rule: u8, sheet: &[u8]) -> String {
+    let told = read(sheet, GREATEST).and_then(|market| market_fault(&market).map(|()| explain(rule, &market)));
+    match told {
+        Ok(told) => outcomes(&told.outcomes),
+        Err(number) => refused(number),
+    }
+}
+
+/// A line for each guest.
+fn outcomes(outcomes: &[GuestOutcome]) -> String {
+    let mut text = String::new();
+    for (i, outcome) in outcomes.iter().enumerate() {
+        match outcome {
+            GuestOutcome::Win { station, charge } => writeln!(text, "guest {} wins station {station} charge {charge}", i + 1),
+            GuestOutcome::Loss(code) => writeln!(text, "guest {} loses: {}", i + 1, reason(*code)),
+        }
+        .unwrap();
+    }
+    text
+}
+
+fn reason(code: u8) -> &'static str {
+    match code {
+        NO_BID => "no bid",
+        NOT_OPEN => "station not open",
+        BELOW_CUT => "bid below the cut",
+        OUTBID => "outbid",
+        _ => panic!("code {code} is no loss"),
     }
 }
 
