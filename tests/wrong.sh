@@ -36,8 +36,10 @@ finds() {
 for part in read write trip place_bids clear clear_efficient explain facts post truth truth_efficient; do
     BAY_MARKET_FAULT='' "$compare" $seed $part >/dev/null
 done
-# what has the faults of efficient clearing is right without one
+# what has the faults of efficient clearing and of telling is right without one
 BAY_MARKET_FAULT='clear_efficient own' "$compare" $seed clear_efficient >/dev/null
+BAY_MARKET_FAULT='explain own' "$compare" $seed explain >/dev/null
+BAY_MARKET_FAULT='explain own' "$compare" $seed facts >/dev/null
 
 # what a function only reads, what it fills, the numbers that it gives
 lists() {

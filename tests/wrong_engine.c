@@ -19,6 +19,7 @@
  *   clear_efficient full         a full station seats one guest more
  *   clear_efficient no-floor     charges are cut times amount, whatever the floor
  *   clear_efficient untouched    the result lists stay as they were
+ *   explain own                  none: what spoils the codes, reasons and charges, without a fault
  *   explain cut-first            3 goes before 2: a bid below the cut where the station is not open
  *   explain open-first           2 goes before 1: no bid where the station is not open
  *   explain bid-late             3 goes before 1: no bid where the station is open
