@@ -4,7 +4,7 @@ pub mod assignment;
 mod criticals;
 pub mod efficient;
 mod line;
-mod offers;
+pub mod offers;
 mod opening;
 mod seats;
 mod selection;
