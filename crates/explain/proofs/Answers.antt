@@ -1,0 +1,2 @@
+-- Answers.
+use Prim.Native.Nat.{ℕ}
