@@ -1,2 +1,225 @@
--- Answers.
-use Prim.Native.Nat.{ℕ}
+-- An accepted market at its rule's cut, and what is told of a market by its verdict.
+use Prim.Native.Nat.{ℕ, _*_, _≤_, _<_, zero-le}
+use mathlib.Core.Bool.{not}
+use mathlib.Core.List.{List, [], _∷_, _++_}
+use mathlib.Core.Path.{_≡_, refl, sym, ap, ap₂, subst, _∙_}
+use native.Mathlib.Omega.{arith}
+use lib.ListN.{getD, length, take, drop, replicate}
+use lib.Seq.{take-at}
+use Rattle.model.specs.Limits.{maxGuests, maxPrice}
+use Rattle.model.specs.Counting.{_=?_, only, greatest, list, joined, any}
+use Rattle.model.specs.Numbers.{number, answerOfVerdict}
+use Rattle.model.specs.Verdicts.{Verdict, accepted, refused, firstFault, updated}
+use Rattle.model.specs.declared.answers.Verdict.{Verdict as Coded}
+use Rattle.model.specs.declared.answers.Verdict.the-variants as verdicts
+use Rattle.model.specs.declared.refusal.Refusal.{Refusal}
+use Rattle.model.specs.declared.refusal.Refusal.the-variants.{UnknownRule}
+use Rattle.model.specs.declared.rule.Rule.{Rule}
+use Rattle.model.specs.declared.rule.NamedRule.the-variants.{Known, Unknown}
+use Rattle.model.specs.market.Market.{Tables, tables, regular, marketBy, market, cut, opens, screen}
+use Rattle.model.specs.market.Mechanism.{truthful}
+use Rattle.model.specs.market.Outcome.{outcomeBy, screened, decision, outcome}
+use Rattle.model.specs.market.Faults.{unknownRule, verdict, marketFaults, counts, lengths, explainedLengths}
+use Rattle.model.specs.market.Faults.{Accepted, explainedFaults, explainingFaults}
+use Rattle.model.specs.market.Reasons.{codes, highestCode, Told, tellings, loss, guestOutcomes}
+use Rattle.model.specs.market.Rules.{named, isUnknown, ruleIn, ruleOf}
+use Rattle.model.specs.claims.Meaning.{WithinLimits}
+use Rattle.model.proofs.Tests.{or-no, only-le}
+use Rattle.model.proofs.Counting.{greatest-le, length-list, list-cong, any-no}
+use Rattle.model.proofs.Loops.{element}
+use Rattle.model.proofs.Verdicts.{no-fault, fault-free, updated-accepted, updated-refused}
+use Rattle.model.proofs.market.Acceptance.{accepted-iff-within-limits, equal}
+use Rattle.pricing.specs.Charges.{leastAt}
+use Rattle.pricing.specs.CutAsk.{under, eligible, cutAsk}
+use Rattle.allocation.specs.Stages.{AtCut}
+use Rattle.allocation.specs.Assignment.{Assigned}
+use Rattle.allocation.specs.Screens.{screenedAt}
+use Rattle.explain.specs.Codes.{codeAt, CodesAtCut}
+use Rattle.explain.specs.Explained.{ExplainsAccepted, refusing, toldBy, ExplainedAs, ExplainedUnder, ExplainedBy}
+use Rattle.explain.specs.declared.explained.Telling.{Telling}
+use Rattle.explain.proofs.codes.Codes.{code-is}
+
+-- ---- an accepted market at its rule's cut
+
+cut-is : (rule : Rule) (t : Tables) → cutAsk rule (t .asks) ≡ cut (market rule t)
+unfolding cutAsk eligible under cut market marketBy
+cut-is rule t = refl
+
+pub cut-low : (rule : Rule) (t : Tables) (c : ℕ) → WithinLimits t → c ≡ cutAsk rule (t .asks) → c ≤ maxPrice
+unfolding cutAsk eligible
+cut-low rule t c w e =
+    rw e (greatest-le (length (t .asks)) _ maxPrice (λ k l. only-le _ _ _ (λ _. w .ask-most k l)))
+
+pub at-cut :
+    (rule : Rule) (t : Tables) {c : ℕ} {least : List ℕ} → WithinLimits t → c ≡ cutAsk rule (t .asks)
+    → least ≡ list (length (t .amounts)) (leastAt (t .amounts) c) → AtCut t c least
+at-cut rule t w e l = record { within = w; cut-low = cut-low rule t _ w e; least-are = l }
+
+pub stations-count :
+    (t : Tables) (c : ℕ) {stations charges : List ℕ} → let S = screenedAt t c in
+    Assigned (outcomeBy S (truthful S)) stations charges → length stations ≡ length (t .amounts)
+unfolding outcomeBy screenedAt
+stations-count t c a = ap length (a .stations-are) ∙ length-list (length (t .amounts)) _
+
+-- where the cut is the rule's
+module _ (rule : Rule) (t : Tables) where
+  abbrev c : ℕ
+  c = cut (market rule t)
+
+  module _ {table stations charges losses : List ℕ}
+      (a : Assigned (outcomeBy (screenedAt t c) (truthful (screenedAt t c))) stations charges)
+      (s : CodesAtCut t c stations table losses) where
+    station-is : (i : ℕ) → i < length (t .amounts) → getD stations i 0 ≡ (decision rule t) .assigned i
+    unfolding outcomeBy decision screened screen opens screenedAt market marketBy
+    station-is i l = element (length (t .amounts)) _ (a .stations-are) i l
+
+    at-rule-cut : ExplainsAccepted rule t table stations charges losses
+    unfolding codes guestOutcomes loss highestCode outcome outcomeBy decision screened screen opens screenedAt market
+        marketBy
+    at-rule-cut = record {
+      codes-are = s .codes-are
+          ∙ (λ x. joined (length (t .amounts)) (λ i. list (length (t .asks)) (λ j. code-is rule t i j x)));
+      outcomes-are = λ x. record {
+        stations = (a .stations-are) x;
+        charges = (a .charges-are) x;
+        losses = (s .losses-are ∙ list-cong (length (t .amounts)) _ _ (λ i l. ap₂ (λ a b. only (a =? 0) b)
+            (station-is i l) (λ y. greatest (length (t .asks)) (λ j. code-is rule t i j y)))) x;
+      };
+    }
+
+pub explains-accepted :
+    (rule : Rule) (t : Tables) {c : ℕ} {table stations charges losses : List ℕ} → c ≡ cutAsk rule (t .asks)
+    → Assigned (outcomeBy (screenedAt t c) (truthful (screenedAt t c))) stations charges
+    → CodesAtCut t c stations table losses → ExplainsAccepted rule t table stations charges losses
+explains-accepted rule t {c} {table} {stations} {charges} {losses} e a s =
+    let at : c ≡ cut (market rule t) = e ∙ cut-is rule t in
+    at-rule-cut rule t
+    (subst (λ c. Assigned (outcomeBy (screenedAt t c) (truthful (screenedAt t c))) stations charges) at a)
+    (subst (λ c. CodesAtCut t c stations table losses) at s)
+
+-- ---- the verdict
+
+pub accepted-lengths :
+    (t : Tables) (codes outcomes : ℕ) → firstFault (explainedFaults t codes (outcomes ∷ [])) ≡ accepted tt
+    → WithinLimits t × (codes ≡ length (t .amounts) * length (t .asks)) × (outcomes ≡ length (t .amounts))
+unfolding verdict marketFaults explainedFaults counts lengths explainedLengths
+accepted-lengths t codes outcomes e =
+    let (c, e1) = no-fault _ _ _ e in
+    let (l, e2) = no-fault _ _ _ e1 in
+    let (k, e3) = no-fault _ _ _ e2 in
+    let (table, rows) = or-no _ _ k in (
+      accepted-iff-within-limits t .0 (fault-free _ _ c (fault-free _ _ l e3)),
+      equal _ _ table,
+      equal _ _ (any-no (outcomes ∷ []) _ rows 0 (omega arith)),
+    )
+
+-- the code's verdict, and the definitions'
+abbrev pub Judged : Tables → (codes outcomes : ℕ) → Coded → Type 0
+Judged t codes outcomes v = answerOfVerdict v ≡ firstFault (explainedFaults t codes (outcomes ∷ []))
+
+is-accepted :
+    (t : Tables) (codes outcomes : ℕ) → Judged t codes outcomes verdicts.Accepted
+    → firstFault (explainedFaults t codes (outcomes ∷ [])) ≡ accepted tt
+unfolding answerOfVerdict
+is-accepted t codes outcomes e = sym e
+
+-- the row width is the number of stations
+width-of :
+    (asks bays amounts tickets bids : List ℕ) (width : ℕ)
+    → WithinLimits (tables asks bays amounts tickets bids width)
+    → tables asks bays amounts tickets bids width ≡ regular asks bays amounts tickets bids
+width-of asks bays amounts tickets bids width w = ap (tables asks bays amounts tickets bids) (w .shape .width-is)
+
+module _ (asks bays amounts tickets bids : List ℕ) (width codes outcomes : ℕ)
+    (e : Judged (tables asks bays amounts tickets bids width) codes outcomes verdicts.Accepted) where
+  abbrev t : Tables
+  t = tables asks bays amounts tickets bids width
+
+  found : WithinLimits t × (codes ≡ length amounts * length asks) × (outcomes ≡ length amounts)
+  found = accepted-lengths t codes outcomes (is-accepted t codes outcomes e)
+
+  pub found-within : WithinLimits (regular asks bays amounts tickets bids)
+  found-within = subst WithinLimits (width-of asks bays amounts tickets bids width (found .0)) (found .0)
+
+  pub found-codes : codes ≡ length amounts * length asks
+  found-codes = found .1
+
+-- ---- what is told
+
+pub refused-explained :
+    {v : Verdict} {new : List ℕ} {o : Told} {n : ℕ} {entry : List ℕ} (x : Refusal) {e : Telling}
+    → v ≡ refused (number x) → e ≡ refusing x → ExplainedAs v new o n entry e entry
+unfolding answerOfVerdict refusing toldBy
+refused-explained {v} {new} {o} {n} {entry} x {e} p q = rw (p, q) (record {
+  answered = refl;
+  codes-left = sym (updated-refused new entry _ refl);
+  guests-are = sym (updated-refused n 0 _ refl);
+  few = zero-le;
+  outcomes-told = sym (updated-refused o (tellings [] [] []) _ refl);
+})
+
+pub fault-explained :
+    (rule : Rule) (t : Tables) (outcomes : ℕ) (entry : List ℕ) (x : Refusal) {e : Telling}
+    → Judged t (length entry) outcomes (verdicts.Refused x) → e ≡ refusing x
+    → ExplainedUnder rule t outcomes entry e entry
+unfolding answerOfVerdict
+fault-explained rule t outcomes entry x j q = refused-explained x (sym j) q
+
+told-long :
+    {rule : Rule} {t : Tables} {table stations charges losses : List ℕ}
+    → ExplainsAccepted rule t table stations charges losses
+    → (length stations ≡ length (t .amounts)) × (length charges ≡ length (t .amounts))
+    × (length losses ≡ length (t .amounts))
+unfolding guestOutcomes outcome outcomeBy screened screen market marketBy
+told-long {t = t} s =
+    let n = length (t .amounts) in (
+      ap (λ o. length (o .stations)) (s .outcomes-are) ∙ length-list n _,
+      ap (λ o. length (o .charges)) (s .outcomes-are) ∙ length-list n _,
+      ap (λ o. length (o .losses)) (s .outcomes-are) ∙ length-list n _,
+    )
+
+pub accepted-explained :
+    (rule : Rule) (asks bays amounts tickets bids : List ℕ) (width outcomes : ℕ) (entry : List ℕ)
+    {table stations charges losses : List ℕ} {e : Telling}
+    → Judged (tables asks bays amounts tickets bids width) (length entry) outcomes verdicts.Accepted
+    → ExplainsAccepted rule (regular asks bays amounts tickets bids) table stations charges losses
+    → e .reply ≡ verdicts.Accepted → e .guests ≡ length amounts
+    → e .stations ≡ stations ++ drop (length amounts) (replicate maxGuests 0)
+    → e .charges ≡ charges ++ drop (length amounts) (replicate maxGuests 0)
+    → e .losses ≡ losses ++ drop (length amounts) (replicate maxGuests 0)
+    → ExplainedUnder rule (tables asks bays amounts tickets bids width) outcomes entry e table
+unfolding answerOfVerdict toldBy
+accepted-explained rule asks bays amounts tickets bids width outcomes entry {table} {stations} {charges} {losses} {e}
+    j s er eg es ec el =
+    let t = tables asks bays amounts tickets bids width in
+    let v = is-accepted t (length entry) outcomes j in
+    let w = accepted-lengths t (length entry) outcomes v .0 in
+    let same = sym (width-of asks bays amounts tickets bids width w) in
+    let (ls, lc, ll) = told-long s in
+    record {
+      answered = ap answerOfVerdict er ∙ sym v;
+      codes-left = s .codes-are ∙ ap (codes rule) same ∙ sym (updated-accepted _ _ v);
+      guests-are = eg ∙ sym (updated-accepted _ _ v);
+      few = rw eg (w .shape .guests-most);
+      outcomes-told =
+          (λ x. tellings
+          ((ap₂ take eg es ∙ take-at stations _ (length amounts) ls) x)
+          ((ap₂ take eg ec ∙ take-at charges _ (length amounts) lc) x)
+          ((ap₂ take eg el ∙ take-at losses _ (length amounts) ll) x))
+          ∙ s .outcomes-are ∙ ap (guestOutcomes rule) same ∙ sym (updated-accepted _ _ v);
+    }
+
+-- the rule's number first
+
+pub unknown-explained :
+    (rule : ℕ) (t : Tables) (outcomes : ℕ) (entry : List ℕ) {e : Telling} → Unknown ≡ named rule
+    → e ≡ refusing UnknownRule → ExplainedBy rule t outcomes entry e entry
+unfolding explainingFaults unknownRule isUnknown firstFault
+unknown-explained rule t outcomes entry u q = refused-explained UnknownRule (rw (← u) refl) q
+
+pub known-explained :
+    (rule : ℕ) (known : Rule) (t : Tables) (outcomes : ℕ) (entry : List ℕ) {e : Telling} {exit : List ℕ}
+    → Known known ≡ named rule → ExplainedUnder known t outcomes entry e exit
+    → ExplainedBy rule t outcomes entry e exit
+unfolding explainingFaults unknownRule isUnknown ruleIn firstFault
+known-explained rule known t outcomes entry u s = rw (← u) s
