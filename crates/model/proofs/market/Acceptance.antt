@@ -129,7 +129,7 @@ pub accepted-iff-within-limits : AcceptedIffWithinLimits
 accepted-iff-within-limits t = (within t, accept t)
 
 -- a number that names a rule, and one that names none
-known : (k : ℕ) → isUnknown (named k) ≡ false → NamesRule k
+pub known : (k : ℕ) → isUnknown (named k) ≡ false → NamesRule k
 unfolding named isUnknown
 known k = go (k =? 1) refl (k =? 2) refl
   where
@@ -139,7 +139,7 @@ known k = go (k =? 1) refl (k =? 2) refl
     go false e true f h = inr (eq-yes _ _ f)
     go false e false f h = absurd (clash refl h)
 
-is-known : (k : ℕ) → NamesRule k → isUnknown (named k) ≡ false
+pub is-known : (k : ℕ) → NamesRule k → isUnknown (named k) ≡ false
 unfolding named isUnknown _=?_
 is-known k n = ⊎-elim (λ (e : k ≡ 1). rw e refl) (λ (e : k ≡ 2). rw e refl) n
 
