@@ -1,13 +1,12 @@
 -- An accepted market at its rule's cut, and what is told of a market by its verdict.
 use Prim.Native.Nat.{ℕ, _*_, _≤_, _<_, zero-le}
-use mathlib.Core.Bool.{not}
 use mathlib.Core.List.{List, [], _∷_, _++_}
 use mathlib.Core.Path.{_≡_, refl, sym, ap, ap₂, subst, _∙_}
 use native.Mathlib.Omega.{arith}
 use lib.ListN.{getD, length, take, drop, replicate}
 use lib.Seq.{take-at}
-use Rattle.model.specs.Limits.{maxGuests, maxPrice}
-use Rattle.model.specs.Counting.{_=?_, only, greatest, list, joined, any}
+use Rattle.model.specs.Limits.{maxGuests}
+use Rattle.model.specs.Counting.{_=?_, only, greatest, list, joined}
 use Rattle.model.specs.Numbers.{number, answerOfVerdict}
 use Rattle.model.specs.Verdicts.{Verdict, accepted, refused, firstFault, updated}
 use Rattle.model.specs.declared.answers.Verdict.{Verdict as Coded}
@@ -19,19 +18,17 @@ use Rattle.model.specs.declared.rule.NamedRule.the-variants.{Known, Unknown}
 use Rattle.model.specs.market.Market.{Tables, tables, regular, marketBy, market, cut, opens, screen}
 use Rattle.model.specs.market.Mechanism.{truthful}
 use Rattle.model.specs.market.Outcome.{outcomeBy, screened, decision, outcome}
-use Rattle.model.specs.market.Faults.{unknownRule, verdict, marketFaults, counts, lengths, explainedLengths}
-use Rattle.model.specs.market.Faults.{Accepted, explainedFaults, explainingFaults}
+use Rattle.model.specs.market.Faults.{unknownRule, explainedFaults, explainingFaults}
 use Rattle.model.specs.market.Reasons.{codes, highestCode, Told, tellings, loss, guestOutcomes}
 use Rattle.model.specs.market.Rules.{named, isUnknown, ruleIn, ruleOf}
 use Rattle.model.specs.claims.Meaning.{WithinLimits}
-use Rattle.model.proofs.Tests.{or-no, only-le}
-use Rattle.model.proofs.Counting.{greatest-le, length-list, list-cong, any-no}
+use Rattle.model.proofs.Counting.{length-list, list-cong}
 use Rattle.model.proofs.Loops.{element}
-use Rattle.model.proofs.Verdicts.{no-fault, fault-free, updated-accepted, updated-refused}
-use Rattle.model.proofs.market.Acceptance.{accepted-iff-within-limits, equal}
-use Rattle.pricing.specs.Charges.{leastAt}
-use Rattle.pricing.specs.CutAsk.{under, eligible, cutAsk}
-use Rattle.allocation.specs.Stages.{AtCut}
+use Rattle.model.proofs.Verdicts.{updated-accepted, updated-refused}
+use Rattle.model.proofs.market.Acceptance.{accepted-iff-within-limits, width-of}
+use Rattle.model.proofs.claims.Reasons.{explained-within, station-told, charge-told, loss-told, told-long}
+use Rattle.pricing.specs.CutAsk.{cutAsk}
+use Rattle.pricing.proofs.cut.CutAsk.{cut-is}
 use Rattle.allocation.specs.Assignment.{Assigned}
 use Rattle.allocation.specs.Screens.{screenedAt}
 use Rattle.explain.specs.Codes.{codeAt, CodesAtCut}
@@ -40,20 +37,6 @@ use Rattle.explain.specs.declared.explained.Telling.{Telling}
 use Rattle.explain.proofs.codes.Codes.{code-is}
 
 -- ---- an accepted market at its rule's cut
-
-cut-is : (rule : Rule) (t : Tables) → cutAsk rule (t .asks) ≡ cut (market rule t)
-unfolding cutAsk eligible under cut market marketBy
-cut-is rule t = refl
-
-pub cut-low : (rule : Rule) (t : Tables) (c : ℕ) → WithinLimits t → c ≡ cutAsk rule (t .asks) → c ≤ maxPrice
-unfolding cutAsk eligible
-cut-low rule t c w e =
-    rw e (greatest-le (length (t .asks)) _ maxPrice (λ k l. only-le _ _ _ (λ _. w .ask-most k l)))
-
-pub at-cut :
-    (rule : Rule) (t : Tables) {c : ℕ} {least : List ℕ} → WithinLimits t → c ≡ cutAsk rule (t .asks)
-    → least ≡ list (length (t .amounts)) (leastAt (t .amounts) c) → AtCut t c least
-at-cut rule t w e l = record { within = w; cut-low = cut-low rule t _ w e; least-are = l }
 
 pub stations-count :
     (t : Tables) (c : ℕ) {stations charges : List ℕ} → let S = screenedAt t c in
@@ -99,19 +82,12 @@ explains-accepted rule t {c} {table} {stations} {charges} {losses} e a s =
 
 -- ---- the verdict
 
-pub accepted-lengths :
+accepted-lengths :
     (t : Tables) (codes outcomes : ℕ) → firstFault (explainedFaults t codes (outcomes ∷ [])) ≡ accepted tt
     → WithinLimits t × (codes ≡ length (t .amounts) * length (t .asks)) × (outcomes ≡ length (t .amounts))
-unfolding verdict marketFaults explainedFaults counts lengths explainedLengths
 accepted-lengths t codes outcomes e =
-    let (c, e1) = no-fault _ _ _ e in
-    let (l, e2) = no-fault _ _ _ e1 in
-    let (k, e3) = no-fault _ _ _ e2 in
-    let (table, rows) = or-no _ _ k in (
-      accepted-iff-within-limits t .0 (fault-free _ _ c (fault-free _ _ l e3)),
-      equal _ _ table,
-      equal _ _ (any-no (outcomes ∷ []) _ rows 0 (omega arith)),
-    )
+    let (market, table, rows) = explained-within t codes outcomes e in
+    (accepted-iff-within-limits t .0 market, table, rows)
 
 -- the code's verdict, and the definitions'
 abbrev pub Judged : Tables → (codes outcomes : ℕ) → Coded → Type 0
@@ -122,13 +98,6 @@ is-accepted :
     → firstFault (explainedFaults t codes (outcomes ∷ [])) ≡ accepted tt
 unfolding answerOfVerdict
 is-accepted t codes outcomes e = sym e
-
--- the row width is the number of stations
-width-of :
-    (asks bays amounts tickets bids : List ℕ) (width : ℕ)
-    → WithinLimits (tables asks bays amounts tickets bids width)
-    → tables asks bays amounts tickets bids width ≡ regular asks bays amounts tickets bids
-width-of asks bays amounts tickets bids width w = ap (tables asks bays amounts tickets bids) (w .shape .width-is)
 
 module _ (asks bays amounts tickets bids : List ℕ) (width codes outcomes : ℕ)
     (e : Judged (tables asks bays amounts tickets bids width) codes outcomes verdicts.Accepted) where
@@ -165,13 +134,13 @@ pub fault-explained :
 unfolding answerOfVerdict
 fault-explained rule t outcomes entry x j q = refused-explained x (sym j) q
 
-told-long :
+accepted-long :
     {rule : Rule} {t : Tables} {table stations charges losses : List ℕ}
     → ExplainsAccepted rule t table stations charges losses
     → (length stations ≡ length (t .amounts)) × (length charges ≡ length (t .amounts))
     × (length losses ≡ length (t .amounts))
 unfolding guestOutcomes outcome outcomeBy screened screen market marketBy
-told-long {t = t} s =
+accepted-long {t = t} s =
     let n = length (t .amounts) in (
       ap (λ o. length (o .stations)) (s .outcomes-are) ∙ length-list n _,
       ap (λ o. length (o .charges)) (s .outcomes-are) ∙ length-list n _,
@@ -195,7 +164,7 @@ accepted-explained rule asks bays amounts tickets bids width outcomes entry {tab
     let v = is-accepted t (length entry) outcomes j in
     let w = accepted-lengths t (length entry) outcomes v .0 in
     let same = sym (width-of asks bays amounts tickets bids width w) in
-    let (ls, lc, ll) = told-long s in
+    let (ls, lc, ll) = accepted-long s in
     record {
       answered = ap answerOfVerdict er ∙ sym v;
       codes-left = s .codes-are ∙ ap (codes rule) same ∙ sym (updated-accepted _ _ v);

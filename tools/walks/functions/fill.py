@@ -14,7 +14,8 @@ Rattle.explain.proofs.explained.Telling as R
 Rattle.explain.proofs.explained.Telling.Laws as R′
 Rattle.explain.specs.Outcomes: recordAt writtenTo
 Rattle.model.specs.declared.reason.GuestOutcome: GuestOutcome
-Rattle.explain.proofs.outcomes.Outcomes: nobody written-none written-more written-length both least
+Rattle.explain.proofs.outcomes.Outcomes: nobody written-none written-more written-length
+Rattle.model.proofs.Loops: passes-both ends-least
 Rattle.model.proofs.reason.GuestOutcome as T
 Rattle.model.proofs.reason.GuestOutcome.Laws as T′
 ''')
@@ -85,7 +86,7 @@ def ends():
     w = tested()
     w.step(f'leaves-loop ! ({w.load(BOTH)})').step('exec ! C Λ En mirᶜ.t-3 (atRet En Post)')
     w.copy('unit-lit !', '_0', 'tt, tt').leave()
-    return w.end('by ! (exits gn (L (j .0)) (written-length d ys (j .0)) (ap L (least n k (j .0) (j .1) (j .2) e)))')
+    return w.end('by ! (exits gn (L (j .0)) (written-length d ys (j .0)) (ap L (ends-least n k (j .0) (j .1) (j .2) e)))')
 
 
 def walk():
@@ -110,10 +111,10 @@ def proof():
 
 WHERE = '''\
           less : j .0 + 1 ≤ n
-          less = omega (arith, ltb-true (j .0) n (both (ltb (j .0) n) (ltb (j .0) k) e .0))
+          less = omega (arith, ltb-true (j .0) n (passes-both (ltb (j .0) n) (ltb (j .0) k) e .0))
 
           fewer : j .0 + 1 ≤ k
-          fewer = omega (arith, ltb-true (j .0) k (both (ltb (j .0) n) (ltb (j .0) k) e .1))
+          fewer = omega (arith, ltb-true (j .0) k (passes-both (ltb (j .0) n) (ltb (j .0) k) e .1))
 
           within : j .0 < length (L (j .0))
           within = subst (λ (m : ℕ). j .0 < m) (sym (written-length d ys (j .0))) (omega (arith, less))

@@ -19,7 +19,10 @@ use Rattle.model.proofs.Counting.{greatest-le, list-cong}
 use Rattle.model.proofs.Loops.{long, element, is-list, relist, zeros-are, in-table}
 use Rattle.model.proofs.market.Limits.{product}
 use Rattle.model.proofs.market.Outcomes.{ComesOf, numbered}
-use Rattle.pricing.specs.Charges.{Chargeable, chargedAt, Charged}
+use Rattle.model.specs.declared.rule.Rule.{Rule}
+use Rattle.pricing.specs.Charges.{leastAt, Chargeable, chargedAt, Charged}
+use Rattle.pricing.specs.CutAsk.{cutAsk}
+use Rattle.pricing.proofs.cut.CutAsk.{cut-low}
 use Rattle.allocation.specs.Stages.{AtCut, stationBy, gainBy, criticalBy, After, AfterIn, turnTotals, totalsAfter}
 use Rattle.allocation.specs.Stages.{Turned, Bounded, BoundedIn, Bars}
 use Rattle.allocation.specs.Totals.{maxTotal}
@@ -83,6 +86,12 @@ after-none {S} {n} h e = record {
     critical-none : (s : ℕ) → criticalBy S 0 s ≡ 0
     critical-none zero = refl
     critical-none (suc k) = only-no _ _ (not-lt _ _ (omega arith))
+
+-- at the cut of a rule
+pub at-cut :
+    (rule : Rule) (t : Tables) {c : ℕ} {least : List ℕ} → WithinLimits t → c ≡ cutAsk rule (t .asks)
+    → least ≡ list (length (t .amounts)) (leastAt (t .amounts) c) → AtCut t c least
+at-cut rule t w e l = record { within = w; cut-low = cut-low rule t _ w e; least-are = l }
 
 -- lists that hold a decision: each guest's number of a station, and the critical total of each
 pub record Decided (t : Tables) (D : Decision) (chosen criticals : List ℕ) : Type 0 where

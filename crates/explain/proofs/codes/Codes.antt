@@ -7,8 +7,8 @@ use mathlib.Core.Path.{_≡_, refl, sym, ap, ap₂, _∙_}
 use native.Mathlib.Nat.{mul-le-mul-right}
 use native.Mathlib.Numerals.{add-one}
 use native.Mathlib.Omega.{arith}
-use lib.ListN.{getD, length, set, take, drop, length-append, length-drop}
-use lib.Seq.{paste, paste-zero, paste-suc, length-paste, take-at, take-all, drop-at, drop-drop, drop-length}
+use lib.ListN.{getD, length, set, drop, length-append, length-drop}
+use lib.Seq.{paste, paste-zero, paste-suc, length-paste, drop-length}
 use Rattle.model.specs.Limits.{maxGuests, maxStations}
 use Rattle.model.specs.Counting.{_<?_, _≤?_, _=?_, _and_, only, greatest, list, joined}
 use Rattle.model.specs.Verdicts.{_gives_, firstFault, numberOf}
@@ -20,7 +20,7 @@ use Rattle.model.proofs.Tests.{both, lt-yes, lt-no, is-lt, not-lt, is-le, not-l
 use Rattle.model.proofs.Counting.{greatest-cong, length-list, getD-list, list-cong}
 use Rattle.model.proofs.Loops.{Filling, filling-none, filling-turn, filling-end, in-table}
 use Rattle.model.proofs.market.Acceptance.{product-fits}
-use Rattle.model.proofs.sheet.Joined.{joined-length}
+use Rattle.model.proofs.sheet.Joined.{joined-length, paste-next}
 use Rattle.allocation.specs.Offers.{wonBy}
 use Rattle.allocation.specs.Screens.{screenedAt}
 use Rattle.allocation.specs.Stages.{Bars}
@@ -164,15 +164,6 @@ module _ {m : ℕ} {f : ℕ → ℕ} {codes₀ codes : List ℕ} {base top j : �
       (s .is ∙ ap (paste codes₀ base (list m f)) whole, s .highest ∙ ap (λ k. greatest k f) whole)
 
 -- ---- the loop over the rows
-
--- a row over the places after x
-paste-next :
-    (x d r : List ℕ) (k m : ℕ) → length x ≡ k → length r ≡ m → paste (x ++ drop k d) k r m ≡ x ++ r ++ drop (k + m) d
-paste-next x d r k m at long =
-    ap (λ l. l ++ take m r ++ drop (k + m) (x ++ drop k d)) (take-at x (drop k d) k at)
-    ∙ ap (λ l. x ++ l ++ drop (k + m) (x ++ drop k d)) (take-all m r (omega arith))
-    ∙ ap (λ l. x ++ r ++ l)
-    (sym (drop-drop m k (x ++ drop k d)) ∙ ap (drop m) (drop-at x (drop k d) k at) ∙ drop-drop m k d)
 
 -- the loss of guest i with these stations
 abbrev lossAt : (t : Tables) (c : ℕ) (stations : List ℕ) → ℕ → ℕ

@@ -1,15 +1,13 @@
 -- Laws of guests' records, and of a row of them.
-use Prim.Native.Nat.{ℕ, zero, suc, _+_, _≤_, _<_, min}
-use mathlib.Core.Bool.{Bool, true, false, _&&_, cond}
+use Prim.Native.Nat.{ℕ, zero, suc, _+_, _≤_, _<_}
+use mathlib.Core.Bool.{cond}
 use mathlib.Core.List.{List}
 use mathlib.Core.Logic.{⊎-elim}
 use mathlib.Core.Path.{_≡_, refl, sym, ap, ap₂, _∙_}
 use native.Mathlib.Numerals.{add-one}
 use native.Mathlib.Omega.{arith}
-use lib.Dec.{ltb}
 use lib.ListN.{getD, length, set, length-set}
 use lib.Seq.{getD-set-same, getD-set-other}
-use borrow.Author.Tests.{lt-ltb}
 use Rattle.model.specs.Limits.{maxGuests}
 use Rattle.model.specs.Counting.{_<?_, _=?_, only}
 use Rattle.model.specs.Numbers.{codeOf, stationOf, chargeOf, lossOf}
@@ -17,7 +15,7 @@ use Rattle.model.specs.declared.money.Mills.{Mills}
 use Rattle.model.specs.declared.reason.Reason.the-variants.{NoBid, NotOpen, BelowCut, Outbid}
 use Rattle.model.specs.declared.reason.GuestResult.the-variants.{Win, Loss}
 use Rattle.model.specs.declared.reason.GuestOutcome.{GuestOutcome}
-use Rattle.model.proofs.Tests.{clash, is-eq, not-eq, eq-or-ne, is-lt, not-lt, lt-or-le, only-yes, only-no}
+use Rattle.model.proofs.Tests.{is-eq, not-eq, eq-or-ne, is-lt, not-lt, lt-or-le, only-yes, only-no}
 use Rattle.explain.specs.Outcomes.{reasonOf, recordOf, mills, recordAt, writtenTo}
 use Rattle.explain.specs.declared.explained.Telling.{Telling}
 
@@ -128,22 +126,3 @@ module _ (e : Telling) (l : List GuestOutcome) where
       let z : k ≡ n = omega arith in
       rw z (getD-set-same (writtenTo e n l) n _ _ (omega (arith, written-length n))))
       (lt-or-le k n)
-
--- two tests that pass
-pub both : (a b : Bool) → (a && b) ≡ true → (a ≡ true) × (b ≡ true)
-both true b e = (refl, e)
-both false b e = absurd (clash e refl)
-
--- where the loop over n records and m guests ends
-pub least :
-    (n m j : ℕ) → j ≤ n → j ≤ m → (ltb j n && ltb j m) ≡ false → j ≡ min n m
-least n m j a b e = ⊎-elim
-    (λ (q : n < m). ⊎-elim
-    (λ (h : j < n). absurd (clash (ap₂ _&&_ (lt-ltb j n h) (lt-ltb j m (omega arith))) e))
-    (λ (h : n ≤ j). omega arith)
-    (lt-or-le j n))
-    (λ (q : m ≤ n). ⊎-elim
-    (λ (h : j < m). absurd (clash (ap₂ _&&_ (lt-ltb j n (omega arith)) (lt-ltb j m h)) e))
-    (λ (h : m ≤ j). omega arith)
-    (lt-or-le j m))
-    (lt-or-le n m)

@@ -2,7 +2,9 @@ use mathlib.Core.Path.{refl, sym, _∙_}
 use native.Mathlib.Omega.{arith}
 use borrow.Author.Needs.{needs}
 use Rattle.model.specs.market.Market.{regular}
-use Rattle.explain.proofs.Answers.{cut-low, at-cut, stations-count, explains-accepted}
+use Rattle.pricing.proofs.cut.CutAsk.{cut-low}
+use Rattle.allocation.proofs.assignment.Assignment.{at-cut}
+use Rattle.explain.proofs.Answers.{stations-count, explains-accepted}
 use Rattle.explain.proofs.accepted.explain_with_room.Statement.{statement}
 use Rattle.explain.proofs.accepted.explain_with_room.Tie as tie
 
