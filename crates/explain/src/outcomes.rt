@@ -75,7 +75,7 @@ pub fn loss_in(outcome: GuestOutcome) -> u8
 }
 
 // Guest i's record.
-fn outcome_at(e: Telling, i: usize) -> GuestOutcome
+pub fn outcome_at(e: Telling, i: usize) -> GuestOutcome
     ensures { λ r. ⌜ r ≡ recordAt e i ⌝ }
 {
     if MAX_GUESTS <= i {

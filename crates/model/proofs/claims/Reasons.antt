@@ -50,19 +50,19 @@ codes-tell-facts rule t i j li lj = subst (CodeTells rule t i j) (sym (code-at r
 -- ---- the outcomes
 
 module _ (rule : Rule) (t : Tables) (i : ℕ) (li : i < length (t .amounts)) where
-  station-at : getD ((guestOutcomes rule t) .stations) i 0 ≡ (decision rule t) .assigned i
+  pub station-at : getD ((guestOutcomes rule t) .stations) i 0 ≡ (decision rule t) .assigned i
   unfolding guestOutcomes outcome outcomeBy screened screen market marketBy
   station-at = getD-list (length (t .amounts)) _ i li
 
-  charge-at : getD ((guestOutcomes rule t) .charges) i 0 ≡ charged (screened rule t) (decision rule t) i
+  pub charge-at : getD ((guestOutcomes rule t) .charges) i 0 ≡ charged (screened rule t) (decision rule t) i
   unfolding guestOutcomes outcome outcomeBy screened screen market marketBy
   charge-at = getD-list (length (t .amounts)) _ i li
 
-  loss-at : getD ((guestOutcomes rule t) .losses) i 0 ≡ loss rule t i
+  pub loss-at : getD ((guestOutcomes rule t) .losses) i 0 ≡ loss rule t i
   unfolding guestOutcomes
   loss-at = getD-list (length (t .amounts)) _ i li
 
-  charged-as : {s : ℕ} → (decision rule t) .assigned i ≡ s
+  pub charged-as : {s : ℕ} → (decision rule t) .assigned i ≡ s
       → charged (screened rule t) (decision rule t) i ≡ at (charge (screened rule t) (decision rule t) i) s
   unfolding charged
   charged-as e = ap (at (charge (screened rule t) (decision rule t) i)) e
@@ -146,13 +146,21 @@ module _ (l : List GuestOutcome) (i : ℕ) where
   unfolding told lossOf
   loss-told = List·getD-map (λ (o : GuestOutcome). lossOf (o .result)) l i nobody
 
-pub told-long : (l : List GuestOutcome) → length ((told l) .stations) ≡ length l
+pub stations-long : (l : List GuestOutcome) → length ((told l) .stations) ≡ length l
 unfolding told
-told-long l = length-map l _
+stations-long l = length-map l _
+
+pub charges-long : (l : List GuestOutcome) → length ((told l) .charges) ≡ length l
+unfolding told
+charges-long l = length-map l _
+
+pub losses-long : (l : List GuestOutcome) → length ((told l) .losses) ≡ length l
+unfolding told
+losses-long l = length-map l _
 
 pub told-determines : ToldDetermines
 told-determines l k e =
-    ext-getD nobody l k (sym (told-long l) ∙ ap (λ o. length (o .stations)) e ∙ told-long k)
+    ext-getD nobody l k (sym (stations-long l) ∙ ap (λ o. length (o .stations)) e ∙ stations-long k)
     (λ i _. ap (λ (r : GuestResult). record { result = r }) (same-result _ _
     (sym (station-told l i) ∙ ap (λ o. getD (o .stations) i 0) e ∙ station-told k i)
     (sym (charge-told l i) ∙ ap (λ o. getD (o .charges) i 0) e ∙ charge-told k i)
