@@ -6,7 +6,7 @@ import glob
 import re
 import sys
 
-WIDTH, CHAIN, EDITS = 120, 4, 135
+WIDTH, CHAIN, EDITS = 120, 4, 141
 owed = []
 
 

@@ -10,6 +10,7 @@ use Rattle.model.specs.market.Market.{Tables, Screened, queue, provisional, cri
 use Rattle.model.specs.market.Mechanism.{at, best, surplus}
 use Rattle.allocation.specs.Screens.{screenedAt}
 use Rattle.model.specs.claims.Meaning.{WithinLimits}
+use Rattle.allocation.specs.Offers.{wonBy}
 use Rattle.allocation.specs.Totals.{maxTotal, totalAt}
 use Rattle.pricing.specs.Charges.{leastAt}
 
@@ -60,3 +61,24 @@ totalsAfter t c (suc j) entry = turnTotals t c j (totalsAfter t c j entry)
 pub record Turned (t : Tables) (c j : ℕ) (totals₀ totals chosen gains criticals : List ℕ) : Type 0 where
   pub after : AfterIn t c j chosen gains criticals
   pub totals-are : totals ≡ totalsAfter t c j totals₀
+
+-- after the first j stations: a bound for the ties of each station number. A candidate holds a place exactly where it
+-- wins by the critical total and that bound
+pub record Bounded (S : Screened) (n j : ℕ) (bounds : List ℕ) : Type 0 where
+  pub bounds-long : length bounds ≡ maxStations + 1
+  pub no-tie :
+      (i k : ℕ) → i < n → k < j → S .candidate i k ≡ true → critical (queue S k) ≡ 0 → getD bounds (suc k) 0 ≡ 0
+  pub wins :
+      (i k : ℕ) → i < n → k < j → S .candidate i k ≡ true
+      → wonBy (S .total i k) (critical (queue S k)) (S .key i) (getD bounds (suc k) 0) ≡ provisional (queue S k) i
+
+-- of a market's guests
+abbrev pub BoundedIn : Tables → (c j : ℕ) (bounds : List ℕ) → Type 0
+BoundedIn t c j bounds = Bounded (screenedAt t c) (length (t .amounts)) j bounds
+
+-- after the last station: the critical total and the bound of each station number, by which its places are won
+pub record Bars (t : Tables) (c : ℕ) (criticals bounds : List ℕ) : Type 0 where
+  pub bounded : BoundedIn t c (length (t .asks)) bounds
+  pub criticals-long : length criticals ≡ maxStations + 1
+  pub criticals-are : (j : ℕ) → j < length (t .asks) → getD criticals (suc j) 0 ≡ critical (queue (screenedAt t c) j)
+  pub criticals-low : (j : ℕ) → j < length (t .asks) → getD criticals (suc j) 0 ≤ maxTotal

@@ -1,6 +1,6 @@
 // Who gets a bay where, in a truthful round: stations take their turns, and each guest its best offer.
 pub mod assignment;
-mod offers;
+pub mod offers;
 mod selection;
 pub mod signed;
 mod ties;

@@ -9,7 +9,7 @@ ghost use mathlib.Core.Path.{_≡_};
 ghost use lib.ListN.{length};
 ghost use Rattle.model.specs.contracts.Lent.{regularOf, regularIn};
 ghost use Rattle.checks.specs.Tickets.{rising as risingOf};
-ghost use Rattle.allocation.specs.Stages.{AtCut, AfterIn, turnTotals};
+ghost use Rattle.allocation.specs.Stages.{AtCut, AfterIn, BoundedIn, turnTotals};
 
 // Station j's turn, after the stations before it, in an accepted market at its cut. `rising` says whether tickets do.
 pub fn station(
@@ -26,15 +26,18 @@ pub fn station(
     chosen: &mut [u32],
     gains: &mut [u32],
     criticals: &mut [u32],
+    bounds: &mut [u32],
 )
     requires { ⌜ AtCut (regularOf asks bays amounts tickets bids) (cut .0) (now least) ⌝ }
     requires { ⌜ rising ≡ risingOf (now tickets) ⌝ }
     requires { ⌜ (j < length (now asks)) × (length (now totals) ≡ length (now amounts)) ⌝ }
     requires { ⌜ AfterIn (regularOf asks bays amounts tickets bids) (cut .0) j
         (now chosen) (now gains) (now criticals) ⌝ }
+    requires { ⌜ BoundedIn (regularOf asks bays amounts tickets bids) (cut .0) j (now bounds) ⌝ }
     ensures { λ _. ⌜ (let t = regularIn asks bays amounts tickets bids in
         AfterIn t (cut .0) (j + 1) (now (chosen .exit)) (now (gains .exit)) (now (criticals .exit))
-        × (now (totals .exit) ≡ turnTotals t (cut .0) j (now (totals .entry)))) ⌝ }
+        × (now (totals .exit) ≡ turnTotals t (cut .0) j (now (totals .entry)))
+        × BoundedIn t (cut .0) (j + 1) (now (bounds .exit))) ⌝ }
 {
     let ask = asks[j];
     if UnitPrice(ask).below(cut) {
@@ -44,6 +47,7 @@ pub fn station(
         let bound = ties::tie_bound(totals, tickets, rising, critical.total, critical.above, b);
         let s = j + 1;
         criticals[s] = critical.total.narrow();
+        bounds[s] = bound;
         offers::offer(
             totals,
             tickets,

@@ -12,10 +12,10 @@ ghost use mathlib.Core.Bool.{not};
 ghost use mathlib.Core.List.{[], _∷_};
 ghost use mathlib.Core.Path.{_≡_};
 ghost use Rattle.model.specs.Limits.{maxGuests, maxStations};
-ghost use Rattle.model.specs.Counting.{_=?_, _or_};
+ghost use Rattle.model.specs.Counting.{_=?_, _or_, any};
 ghost use Rattle.model.specs.Numbers.{answerOfVerdict};
 ghost use Rattle.model.specs.Verdicts.{firstFault};
-ghost use Rattle.model.specs.market.Faults.{counts, lengths, values, verdict, tableFaults};
+ghost use Rattle.model.specs.market.Faults.{counts, lengths, values, verdict, tableFaults, explainedFaults};
 ghost use Rattle.model.specs.contracts.Lent.{tablesIn, regularIn, resultsIn};
 
 fn lengths_differ(
@@ -43,6 +43,13 @@ fn list_lengths_differ(
     ensures { λ r. ⌜ r ≡ (not (stations =? n) or not (charges =? n) or not (sold =? m) or not (paid =? m)) ⌝ }
 {
     (stations != n) | (charges != n) | (sold != m) | (paid != m)
+}
+
+fn explained_lengths_differ(n: usize, m: usize, codes: usize, outcomes: usize) -> bool
+    requires { ⌜ (n ≤ maxGuests) × (m ≤ maxStations) ⌝ }
+    ensures { λ r. ⌜ r ≡ (not (codes =? n * m) or any (outcomes ∷ []) (λ k. not (k =? n))) ⌝ }
+{
+    (codes != n * m) | (outcomes != n)
 }
 
 // The first fault of a value: all asks, then all bays, then all amounts, then all bids, then two equal tickets.
@@ -132,6 +139,34 @@ pub fn clearing_fault(
         Verdict::Refused(refusal) => Verdict::Refused(refusal),
         Verdict::Accepted => {
             if list_lengths_differ(n, m, stations.len(), charges.len(), sold.len(), paid.len()) {
+                return Verdict::Refused(Refusal::LentLengths);
+            }
+            value_fault(asks, bays, amounts, tickets, bids)
+        }
+    }
+}
+
+// The first fault of a call that explains a clearing under a known rule, with a code table and an outcome table of so
+// many places.
+pub fn explaining_fault(
+    asks: &[u32],
+    bays: &[u16],
+    amounts: &[u16],
+    tickets: &[u32],
+    bids: &[u32],
+    width: usize,
+    codes: usize,
+    outcomes: usize,
+) -> Verdict
+    ensures { λ r. ⌜ answerOfVerdict r ≡ firstFault (explainedFaults
+        (tablesIn asks bays amounts tickets bids width) codes (outcomes ∷ [])) ⌝ }
+{
+    let n = amounts.len();
+    let m = asks.len();
+    match size_fault(n, m, bays.len(), tickets.len(), bids.len(), width) {
+        Verdict::Refused(refusal) => Verdict::Refused(refusal),
+        Verdict::Accepted => {
+            if explained_lengths_differ(n, m, codes, outcomes) {
                 return Verdict::Refused(Refusal::LentLengths);
             }
             value_fault(asks, bays, amounts, tickets, bids)

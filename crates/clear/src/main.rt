@@ -1,6 +1,6 @@
 // The clearing program: the clearing of the sheet on standard input, to standard output, by rule 1; with `--quiet` the
-// efficient clearing, either with `--rule 2` after it by rule 2; with `--write` the shortest sheet that states the same
-// market.
+// efficient clearing, with `--why` what decided for each guest, each with `--rule 2` after it by rule 2; with `--write`
+// the shortest sheet that states the same market.
 use libc::STDERR_FILENO;
 use libc::STDIN_FILENO;
 use libc::STDOUT_FILENO;
@@ -49,23 +49,42 @@ fn is_word(at: usize, word: &[u8]) -> bool {
     check::same(&given[..n], word)
 }
 
-fn clearing_by(quiet: bool, rule: Rule) -> Asked {
-    if quiet {
-        return Asked::For(Page::Efficient(rule));
+// The pages of a market that go by a rule.
+enum Kind {
+    Clearing,
+    Efficient,
+    Reasons,
+}
+
+fn page_by(kind: Kind, rule: Rule) -> Asked {
+    match kind {
+        Kind::Clearing => Asked::For(Page::Clearing(rule)),
+        Kind::Efficient => Asked::For(Page::Efficient(rule)),
+        Kind::Reasons => Asked::For(Page::Reasons(rule)),
     }
-    Asked::For(Page::Clearing(rule))
 }
 
 // By the rule that two arguments name: `--rule`, and 1 or 2.
-fn clearing_by_named(quiet: bool, option: usize, number: usize) -> Asked {
+fn page_by_named(kind: Kind, option: usize, number: usize) -> Asked {
     if !is_word(option, b"--rule") {
         return Asked::Unknown;
     }
     if is_word(number, b"1") {
-        return clearing_by(quiet, Rule::Median);
+        return page_by(kind, Rule::Median);
     }
     if is_word(number, b"2") {
-        return clearing_by(quiet, Rule::TwoThirds);
+        return page_by(kind, Rule::TwoThirds);
+    }
+    Asked::Unknown
+}
+
+// After the argument that names the kind.
+fn page_after(kind: Kind, count: usize) -> Asked {
+    if count == 2 {
+        return page_by(kind, Rule::Median);
+    }
+    if count == 4 {
+        return page_by_named(kind, 2, 3);
     }
     Asked::Unknown
 }
@@ -73,17 +92,16 @@ fn clearing_by_named(quiet: bool, option: usize, number: usize) -> Asked {
 fn page_asked() -> Asked {
     let count = os::arg_count();
     if count < 2 {
-        return clearing_by(false, Rule::Median);
+        return page_by(Kind::Clearing, Rule::Median);
     }
     if count == 3 {
-        return clearing_by_named(false, 1, 2);
+        return page_by_named(Kind::Clearing, 1, 2);
     }
-    let quiet = is_word(1, b"--quiet");
-    if (count == 2) & quiet {
-        return clearing_by(true, Rule::Median);
+    if is_word(1, b"--quiet") {
+        return page_after(Kind::Efficient, count);
     }
-    if (count == 4) & quiet {
-        return clearing_by_named(true, 2, 3);
+    if is_word(1, b"--why") {
+        return page_after(Kind::Reasons, count);
     }
     if (count == 2) & is_word(1, b"--write") {
         return Asked::For(Page::Sheet);

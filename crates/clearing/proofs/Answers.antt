@@ -5,7 +5,7 @@ use mathlib.Core.Path.{_≡_, refl, sym, ap, ap₂, subst, _∙_}
 use native.Mathlib.Numerals.{add-one}
 use native.Mathlib.Omega.{arith}
 use lib.ListN.{getD, length}
-use Rattle.model.specs.Limits.{maxStations, maxPrice}
+use Rattle.model.specs.Limits.{maxStations}
 use Rattle.model.specs.declared.refusal.Refusal.{Refusal}
 use Rattle.model.specs.declared.refusal.Refusal.the-variants.{UnknownRule}
 use Rattle.model.specs.Counting.{_=?_, only, sum, list}
@@ -26,11 +26,11 @@ use Rattle.model.specs.declared.mechanism.Mechanism.{Mechanism}
 use Rattle.model.specs.declared.mechanism.Mechanism.the-variants.{Truthful, Efficient}
 use Rattle.model.specs.market.Faults.{unknownRule, tableFaults, clearingFaults}
 use Rattle.model.specs.claims.Meaning.{WithinLimits}
-use Rattle.model.proofs.Tests.{only-le}
-use Rattle.model.proofs.Counting.{sum-cong, greatest-le}
+use Rattle.model.proofs.Counting.{sum-cong}
 use Rattle.model.proofs.Loops.{long, element, relist}
 use Rattle.model.proofs.market.Outcomes.{ComesOf, numbered, of-truthful, of-efficient}
-use Rattle.pricing.specs.CutAsk.{under, eligible, cutAsk}
+use Rattle.pricing.specs.CutAsk.{cutAsk}
+use Rattle.pricing.proofs.cut.CutAsk.{cut-is}
 use Rattle.pricing.specs.Sales.{kwhAt, PaidOut}
 use Rattle.model.specs.declared.answers.Verdict.the-variants as verdicts
 use Rattle.pricing.specs.Charges.{leastAt}
@@ -43,22 +43,9 @@ use Rattle.clearing.specs.ClearsAccepted.{ClearsAccepted}
 use Rattle.model.specs.declared.answers.Clearing.{Clearing}
 use Rattle.model.specs.declared.answers.Clearing.the-variants as clearings
 use Rattle.model.proofs.contracts.Accepts.{Accepts, accepts}
+use Rattle.model.proofs.market.Acceptance.{width-of}
 
 -- ---- an accepted market
-
-cut-is : (rule : Rule) (t : Tables) → cutAsk rule (t .asks) ≡ cut (market rule t)
-unfolding cutAsk eligible under cut market marketBy
-cut-is rule t = refl
-
-pub cut-low : (rule : Rule) (t : Tables) (c : ℕ) → WithinLimits t → c ≡ cutAsk rule (t .asks) → c ≤ maxPrice
-unfolding cutAsk eligible
-cut-low rule t c w e =
-    rw e (greatest-le (length (t .asks)) _ maxPrice (λ k l. only-le _ _ _ (λ _. w .ask-most k l)))
-
-pub at-cut :
-    (rule : Rule) (t : Tables) {c : ℕ} {least : List ℕ} → WithinLimits t → c ≡ cutAsk rule (t .asks)
-    → least ≡ list (length (t .amounts)) (leastAt (t .amounts) c) → AtCut t c least
-at-cut rule t w e l = record { within = w; cut-low = cut-low rule t _ w e; least-are = l }
 
 pub least-at-cut :
     (rule : Rule) (t : Tables) {c : ℕ} {least : List ℕ} → AtCut t c least → c ≡ cutAsk rule (t .asks)
@@ -167,13 +154,6 @@ pub refused-clears :
 unfolding answerOfVerdict answerOfClearing
 refused-clears t r x e =
     record { answered = sym (giving-refused _ _ (sym e)); left = sym (updated-refused _ _ _ (sym e)) }
-
--- the row width is the number of stations
-width-of :
-    (asks bays amounts tickets bids : List ℕ) (width : ℕ)
-    → WithinLimits (tables asks bays amounts tickets bids width)
-    → tables asks bays amounts tickets bids width ≡ regular asks bays amounts tickets bids
-width-of asks bays amounts tickets bids width w = ap (tables asks bays amounts tickets bids) (w .shape .width-is)
 
 pub clear-accepts : (asks bays amounts tickets bids : List ℕ) (width : ℕ) (r : Results)
     → Judged (tables asks bays amounts tickets bids width) r verdicts.Accepted

@@ -1,6 +1,6 @@
 -- Laws for loops: one turn and the end of a loop that counts, sums, takes the greatest, scans or stores.
-use Prim.Native.Nat.{ℕ, _+_, _*_, _≤_, _<_, max}
-use mathlib.Core.Bool.{Bool, true, false, _||_}
+use Prim.Native.Nat.{ℕ, _+_, _*_, _≤_, _<_, max, min}
+use mathlib.Core.Bool.{Bool, true, false, _||_, _&&_}
 use mathlib.Core.List.{List}
 use mathlib.Core.Logic.{_⊎_, ⊎-elim}
 use mathlib.Core.Path.{_≡_, refl, sym, ap, ap₂, _∙_}
@@ -11,8 +11,10 @@ use lib.Dec.{ltb}
 use lib.ListN.{getD, length, set, length-set, take, replicate, length-take, length-replicate, getD-replicate}
 use lib.Seq.{getD-set-same, getD-set-other, ext-getD, getD-take}
 use borrow.Author.Count.{below-none, below-more}
+use borrow.Author.Tests.{lt-ltb}
 use Rattle.model.specs.Counting.{_<?_, _or_, sum, greatest, count, some, any, list}
 use Rattle.model.specs.market.Faults.{outside}
+use Rattle.model.proofs.Tests.{clash, lt-or-le}
 use Rattle.model.proofs.Counting.{sum-most, count-yes, count-not, count-start, count-most, greatest-le}
 use Rattle.model.proofs.Counting.{length-list, getD-list, list-cong}
 
@@ -185,3 +187,24 @@ filling-end {n} h b = filled-list n (h .filled) (h .long) b
 -- row i, column j of a table of n rows of m is within the table
 pub in-table : (n m i j : ℕ) → i < n → j < m → i * m + j < n * m
 in-table n m i j hi hj = omega (arith, mul-le-mul-right m hi)
+
+-- ---- a loop with two tests
+
+-- two tests that pass
+pub passes-both : (a b : Bool) → (a && b) ≡ true → (a ≡ true) × (b ≡ true)
+passes-both true b e = (refl, e)
+passes-both false b e = absurd (clash e refl)
+
+-- where a loop that goes on below n and below m ends
+pub ends-least :
+    (n m j : ℕ) → j ≤ n → j ≤ m → (ltb j n && ltb j m) ≡ false → j ≡ min n m
+ends-least n m j a b e = ⊎-elim
+    (λ (q : n < m). ⊎-elim
+    (λ (h : j < n). absurd (clash (ap₂ _&&_ (lt-ltb j n h) (lt-ltb j m (omega arith))) e))
+    (λ (h : n ≤ j). omega arith)
+    (lt-or-le j n))
+    (λ (q : m ≤ n). ⊎-elim
+    (λ (h : j < m). absurd (clash (ap₂ _&&_ (lt-ltb j n (omega arith)) (lt-ltb j m h)) e))
+    (λ (h : m ≤ j). omega arith)
+    (lt-or-le j m))
+    (lt-or-le n m)

@@ -3,6 +3,7 @@ pub mod Computing
 pub mod Example
 pub mod Instances
 pub mod Places
+pub mod Reasons
 pub mod Sheets
 pub mod Texts
 pub mod Worked

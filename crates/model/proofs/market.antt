@@ -10,6 +10,7 @@ pub mod Order
 pub mod Outcomes
 pub mod Pivots
 pub mod Queues
+pub mod Reasons
 pub mod Stations
 pub mod Taking
 pub mod Truthful

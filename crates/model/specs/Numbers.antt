@@ -9,6 +9,10 @@ use Rattle.model.specs.declared.answers.Clearing.{Clearing}
 use Rattle.model.specs.declared.answers.Clearing.the-variants as clearing
 use Rattle.model.specs.declared.answers.Verdict.{Verdict}
 use Rattle.model.specs.declared.answers.Verdict.the-variants as verdict
+use Rattle.model.specs.declared.reason.Reason.{Reason}
+use Rattle.model.specs.declared.reason.Reason.the-variants.{NoBid, NotOpen, BelowCut, Outbid}
+use Rattle.model.specs.declared.reason.GuestResult.{GuestResult}
+use Rattle.model.specs.declared.reason.GuestResult.the-variants.{Win, Loss}
 use Rattle.model.specs.declared.refusal.Refusal.{Refusal}
 use Rattle.model.specs.declared.refusal.Refusal.the-variants.{SheetEnds, CountsOutOfRange, StrayBit}
 use Rattle.model.specs.declared.refusal.Refusal.the-variants.{TrailingBytes, LengthsDiffer, AskOutOfRange}
@@ -56,3 +60,23 @@ answerOfClearing (clearing.Refused r) = refused (number r)
 unfoldable pub answerOfVerdict : Verdict → Answer Unit
 answerOfVerdict verdict.Accepted = accepted tt
 answerOfVerdict (verdict.Refused r) = refused (number r)
+
+-- of a reason: its code (document 02, request 7)
+abbrev pub codeOf : Reason → ℕ
+codeOf NoBid = 1
+codeOf NotOpen = 2
+codeOf BelowCut = 3
+codeOf Outbid = 4
+
+-- of a guest's outcome: the station and charge of a win, the code of a loss; 0 where there is none
+unfoldable pub stationOf : GuestResult → ℕ
+stationOf (Win station charge) = station
+stationOf (Loss reason) = 0
+
+unfoldable pub chargeOf : GuestResult → ℕ
+chargeOf (Win station charge) = charge .0
+chargeOf (Loss reason) = 0
+
+unfoldable pub lossOf : GuestResult → ℕ
+lossOf (Win station charge) = 0
+lossOf (Loss reason) = codeOf reason

@@ -1,5 +1,7 @@
 pub mod Clears
 pub mod ClearsOut
+pub mod Explains
+pub mod ExplainsOut
 pub mod Lent
 pub mod PlacesBids
 pub mod PlacesBidsOut

@@ -4,6 +4,7 @@ pub mod Gains
 pub mod Market
 pub mod Mechanism
 pub mod Outcome
+pub mod Reasons
 pub mod Rules
 pub mod Shape
 pub mod Stable

@@ -7,6 +7,7 @@ pub mod limits;
 pub mod mechanism;
 pub mod money;
 pub mod page;
+pub mod reason;
 pub mod refusal;
 pub mod rule;
 pub mod word;

@@ -6,6 +6,8 @@ pub enum Page {
     Clearing(Rule),
     // Its efficient clearing.
     Efficient(Rule),
+    // What decided for each guest, by a rule.
+    Reasons(Rule),
     // The shortest sheet that states its market.
     Sheet,
 }

@@ -2,6 +2,7 @@
 mod lines;
 mod page;
 mod printing;
+mod reasons;
 mod text;
 
 use model::answers::Reading;

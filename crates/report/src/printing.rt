@@ -1,7 +1,12 @@
-// The page that is asked for of a market, as bytes in a lent buffer: its clearing, its sheet or its refusal.
+// The page that is asked for of a market, as bytes in a lent buffer: its clearing, what decided, its sheet or its
+// refusal.
 use crate::page;
+use crate::reasons;
+use explain::explained;
 use model::answers::Clearing;
+use model::answers::Verdict;
 use model::answers::Writing;
+use model::limits::MAX_BIDS;
 use model::limits::MAX_GUESTS;
 use model::limits::MAX_STATIONS;
 use model::mechanism::Mechanism;
@@ -12,7 +17,8 @@ ghost use mathlib.Core.Path.{_≡_};
 ghost use lib.ListN.{length};
 ghost use Rattle.model.specs.Limits.{maxGuests, maxStations};
 ghost use Rattle.model.specs.market.Outcome.{outcomeIn};
-ghost use Rattle.model.specs.text.MarketText.{marketTextOf, sheetPageOf, pageOf};
+ghost use Rattle.model.specs.market.Reasons.{guestOutcomes};
+ghost use Rattle.model.specs.text.MarketText.{marketTextOf, reasonsPageOf, sheetPageOf, pageOf};
 ghost use Rattle.model.specs.contracts.Prints.{Prints};
 ghost use Rattle.model.specs.contracts.Lent.{regularIn};
 
@@ -101,6 +107,41 @@ fn print_clearing(
     )
 }
 
+fn print_reasons(
+    rule: Rule,
+    asks: &[u32],
+    bays: &[u16],
+    amounts: &[u16],
+    tickets: &[u32],
+    bids: &[u32],
+    out: &mut [u8],
+) -> usize
+    requires { ⌜ (length (now amounts) ≤ maxGuests) × (length (now asks) ≤ maxStations) ⌝ }
+    ensures { λ r. ⌜ Prints (reasonsPageOf (guestOutcomes rule) (regularIn asks bays amounts tickets bids))
+        (now (out .entry)) r (now (out .exit)) ⌝ }
+{
+    let n = amounts.len();
+    let m = asks.len();
+    let places = n * m;
+    let mut codes = [0u8; MAX_BIDS];
+    let e = explained::explained_under(
+        rule,
+        asks,
+        bays,
+        amounts,
+        tickets,
+        bids,
+        m,
+        n,
+        &mut codes[..places],
+    );
+    let reply = e.reply;
+    match reply {
+        Verdict::Refused(refusal) => page::refusal_text(refusal, out),
+        Verdict::Accepted => reasons::reasons_text(e, out),
+    }
+}
+
 fn print_sheet(
     asks: &[u32],
     bays: &[u16],
@@ -153,6 +194,7 @@ pub fn print_market(
             bids,
             out,
         ),
+        Page::Reasons(rule) => print_reasons(rule, asks, bays, amounts, tickets, bids, out),
         Page::Sheet => print_sheet(asks, bays, amounts, tickets, bids, out),
     }
 }

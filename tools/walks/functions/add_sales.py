@@ -16,7 +16,8 @@ Rattle.ledger.proofs.round.Round.Laws as R′
 Rattle.model.specs.book.Book: account accountAt
 Rattle.ledger.specs.Stations: credited creditedTo
 Rattle.model.specs.declared.account.StationAccount: StationAccount
-Rattle.ledger.proofs.stations.Stations: credited-none credited-more credited-length both least
+Rattle.ledger.proofs.stations.Stations: credited-none credited-more credited-length
+Rattle.model.proofs.Loops: passes-both ends-least
 Rattle.model.proofs.account.StationAccount as T
 Rattle.model.proofs.account.StationAccount.Laws as T′
 ''')
@@ -90,7 +91,7 @@ def ends():
     w = tested()
     w.step(f'leaves-loop ! ({w.load(BOTH)})').step('exec ! C Λ En mirᶜ.t-3 (atRet En Post)')
     w.copy('unit-lit !', '_0', 'tt, tt').leave()
-    return w.end('by ! (exits gn (L (j .0)) (credited-length d ys (j .0)) (ap L (least n k (j .0) (j .1) (j .2) e)))')
+    return w.end('by ! (exits gn (L (j .0)) (credited-length d ys (j .0)) (ap L (ends-least n k (j .0) (j .1) (j .2) e)))')
 
 
 def walk():
@@ -113,10 +114,10 @@ def proof():
 
 WHERE = '''\
           less : j .0 + 1 ≤ n
-          less = omega (arith, ltb-true (j .0) n (both (ltb (j .0) n) (ltb (j .0) k) e .0))
+          less = omega (arith, ltb-true (j .0) n (passes-both (ltb (j .0) n) (ltb (j .0) k) e .0))
 
           fewer : j .0 + 1 ≤ k
-          fewer = omega (arith, ltb-true (j .0) k (both (ltb (j .0) n) (ltb (j .0) k) e .1))
+          fewer = omega (arith, ltb-true (j .0) k (passes-both (ltb (j .0) n) (ltb (j .0) k) e .1))
 
           within : j .0 < length (L (j .0))
           within = subst (λ (m : ℕ). j .0 < m) (sym (credited-length d ys (j .0))) (omega (arith, less))

@@ -8,18 +8,23 @@ use native.Mathlib.Omega.{arith}
 use lib.ListN.{getD, length, take, replicate}
 use Rattle.model.specs.Limits.{maxGuests, maxStations}
 use Rattle.model.specs.Counting.{_<?_, only, list}
-use Rattle.model.specs.market.Market.{Tables, Screened}
+use Rattle.model.specs.market.Market.{Tables, bidAt, Screened, queue, critical}
 use Rattle.model.specs.market.Mechanism.{Decision, at, charge, best, truthful, charged}
 use Rattle.model.specs.market.Outcome.{Outcome, outcomeBy}
 use Rattle.allocation.specs.Screens.{screenedAt}
 use Rattle.model.specs.claims.Meaning.{WithinLimits}
-use Rattle.model.proofs.Tests.{only-yes, only-no, is-lt, not-lt}
-use Rattle.model.proofs.Counting.{list-cong}
-use Rattle.model.proofs.Loops.{long, element, is-list, relist, zeros, zeros-are}
+use Rattle.model.proofs.Tests.{only-yes, only-no, only-le, is-lt, not-lt}
+use Rattle.model.proofs.Counting.{greatest-le, list-cong}
+use Rattle.model.proofs.Loops.{long, element, relist, zeros-are, in-table}
+use Rattle.model.proofs.market.Limits.{product}
 use Rattle.model.proofs.market.Outcomes.{ComesOf, numbered}
-use Rattle.pricing.specs.Charges.{Chargeable, chargedAt, Charged}
+use Rattle.model.specs.declared.rule.Rule.{Rule}
+use Rattle.pricing.specs.Charges.{leastAt, Chargeable, chargedAt, Charged}
+use Rattle.pricing.specs.CutAsk.{cutAsk}
+use Rattle.pricing.proofs.cut.CutAsk.{cut-low}
 use Rattle.allocation.specs.Stages.{AtCut, stationBy, gainBy, criticalBy, After, AfterIn, turnTotals, totalsAfter}
-use Rattle.allocation.specs.Stages.{Turned}
+use Rattle.allocation.specs.Stages.{Turned, Bounded, BoundedIn, Bars}
+use Rattle.allocation.specs.Totals.{maxTotal}
 use Rattle.allocation.specs.Assignment.{Assigned}
 
 -- the turns that a loop has taken: j of them, as far as the stations go
@@ -52,21 +57,39 @@ pub turning-end :
     → Turned t c (length (t .asks)) totals₀ totals chosen gains criticals
 turning-end h b = rw (le-antisymm b (h .within)) (h .turned)
 
+pub bounded-end :
+    {t : Tables} {c j : ℕ} {totals₀ totals chosen gains criticals bounds : List ℕ}
+    → Turning t c j totals₀ totals chosen gains criticals → length (t .asks) ≤ j → BoundedIn t c j bounds
+    → BoundedIn t c (length (t .asks)) bounds
+bounded-end h b x = rw (le-antisymm b (h .within)) x
+
+pub bounded-none : {S : Screened} {n : ℕ} {bounds : List ℕ} → length bounds ≡ maxStations + 1 → Bounded S n 0 bounds
+bounded-none e = record {
+  bounds-long = e;
+  no-tie = λ i k li lk. absurd (omega arith);
+  wins = λ i k li lk. absurd (omega arith);
+}
+
 pub after-none :
-    {S : Screened} {n : ℕ} → n ≤ maxGuests
-    → After S n 0 (take n (replicate {A = ℕ} maxGuests 0)) (take n (replicate {A = ℕ} maxGuests 0))
-    (replicate {A = ℕ} (maxStations + 1) 0)
+    {S : Screened} {n : ℕ} {criticals : List ℕ} → n ≤ maxGuests → criticals ≡ list (maxStations + 1) (λ _. 0)
+    → After S n 0 (take n (replicate {A = ℕ} maxGuests 0)) (take n (replicate {A = ℕ} maxGuests 0)) criticals
 unfolding stationBy gainBy criticalBy best at
-after-none {S} {n} h = record {
+after-none {S} {n} h e = record {
   chosen-are = zeros-are maxGuests n h;
   gains-are = zeros-are maxGuests n h;
   gains-low = λ k lk. rw (element _ _ (zeros-are maxGuests n h) k lk) (omega arith);
-  criticals-are = zeros (maxStations + 1) ∙ list-cong _ _ _ (λ k _. sym (critical-none k));
+  criticals-are = e ∙ list-cong _ _ _ (λ k _. sym (critical-none k));
 }
   where
     critical-none : (s : ℕ) → criticalBy S 0 s ≡ 0
     critical-none zero = refl
     critical-none (suc k) = only-no _ _ (not-lt _ _ (omega arith))
+
+-- at the cut of a rule
+pub at-cut :
+    (rule : Rule) (t : Tables) {c : ℕ} {least : List ℕ} → WithinLimits t → c ≡ cutAsk rule (t .asks)
+    → least ≡ list (length (t .amounts)) (leastAt (t .amounts) c) → AtCut t c least
+at-cut rule t w e l = record { within = w; cut-low = cut-low rule t _ w e; least-are = l }
 
 -- lists that hold a decision: each guest's number of a station, and the critical total of each
 pub record Decided (t : Tables) (D : Decision) (chosen criticals : List ℕ) : Type 0 where
@@ -85,6 +108,31 @@ truthfully t c w a = record {
   criticals-are = λ j l. element _ _ (a .criticals-are) (suc j) (omega (arith, w .shape .stations-most))
       ∙ only-yes _ _ (is-lt _ _ l);
 }
+
+-- the critical totals are within the limits
+critical-low :
+    (t : Tables) (c : ℕ) → WithinLimits t → (j : ℕ) → j < length (t .asks)
+    → critical (queue (screenedAt t c) j) ≤ maxTotal
+unfolding critical queue screenedAt bidAt
+critical-low t c w j lj =
+    greatest-le (length (t .amounts)) _ maxTotal (λ k lk. only-le _ _ _ (λ _.
+    product _ _ (w .bid-most _
+    (omega (arith, w .shape .bids-length, in-table (length (t .amounts)) (length (t .asks)) k j lk lj)))
+    (w .amount-most k lk)))
+
+pub bars :
+    (t : Tables) (c : ℕ) {chosen gains criticals bounds : List ℕ} → WithinLimits t
+    → AfterIn t c (length (t .asks)) chosen gains criticals → BoundedIn t c (length (t .asks)) bounds
+    → Bars t c criticals bounds
+unfolding truthful
+bars t c w a b =
+    let d = truthfully t c w a in
+    record {
+      bounded = b;
+      criticals-long = long _ _ (a .criticals-are);
+      criticals-are = d .criticals-are;
+      criticals-low = λ j l. rw (d .criticals-are j l) (critical-low t c w j l);
+    }
 
 module _ (t : Tables) {c : ℕ} {least chosen criticals : List ℕ} (A : AtCut t c least) {D : Decision} {o : Outcome}
     (m : ComesOf (screenedAt t c) D o) (d : Decided t D chosen criticals) where

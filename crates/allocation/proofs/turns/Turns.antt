@@ -29,7 +29,7 @@ use Rattle.allocation.specs.Selection.{above, LeastFew, Selected}
 use Rattle.allocation.proofs.selection.Selection.{above-greatest, selected-low}
 use Rattle.allocation.specs.Offers.{picked, wonBy, gainFor, chargeAt, gainAt, taken, Offerable, Offered}
 use Rattle.allocation.proofs.offers.Offers.{gain-low}
-use Rattle.allocation.specs.Stages.{AtCut, stationBy, gainBy, criticalBy, After}
+use Rattle.allocation.specs.Stages.{AtCut, stationBy, gainBy, criticalBy, After, Bounded}
 use Rattle.allocation.proofs.turns.Winners.{Shows, critical-is, provisional-is}
 
 -- ---- one guest's choice: gains are kept as one more, so that 0 is no station
@@ -181,6 +181,21 @@ module _ (t : Tables) (c j : ℕ) (h : c ≤ getD (t .asks) j 0) where
         (eq-or-ne s (suc j)));
   }
 
+  -- nobody is a candidate there
+  pub bounded-closed : (n : ℕ) {bounds : List ℕ} → Bounded S n j bounds → Bounded S n (j + 1) bounds
+  unfolding screenedAt
+  bounded-closed n b = record {
+    bounds-long = b .bounds-long;
+    no-tie = λ i k li lk q. ⊎-elim
+        (λ (z : k ≡ j). absurd (clash q (rw z (and-no _ _ (not-lt _ _ h)))))
+        (λ (z : k ≡ j → ⊥). b .no-tie i k li (omega arith) q)
+        (eq-or-ne k j);
+    wins = λ i k li lk q. ⊎-elim
+        (λ (z : k ≡ j). absurd (clash q (rw z (and-no _ _ (not-lt _ _ h)))))
+        (λ (z : k ≡ j → ⊥). b .wins i k li (omega arith) q)
+        (eq-or-ne k j);
+  }
+
 -- ---- the queue of an open station, and the totals that the code gathers
 
 module _ (t : Tables) (c : ℕ) (least : List ℕ) (A : AtCut t c least) (j : ℕ) (lj : j < length (t .asks))
@@ -263,6 +278,33 @@ module _ (t : Tables) (c : ℕ) (least : List ℕ) (A : AtCut t c least) (j : �
       after-open-turn s es h o =
           after-offers (screenedAt t c) (length (t .amounts)) j totals (t .tickets) least f e s _ _ _
           (long _ _ gathered) es (omega (arith, A .within .shape .stations-most)) gain-here critical-here all-low h o
+
+      -- the bound is stored at the station's number
+      won-there :
+          (i : ℕ) → i < length (t .amounts) → Q .candidate i ≡ true
+          → wonBy (Q .total i) (critical Q) (Q .key i) e ≡ provisional Q i
+      unfolding queue screenedAt
+      won-there i li q = rw (← shows .some i li q, ← critical-here) (won-here i li)
+
+      pub bounded-open : {s : ℕ} {bounds : List ℕ} → s ≡ j + 1 → j < maxStations
+          → Bounded (screenedAt t c) (length (t .amounts)) j bounds
+          → Bounded (screenedAt t c) (length (t .amounts)) (j + 1) (set bounds s e)
+      unfolding queue
+      bounded-open {s} {bounds} es few-stations h =
+          let at : getD (set bounds s e) s 0 ≡ e
+              = getD-set-same bounds s e 0 (omega (arith, h .bounds-long)) in
+          record {
+            bounds-long = length-set bounds s e ∙ h .bounds-long;
+            no-tie = λ i k li lk q z. ⊎-elim
+                (λ (y : k ≡ j). rw (y, ← add-one j, ← es) (at ∙ tied .none (critical-here ∙ rw y at z)))
+                (λ (y : k ≡ j → ⊥). getD-set-other bounds s (suc k) e 0 (omega arith) ∙ h .no-tie i k li (omega arith) q z)
+                (eq-or-ne k j);
+            wins = λ i k li lk q. ⊎-elim
+                (λ (y : k ≡ j). rw (y, ← add-one j, ← es, at) (won-there i li (rw y at q)))
+                (λ (y : k ≡ j → ⊥). rw (getD-set-other bounds s (suc k) e 0 (omega arith))
+                (h .wins i k li (omega arith) q))
+                (eq-or-ne k j);
+          }
 
 -- what `offer` asks of its lists
 total-covers : (bid amount cut : ℕ) → 0 < totalFor bid amount cut → cut * amount ≤ totalFor bid amount cut

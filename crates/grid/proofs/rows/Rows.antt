@@ -5,8 +5,8 @@ use mathlib.Core.Path.{_≡_, refl, sym, ap, _∙_}
 use native.Mathlib.Nat.{mul-le-mul, mul-le-mul-right}
 use native.Mathlib.Numerals.{add-one}
 use native.Mathlib.Omega.{arith}
-use lib.ListN.{getD, length, set, take, drop, length-append, length-drop}
-use lib.Seq.{paste, paste-zero, paste-suc, length-paste, take-at, take-all, drop-at, drop-drop, drop-length}
+use lib.ListN.{getD, length, set, drop, length-append, length-drop}
+use lib.Seq.{paste, paste-zero, paste-suc, length-paste, drop-length}
 use Rattle.model.specs.Limits.{maxGuests, maxStations, maxSquaredDistance}
 use Rattle.model.specs.Counting.{list, joined}
 use Rattle.model.specs.places.Bids.{cell, squaredDistance, walk, bidBetween, Places, guestsPlaced}
@@ -14,7 +14,7 @@ use Rattle.model.specs.places.Bids.{stationsPlaced, guestCell, stationCell, pla
 use Rattle.model.proofs.Counting.{length-list, getD-list}
 use Rattle.model.proofs.Loops.{element}
 use Rattle.model.proofs.market.Acceptance.{product-fits}
-use Rattle.model.proofs.sheet.Joined.{joined-length}
+use Rattle.model.proofs.sheet.Joined.{joined-length, paste-next}
 use Rattle.model.proofs.places.Cells.{grid-distances}
 use Rattle.model.proofs.places.Walks.{walk-most}
 use Rattle.grid.specs.Rows.{rowBids, RowReady}
@@ -114,15 +114,6 @@ unfolding joined
 rows-none {p} long =
     let none : 0 * stationsPlaced p ≡ 0 = omega arith in
     record { within = omega arith; long = long; is = rw none refl }
-
--- a row over the places after x
-paste-next :
-    (x d r : List ℕ) (k m : ℕ) → length x ≡ k → length r ≡ m → paste (x ++ drop k d) k r m ≡ x ++ r ++ drop (k + m) d
-paste-next x d r k m at long =
-    ap (λ l. l ++ take m r ++ drop (k + m) (x ++ drop k d)) (take-at x (drop k d) k at)
-    ∙ ap (λ l. x ++ l ++ drop (k + m) (x ++ drop k d)) (take-all m r (omega arith))
-    ∙ ap (λ l. x ++ r ++ l)
-    (sym (drop-drop m k (x ++ drop k d)) ∙ ap (drop m) (drop-at x (drop k d) k at) ∙ drop-drop m k d)
 
 module _ {p : Places} {bids₀ bids : List ℕ} {i : ℕ} (s : RowsSoFar p bids₀ bids i) where
   abbrev rows : ℕ → List ℕ

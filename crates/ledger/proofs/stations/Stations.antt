@@ -1,19 +1,17 @@
 -- Laws of the stations' records: what a round leaves of them.
-use Prim.Native.Nat.{ℕ, zero, suc, _+_, _≤_, _<_, min}
-use mathlib.Core.Bool.{Bool, true, false, _||_, _&&_}
+use Prim.Native.Nat.{ℕ, zero, suc, _+_, _≤_, _<_}
+use mathlib.Core.Bool.{Bool, true, false, _||_}
 use mathlib.Core.List.{List}
 use mathlib.Core.Logic.{⊎-elim}
 use mathlib.Core.Path.{_≡_, refl, sym, ap, ap₂, _∙_}
 use native.Mathlib.Nat.{le-refl}
 use native.Mathlib.Numerals.{add-one}
 use native.Mathlib.Omega.{arith}
-use lib.Dec.{ltb}
 use lib.ListN.{getD, length, set, length-set}
-use borrow.Author.Tests.{lt-ltb}
 use lib.Seq.{getD-set-same, getD-set-other}
 use Rattle.model.specs.Limits.{maxStations, maxAccount}
 use Rattle.model.specs.Counting.{_<?_, _or_, some}
-use Rattle.model.proofs.Tests.{clash, or-no, lt-no, lt-or-le, is-lt, not-lt, only-yes, only-no}
+use Rattle.model.proofs.Tests.{or-no, lt-no, lt-or-le, is-lt, not-lt, only-yes, only-no}
 use Rattle.model.proofs.Counting.{some-no, some-cong}
 use Rattle.model.proofs.Loops.{or-is, is-list}
 use Rattle.ledger.specs.declared.round.Round.{Round}
@@ -182,22 +180,3 @@ module _ (r : Round) (l : List StationAccount) where
     paid-credited = is-list (length (paidOf l)) _ _ (length-paid _ ∙ credited-length m ∙ sym (length-paid l))
         (λ k h. getD-paid _ k ∙ ap (λ a. a .paid) (sums k (rw length-paid at h))
         ∙ ap (λ x. x + getD (r .paid) k 0) (sym (getD-paid l k)))
-
--- two tests that pass
-pub both : (a b : Bool) → (a && b) ≡ true → (a ≡ true) × (b ≡ true)
-both true b e = (refl, e)
-both false b e = absurd (clash e refl)
-
--- where the loop over n accounts and m of the round ends
-pub least :
-    (n m j : ℕ) → j ≤ n → j ≤ m → (ltb j n && ltb j m) ≡ false → j ≡ min n m
-least n m j a b e = ⊎-elim
-    (λ (q : n < m). ⊎-elim
-    (λ (h : j < n). absurd (clash (ap₂ _&&_ (lt-ltb j n h) (lt-ltb j m (omega arith))) e))
-    (λ (h : n ≤ j). omega arith)
-    (lt-or-le j n))
-    (λ (q : m ≤ n). ⊎-elim
-    (λ (h : j < m). absurd (clash (ap₂ _&&_ (lt-ltb j n (omega arith)) (lt-ltb j m h)) e))
-    (λ (h : m ≤ j). omega arith)
-    (lt-or-le j m))
-    (lt-or-le n m)

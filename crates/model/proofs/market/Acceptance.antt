@@ -11,7 +11,7 @@ use borrow.Author.Tests.{not-false}
 use Rattle.model.specs.Limits.{maxGuests, maxStations, maxPrice}
 use Rattle.model.specs.Counting.{_<?_, _=?_, _or_, any}
 use Rattle.model.specs.Verdicts.{accepted, firstFault}
-use Rattle.model.specs.market.Market.{Tables}
+use Rattle.model.specs.market.Market.{Tables, tables, regular}
 use Rattle.model.specs.market.Faults.{outside, repeats, counts, lengths, listLengths, values, marketFaults}
 use Rattle.model.specs.market.Faults.{unknownRule, verdict, Accepted, tableFaults, clearingFaults}
 use Rattle.model.specs.market.Rules.{named, isUnknown, ruleIn, ruleOf}
@@ -128,8 +128,15 @@ accept t w =
 pub accepted-iff-within-limits : AcceptedIffWithinLimits
 accepted-iff-within-limits t = (within t, accept t)
 
+-- the row width is the number of stations
+pub width-of :
+    (asks bays amounts tickets bids : List ℕ) (width : ℕ)
+    → WithinLimits (tables asks bays amounts tickets bids width)
+    → tables asks bays amounts tickets bids width ≡ regular asks bays amounts tickets bids
+width-of asks bays amounts tickets bids width w = ap (tables asks bays amounts tickets bids) (w .shape .width-is)
+
 -- a number that names a rule, and one that names none
-known : (k : ℕ) → isUnknown (named k) ≡ false → NamesRule k
+pub known : (k : ℕ) → isUnknown (named k) ≡ false → NamesRule k
 unfolding named isUnknown
 known k = go (k =? 1) refl (k =? 2) refl
   where
@@ -139,7 +146,7 @@ known k = go (k =? 1) refl (k =? 2) refl
     go false e true f h = inr (eq-yes _ _ f)
     go false e false f h = absurd (clash refl h)
 
-is-known : (k : ℕ) → NamesRule k → isUnknown (named k) ≡ false
+pub is-known : (k : ℕ) → NamesRule k → isUnknown (named k) ≡ false
 unfolding named isUnknown _=?_
 is-known k n = ⊎-elim (λ (e : k ≡ 1). rw e refl) (λ (e : k ≡ 2). rw e refl) n
 

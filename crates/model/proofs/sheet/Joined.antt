@@ -5,8 +5,8 @@ use mathlib.Core.Logic.{⊎-elim}
 use mathlib.Core.Path.{_≡_, refl, sym, ap, ap₂, _∙_}
 use native.Mathlib.Nat.{eq-or-lt-of-le, le-of-suc-le-suc, not-suc-le-zero, mul-le-mul-right}
 use native.Mathlib.Omega.{arith}
-use lib.ListN.{length, getD, length-append, List·getD-append}
-use lib.Seq.{getD-append-add}
+use lib.ListN.{length, getD, take, drop, length-append, List·getD-append}
+use lib.Seq.{getD-append-add, paste, take-at, take-all, drop-at, drop-drop}
 use Rattle.model.specs.Counting.{list, joined}
 use Rattle.model.proofs.Counting.{up, here, length-list, getD-list}
 
@@ -43,3 +43,12 @@ joined-gap f p (suc q) l h = ⊎-elim
     (λ (g : p < suc q). rw (h q (le-of-suc-le-suc g) here)
     (append-nil (joined q f) ∙ joined-gap f p q (le-of-suc-le-suc g) (λ i a b. h i a (up b))))
     (eq-or-lt-of-le l)
+
+-- a row over the places after x
+pub paste-next :
+    (x d r : List ℕ) (k m : ℕ) → length x ≡ k → length r ≡ m → paste (x ++ drop k d) k r m ≡ x ++ r ++ drop (k + m) d
+paste-next x d r k m at long =
+    ap (λ l. l ++ take m r ++ drop (k + m) (x ++ drop k d)) (take-at x (drop k d) k at)
+    ∙ ap (λ l. x ++ l ++ drop (k + m) (x ++ drop k d)) (take-all m r (omega arith))
+    ∙ ap (λ l. x ++ r ++ l)
+    (sym (drop-drop m k (x ++ drop k d)) ∙ ap (drop m) (drop-at x (drop k d) k at) ∙ drop-drop m k d)

@@ -73,3 +73,19 @@ tableFaults t r =
 -- a clearing call, by the number of its rule
 unfoldable pub clearingFaults : (rule : ℕ) → Tables → Results → List Row
 clearingFaults rule t r = unknownRule rule ∷ tableFaults t r
+
+-- the code table and the tables of outcomes, by their lengths (document 02, request 7)
+unfoldable pub explainedLengths : (n m codes : ℕ) (outcomes : List ℕ) → Row
+explainedLengths n m codes outcomes = (not (codes =? n * m) or any outcomes (λ k. not (k =? n))) gives 10
+
+unfoldable pub explainedFaults : Tables → (codes : ℕ) (outcomes : List ℕ) → List Row
+explainedFaults t codes outcomes =
+    counts (length (t .amounts)) (length (t .asks))
+    ∷ lengths (length (t .amounts)) (length (t .asks)) (length (t .bays)) (length (t .tickets)) (length (t .bids))
+    (t .width)
+    ∷ explainedLengths (length (t .amounts)) (length (t .asks)) codes outcomes
+    ∷ values t
+
+-- a call that explains a clearing, by the number of its rule
+unfoldable pub explainingFaults : (rule : ℕ) → Tables → (codes : ℕ) (outcomes : List ℕ) → List Row
+explainingFaults rule t codes outcomes = unknownRule rule ∷ explainedFaults t codes outcomes

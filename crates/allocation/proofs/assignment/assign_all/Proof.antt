@@ -1,48 +1,21 @@
-use mathlib.Core.Path.{sym}
+use Prim.Native.Nat.{ℕ, _+_}
 use borrow.Author.Needs.{needs}
-use Rattle.model.specs.Limits.{maxGuests}
-use Rattle.model.proofs.Loops.{zeros-long}
-use Rattle.allocation.proofs.assignment.Assignment.{after-none}
+use lib.ListN.{length-replicate}
+use Rattle.model.specs.Limits.{maxStations}
+use Rattle.model.proofs.Loops.{zeros}
 use Rattle.allocation.proofs.assignment.assign_all.Statement.{statement}
 use Rattle.allocation.proofs.assignment.assign_all.Tie as tie
 
-abbrev entry-before-totals : tie.After-totals → tie.Start
-entry-before-totals p =
+abbrev entry-before-bounds : tie.After-bounds → tie.Start
+entry-before-bounds p =
     p .before .before .before .before .before .before .before .before .before .before
 
-slice-aggregate-assign : tie.Need-slice-aggregate-assign
-slice-aggregate-assign c =
-    let entry = entry-before-totals c in
-    zeros-long maxGuests _ (entry .pre .0 .within .shape .guests-most)
-
-slice-aggregate-assign-2 : tie.Need-slice-aggregate-assign-2
-slice-aggregate-assign-2 c =
-    let entry = entry-before-totals (c .before) in
-    zeros-long maxGuests _ (entry .pre .0 .within .shape .guests-most)
-
-slice-aggregate-assign-3 : tie.Need-slice-aggregate-assign-3
-slice-aggregate-assign-3 c =
-    let entry = entry-before-totals (c .before .before) in
-    zeros-long maxGuests _ (entry .pre .0 .within .shape .guests-most)
-
-assign-requires : tie.Need-assign-requires
-assign-requires c κs =
-    let at-gains = c .before .before .before in
-    let at-totals = at-gains .before .before in
-    let at-rising = at-totals .before in
-    let entry = entry-before-totals at-totals in
-    let most = entry .pre .0 .within .shape .guests-most in
-    (entry .pre .0, ((at-rising .rising .ensures, sym (zeros-long maxGuests _ most)), (after-none most, entry .pre .1)))
-
-returns : tie.Need-returns
-returns c =
-    let at-criticals = c .before .before .before .before in
-    let at-assign = at-criticals .before .before .before .before in
-    at-assign .assign .ensures .1
+assign-with-bars-requires : tie.Need-assign-with-bars-requires
+assign-with-bars-requires c κs =
+    let entry = entry-before-bounds (c .before .before) in
+    (entry .pre .0, ((zeros (maxStations + 1), length-replicate {A = ℕ} (maxStations + 1) 0), entry .pre .1))
 
 pub assign-all-spec : {M : Type 1} → statement M
 assign-all-spec =
-    tie.close (tie.spec (λ c κs. search needs) (λ c. search needs) slice-aggregate-assign (λ c. search needs)
-    slice-aggregate-assign-2
-    (λ c. search needs) slice-aggregate-assign-3 (λ c. search needs) assign-requires (λ c. search needs)
-    (λ c. search needs) returns)
+    tie.close (tie.spec (λ c. search needs) (λ c. search needs) assign-with-bars-requires (λ c. search needs)
+    (λ c. search needs) (λ c. search needs))

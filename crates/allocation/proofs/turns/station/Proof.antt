@@ -12,14 +12,13 @@ use Rattle.allocation.specs.Totals.{Totals, totalAt, Gathered}
 use Rattle.allocation.specs.Stages.{gatheredIf, turnTotals}
 use Rattle.allocation.proofs.ties.Ties.{crowded}
 use Rattle.allocation.proofs.turns.Turns.{offerable, all-low, none-above, top-low, critical-low}
-use Rattle.allocation.proofs.turns.Turns.{after-closed}
-use Rattle.allocation.proofs.turns.Turns.{after-open-turn}
+use Rattle.allocation.proofs.turns.Turns.{after-closed, bounded-closed, after-open-turn, bounded-open}
 use Rattle.allocation.proofs.turns.station.Statement.{statement}
 use Rattle.allocation.proofs.turns.station.Tie as tie
 
 abbrev entry-before-below : tie.After-below → tie.Start
 entry-before-below p =
-    p .before .before .before .before .before .before .before .before .before .before .before .before
+    p .before .before .before .before .before .before .before .before .before .before .before .before .before
 
 abbrev entry-before-gather : tie.After-gather → tie.Start
 entry-before-gather p = entry-before-below (p .before .before .before)
@@ -106,7 +105,20 @@ slice-write-criticals c =
       arith,
       entry .pre .1 .1 .0 .0,
       entry .pre .0 .within .shape .stations-most,
-      long _ _ (entry .pre .1 .1 .1 .criticals-are),
+      long _ _ (entry .pre .1 .1 .1 .0 .criticals-are),
+    )
+
+mul-bounds : tie.Need-mul-bounds
+mul-bounds c = omega (arith, numbered (c .before .before .before))
+
+slice-write-bounds : tie.Need-slice-write-bounds
+slice-write-bounds c =
+    let entry = entry-before-critical (c .before .before .before) in
+    omega (
+      arith,
+      entry .pre .1 .1 .0 .0,
+      entry .pre .0 .within .shape .stations-most,
+      entry .pre .1 .1 .1 .1 .bounds-long,
     )
 
 cast-offer : tie.Need-cast-offer
@@ -121,7 +133,7 @@ offer-requires c κs =
     let g = at-gather .gather .ensures in
     offerable (regular _ _ _ _ _) _ _ (entry .pre .0) (entry .pre .1 .1 .0 .0) (g .totals-are) (low at-gather g)
     (critical-low g (low at-gather g) (at-critical .critical-total .ensures))
-    (at-tie-bound .tie-bound .ensures) (entry .pre .1 .1 .1)
+    (at-tie-bound .tie-bound .ensures) (entry .pre .1 .1 .1 .0)
 
 returns : tie.Need-returns
 unfolding turnTotals gatheredIf
@@ -139,9 +151,13 @@ returns c =
       rw (at-narrow .narrow .ensures) (after-open-turn (regular _ _ _ _ _) _ _ (entry .pre .0) _
           (entry .pre .1 .1 .0 .0) (opened at-gather)
           _ (g .totals-are) _ _ _ refl (critical .least-few)
-          (rw (← critical .counted) (at-tie-bound .tie-bound .ensures)) _ refl (entry .pre .1 .1 .1)
+          (rw (← critical .counted) (at-tie-bound .tie-bound .ensures)) _ refl (entry .pre .1 .1 .1 .0)
           (at-offer .offer .ensures)),
       rw (sym (at-below .below .ensures) ∙ at-open .if1 .taken) (g .totals-are),
+      bounded-open (regular _ _ _ _ _) _ _ (entry .pre .0) _ (entry .pre .1 .1 .0 .0) (opened at-gather)
+          _ (g .totals-are) _ _ _ refl (critical .least-few)
+          (rw (← critical .counted) (at-tie-bound .tie-bound .ensures)) refl (numbered at-critical)
+          (entry .pre .1 .1 .1 .1),
     )
 
 returns-2 : tie.Need-returns-2
@@ -149,13 +165,15 @@ unfolding turnTotals gatheredIf
 returns-2 c =
     let entry = entry-before-below (c .before) in (
       after-closed (regular _ _ _ _ _) _ _ (lt-no _ _ (sym (c .before .below .ensures) ∙ c .if1 .left)) _
-          (entry .pre .1 .1 .1),
+          (entry .pre .1 .1 .1 .0),
       rw (sym (c .before .below .ensures) ∙ c .if1 .left) refl,
+      bounded-closed (regular _ _ _ _ _) _ _ (lt-no _ _ (sym (c .before .below .ensures) ∙ c .if1 .left)) _
+          (entry .pre .1 .1 .1 .1),
     )
 
 pub station-spec : {M : Type 1} → statement M
 station-spec =
     tie.close (tie.spec (λ c. search needs) (λ c. search needs) (λ c κs. search needs) (λ c κs. search needs)
     (λ c. search needs) (λ c. search needs) cast-b critical-total-requires tie-bound-requires add-s narrow-requires
-    mul-criticals slice-write-criticals cast-offer offer-requires (λ c. search needs) (λ c. search needs)
-    (λ c. search needs) (λ c. search needs) returns returns-2)
+    mul-criticals slice-write-criticals mul-bounds slice-write-bounds cast-offer offer-requires (λ c. search needs)
+    (λ c. search needs) (λ c. search needs) (λ c. search needs) (λ c. search needs) returns returns-2)

@@ -3,7 +3,9 @@ use native.Mathlib.Omega.{arith}
 use borrow.Author.Needs.{needs}
 use Rattle.model.specs.market.Market.{regular}
 use Rattle.model.proofs.Loops.{long}
-use Rattle.clearing.proofs.Answers.{cut-low, at-cut, least-at-cut, stations-count, charges-count, stations-low}
+use Rattle.pricing.proofs.cut.CutAsk.{cut-low}
+use Rattle.allocation.proofs.assignment.Assignment.{at-cut}
+use Rattle.clearing.proofs.Answers.{least-at-cut, stations-count, charges-count, stations-low}
 use Rattle.clearing.proofs.Answers.{clears-accepted, of-mechanism, clears-under-rule}
 use Rattle.clearing.proofs.accepted.clear_with_room.Statement.{statement}
 use Rattle.clearing.proofs.accepted.clear_with_room.Tie as tie

@@ -59,7 +59,8 @@ use Rattle.ledger.proofs.round.Round.Laws as R′
 use Rattle.model.specs.book.Book.{account, accountAt}
 use Rattle.ledger.specs.Stations.{credited, creditedTo}
 use Rattle.model.specs.declared.account.StationAccount.{StationAccount}
-use Rattle.ledger.proofs.stations.Stations.{credited-none, credited-more, credited-length, both, least}
+use Rattle.ledger.proofs.stations.Stations.{credited-none, credited-more, credited-length}
+use Rattle.model.proofs.Loops.{passes-both, ends-least}
 use Rattle.model.proofs.account.StationAccount as T
 use Rattle.model.proofs.account.StationAccount.Laws as T′
 use Rattle.ledger.proofs.stations.credited as g
@@ -272,10 +273,10 @@ module _ {M : Type 1} (𝓤 : URA M) (H : Heap 𝓤) (A : Atoms 𝓤) (W : Given
           again ! Nearer At j (j .0 + 1, less, fewer) (omega (arith, less)))))))
         where
           less : j .0 + 1 ≤ n
-          less = omega (arith, ltb-true (j .0) n (both (ltb (j .0) n) (ltb (j .0) k) e .0))
+          less = omega (arith, ltb-true (j .0) n (passes-both (ltb (j .0) n) (ltb (j .0) k) e .0))
 
           fewer : j .0 + 1 ≤ k
-          fewer = omega (arith, ltb-true (j .0) k (both (ltb (j .0) n) (ltb (j .0) k) e .1))
+          fewer = omega (arith, ltb-true (j .0) k (passes-both (ltb (j .0) n) (ltb (j .0) k) e .1))
 
           within : j .0 < length (L (j .0))
           within = subst (λ (m : ℕ). j .0 < m) (sym (credited-length d ys (j .0))) (omega (arith, less))
@@ -311,7 +312,7 @@ module _ {M : Type 1} (𝓤 : URA M) (H : Heap 𝓤) (A : Atoms 𝓤) (W : Given
           move ! (15 ∷ 16 ∷ []) $ free1 ! $ move ! (13 ∷ 14 ∷ []) $ free1 ! $ move ! (11 ∷ 12 ∷ []) $ free1 ! $
           move ! (9 ∷ 10 ∷ []) $ free1 ! $ move ! (7 ∷ 8 ∷ []) $ free1 ! $ move ! (5 ∷ 6 ∷ []) $ free1 ! $
           move ! (3 ∷ 4 ∷ []) $ free1 ! $ free0 ! $
-          by ! (exits gn (L (j .0)) (credited-length d ys (j .0)) (ap L (least n k (j .0) (j .1) (j .2) e)))
+          by ! (exits gn (L (j .0)) (credited-length d ys (j .0)) (ap L (ends-least n k (j .0) (j .1) (j .2) e)))
 
       turns-by :
           (j : Upto) (t : Bool) → (ltb (j .0) n && ltb (j .0) k) ≡ t

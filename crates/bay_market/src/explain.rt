@@ -1,0 +1,76 @@
+// What decided, for other languages: include/bay_market.h.
+use crate::post;
+use explain::explained;
+use explain::explained::Telling;
+use explain::outcomes;
+ghost use Prim.Native.Nat.{_≤_};
+ghost use mathlib.Core.Bool.{not};
+ghost use mathlib.Core.List.{[], _∷_};
+ghost use mathlib.Core.Path.{_≡_};
+ghost use lib.ListN.{length};
+ghost use Rattle.model.specs.Limits.{maxGuests};
+ghost use Rattle.model.specs.Counting.{_=?_, any};
+ghost use Rattle.model.specs.contracts.ExplainsOut.{ExplainsOut};
+ghost use Rattle.model.specs.contracts.Lent.{tablesIn, tellingsIn, tellingsOut};
+ghost use Rattle.bay_market.specs.LaidOut.{LaidOut};
+
+// The length of an outcome table that is given as three lists: n where each of them is n long, else another number.
+fn table_length(n: usize, stations: usize, charges: usize, reasons: usize) -> usize
+    ensures { λ r. ⌜ any (r ∷ []) (λ k. not (k =? n)) ≡ any (stations ∷ charges ∷ reasons ∷ []) (λ k. not (k =? n)) ⌝ }
+{
+    if (stations == n) & (charges == n) & (reasons == n) {
+        return n;
+    }
+    if n == 0 { 1 } else { 0 }
+}
+
+// Each guest's record, laid out as a station, a charge and a code.
+fn lay_out(e: Telling, stations: &mut [u16], charges: &mut [u32], reasons: &mut [u8])
+    requires { ⌜ (e .guests ≤ maxGuests) × (e .guests ≤ length (now stations))
+        × (e .guests ≤ length (now charges)) × (e .guests ≤ length (now reasons)) ⌝ }
+    ensures { λ _. ⌜ LaidOut e (tellingsIn stations charges reasons) (tellingsOut stations charges reasons) ⌝ }
+{
+    let n = e.guests;
+    let mut i = 0;
+    while i < n {
+        let outcome = outcomes::outcome_at(e, i);
+        stations[i] = outcomes::station_in(outcome);
+        charges[i] = outcomes::charge_in(outcome).narrow();
+        reasons[i] = outcomes::loss_in(outcome);
+        i += 1;
+    }
+}
+
+#[no_mangle]
+pub extern "C" fn bay_market_explain(
+    rule: u8,
+    asks: &[u32],
+    bays: &[u16],
+    amounts: &[u16],
+    tickets: &[u32],
+    bids: &[u32],
+    width: usize,
+    codes: &mut [u8],
+    stations: &mut [u16],
+    charges: &mut [u32],
+    reasons: &mut [u8],
+) -> u8
+    ensures { λ r. ⌜ ExplainsOut rule (tablesIn asks bays amounts tickets bids width) (now (codes .entry))
+        (tellingsIn stations charges reasons) r (now (codes .exit)) (tellingsOut stations charges reasons) ⌝ }
+{
+    let table = table_length(amounts.len(), stations.len(), charges.len(), reasons.len());
+    let e = explained::explained(
+        rule,
+        asks,
+        bays,
+        amounts,
+        tickets,
+        bids,
+        width,
+        table,
+        codes,
+    );
+    lay_out(e, stations, charges, reasons);
+    let reply = e.reply;
+    post::reply_number(reply)
+}

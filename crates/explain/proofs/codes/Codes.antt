@@ -1,0 +1,235 @@
+-- Laws of the code of a bid, and of the loops that write codes.
+use Prim.Native.Nat.{ℕ, suc, _+_, _*_, _≤_, _<_, max}
+use mathlib.Core.Bool.{Bool, true, false, not, cond}
+use mathlib.Core.List.{List, [], _∷_, _++_, append-nil}
+use mathlib.Core.Logic.{⊎-elim}
+use mathlib.Core.Path.{_≡_, refl, sym, ap, ap₂, _∙_}
+use native.Mathlib.Nat.{mul-le-mul-right}
+use native.Mathlib.Numerals.{add-one}
+use native.Mathlib.Omega.{arith}
+use lib.ListN.{getD, length, set, drop, length-append, length-drop}
+use lib.Seq.{paste, paste-zero, paste-suc, length-paste, drop-length}
+use Rattle.model.specs.Limits.{maxGuests, maxStations}
+use Rattle.model.specs.Counting.{_<?_, _≤?_, _=?_, _and_, only, greatest, list, joined}
+use Rattle.model.specs.Verdicts.{_gives_, firstFault, numberOf}
+use Rattle.model.specs.market.Market.{Tables, bidAt, marketBy, market, cut, opens, screen, queue, provisional}
+use Rattle.model.specs.market.Reasons.{reasons, code}
+use Rattle.model.specs.claims.Meaning.{WithinLimits}
+use Rattle.model.specs.declared.rule.Rule.{Rule}
+use Rattle.model.proofs.Tests.{both, lt-yes, lt-no, is-lt, not-lt, is-le, not-le, not-eq, lt-or-le}
+use Rattle.model.proofs.Counting.{greatest-cong, length-list, getD-list, list-cong}
+use Rattle.model.proofs.Loops.{Filling, filling-none, filling-turn, filling-end, in-table}
+use Rattle.model.proofs.market.Acceptance.{product-fits}
+use Rattle.model.proofs.sheet.Joined.{joined-length, paste-next}
+use Rattle.allocation.specs.Offers.{wonBy}
+use Rattle.allocation.specs.Screens.{screenedAt}
+use Rattle.allocation.specs.Stages.{Bars}
+use Rattle.explain.specs.Codes.{codeBy, codeAt, rowCode, RowReady, CodesAtCut}
+
+-- ---- the code of a bid
+
+pub code-no-bid : (bid ask c : ℕ) (won : Bool) → bid ≡ 0 → 1 ≡ codeBy bid ask c won
+unfolding codeBy _=?_
+code-no-bid bid ask c won e = rw e refl
+
+pub code-not-open : {bid ask c : ℕ} (won : Bool) → (bid ≡ 0 → ⊥) → c ≤ ask → 2 ≡ codeBy bid ask c won
+unfolding codeBy
+code-not-open {bid} {ask} {c} won n h = rw (not-eq bid 0 n, not-lt ask c h) refl
+
+pub code-below-cut : {bid ask c : ℕ} (won : Bool) → (bid ≡ 0 → ⊥) → ask < c → bid < c → 3 ≡ codeBy bid ask c won
+unfolding codeBy
+code-below-cut {bid} {ask} {c} won n h l = rw (not-eq bid 0 n, is-lt ask c h, is-lt bid c l) refl
+
+pub code-held :
+    {bid ask c : ℕ} (won : Bool) → (bid ≡ 0 → ⊥) → ask < c → c ≤ bid → won ≡ true → 0 ≡ codeBy bid ask c won
+unfolding codeBy
+code-held {bid} {ask} {c} won n h l e = rw (not-eq bid 0 n, is-lt ask c h, not-lt bid c l, e) refl
+
+pub code-outbid :
+    {bid ask c : ℕ} (won : Bool) → (bid ≡ 0 → ⊥) → ask < c → c ≤ bid → won ≡ false → 4 ≡ codeBy bid ask c won
+unfolding codeBy
+code-outbid {bid} {ask} {c} won n h l e = rw (not-eq bid 0 n, is-lt ask c h, not-lt bid c l, e) refl
+
+-- who wins matters for candidates alone
+won-matters :
+    (bid ask c : ℕ) (x y : Bool) → (ask < c → c ≤ bid → x ≡ y) → codeBy bid ask c x ≡ codeBy bid ask c y
+unfolding codeBy
+won-matters bid ask c x y h = ⊎-elim
+    (λ (l : ask < c). ⊎-elim
+    (λ (b : bid < c). rw (is-lt ask c l, is-lt bid c b) refl)
+    (λ (b : c ≤ bid). rw (h l b) refl)
+    (lt-or-le bid c))
+    (λ (l : c ≤ ask). rw (not-lt ask c l) refl)
+    (lt-or-le ask c)
+
+-- it is the first reason that applies
+first-reason :
+    (a b p : Bool) (bid c : ℕ)
+    → cond a 1 (cond b (cond (bid <? c) 3 (cond p 0 4)) 2)
+    ≡ numberOf (firstFault ((a gives 1) ∷ (not b gives 2) ∷ (bid <? c gives 3)
+    ∷ ((b and c ≤? bid) and not p gives 4) ∷ []))
+unfolding numberOf firstFault _and_
+first-reason true b p bid c = refl
+first-reason false false p bid c = refl
+first-reason false true true bid c = ⊎-elim
+    (λ (l : bid < c). rw (is-lt bid c l) refl)
+    (λ (l : c ≤ bid). rw (not-lt bid c l, is-le c bid l) refl)
+    (lt-or-le bid c)
+first-reason false true false bid c = ⊎-elim
+    (λ (l : bid < c). rw (is-lt bid c l) refl)
+    (λ (l : c ≤ bid). rw (not-lt bid c l, is-le c bid l) refl)
+    (lt-or-le bid c)
+
+pub code-is : (rule : Rule) (t : Tables) (i j : ℕ) → codeAt t (cut (market rule t)) i j ≡ code (market rule t) i j
+unfolding codeAt codeBy code reasons opens screen screenedAt market marketBy
+code-is rule t i j =
+    first-reason (bidAt t i j =? 0) (getD (t .asks) j 0 <? cut (market rule t))
+    (provisional (queue (screenedAt t (cut (market rule t))) j) i) (bidAt t i j) (cut (market rule t))
+
+-- ---- a row of codes, from bars
+
+module _ (t : Tables) (c : ℕ) {criticals bounds : List ℕ} (w : WithinLimits t) (b : Bars t c criticals bounds) (i : ℕ)
+    (li : i < length (t .amounts)) where
+  candidate :
+      (j : ℕ) → getD (t .asks) j 0 < c → c ≤ bidAt t i j → (screenedAt t c) .candidate i j ≡ true
+  unfolding screenedAt
+  candidate j l h = both (is-lt _ _ l) (is-le _ _ h)
+
+  pub row-code-is :
+      (j : ℕ) → j < length (t .asks)
+      → rowCode (t .asks) (t .bids) (getD (t .amounts) i 0) (getD (t .tickets) i 0) c criticals bounds
+      (i * length (t .asks)) j ≡ codeAt t c i j
+  unfolding rowCode codeAt bidAt screenedAt
+  row-code-is j lj =
+      won-matters _ _ c _ _ (λ l h. rw (add-one j, b .criticals-are j lj)
+      (b .bounded .wins i j li lj (candidate j l h)))
+
+  pub row-ready :
+      {codes : List ℕ} → length codes ≡ length (t .amounts) * length (t .asks)
+      → RowReady (t .asks) (t .bids) (getD (t .amounts) i 0) c criticals bounds (i * length (t .asks)) codes
+  unfolding bidAt
+  row-ready {codes} e =
+      let end : i * length (t .asks) + length (t .asks) ≤ length (t .amounts) * length (t .asks)
+          = omega (arith, mul-le-mul-right (length (t .asks)) li) in
+      record {
+        few = w .shape .stations-most;
+        bids-low = w .bid-most;
+        amount-low = w .amount-most i li;
+        criticals-long = b .criticals-long;
+        bounds-long = b .bounded .bounds-long;
+        criticals-low = λ j lj. rw (add-one j) (b .criticals-low j lj);
+        no-tie = λ j lj l h z. rw (add-one j) (b .bounded .no-tie i j li lj (candidate j l h)
+            (sym (b .criticals-are j lj) ∙ rw (add-one j) at z));
+        bids-room = omega (arith, w .shape .bids-length);
+        codes-room = omega arith;
+      }
+
+-- ---- the loop over a row: its first j codes stand over the places from base on, and top is the highest of them
+
+pub record RowSoFar (m : ℕ) (f : ℕ → ℕ) (codes₀ codes : List ℕ) (base top j : ℕ) : Type 0 where
+  pub within : j ≤ m
+  pub room : base + m ≤ length codes₀
+  pub is : codes ≡ paste codes₀ base (list m f) j
+  pub highest : top ≡ greatest j f
+
+pub row-none :
+    {m : ℕ} {f : ℕ → ℕ} {codes : List ℕ} {base : ℕ} → base + m ≤ length codes → RowSoFar m f codes codes base 0 0
+unfolding greatest
+row-none {m} {f} {codes} {base} room =
+    record { within = omega arith; room = room; is = paste-zero codes base (list m f); highest = refl }
+
+module _ {m : ℕ} {f : ℕ → ℕ} {codes₀ codes : List ℕ} {base top j : ℕ} (s : RowSoFar m f codes₀ codes base top j) where
+  pub row-same : length codes ≡ length codes₀
+  row-same =
+      ap length (s .is)
+      ∙ length-paste codes₀ base (list m f) j (omega (arith, s .within, s .room))
+      (omega (arith, s .within, length-list m f))
+
+  pub row-turn :
+      {v top′ : ℕ} → j < m → v ≡ f j → top′ ≡ max top v
+      → RowSoFar m f codes₀ (set codes (base + j) v) base top′ (j + 1)
+  unfolding greatest
+  row-turn {v} l e h = record {
+    within = omega arith;
+    room = s .room;
+    is = rw (s .is, e ∙ sym (getD-list m f j l), add-one)
+        (paste-suc codes₀ base (list m f) j 0 (omega (arith, s .room)) (omega (arith, length-list m f)));
+    highest = rw (add-one, ← s .highest, ← e) h;
+  }
+
+  pub row-end :
+      m ≤ j → (codes ≡ paste codes₀ base (list m f) m) × (top ≡ greatest m f)
+  row-end l =
+      let whole : j ≡ m = omega (arith, s .within) in
+      (s .is ∙ ap (paste codes₀ base (list m f)) whole, s .highest ∙ ap (λ k. greatest k f) whole)
+
+-- ---- the loop over the rows
+
+-- the loss of guest i with these stations
+abbrev lossAt : (t : Tables) (c : ℕ) (stations : List ℕ) → ℕ → ℕ
+lossAt t c stations i = only (getD stations i 0 =? 0) (greatest (length (t .asks)) (codeAt t c i))
+
+-- the rows of the first i guests, then what was there; and their losses
+pub record RowsSoFar (t : Tables) (c : ℕ) (stations codes₀ losses₀ codes losses : List ℕ) (i : ℕ) : Type 0 where
+  pub within : i ≤ length (t .amounts)
+  pub long : length codes₀ ≡ length (t .amounts) * length (t .asks)
+  pub is :
+      codes ≡ joined i (λ k. list (length (t .asks)) (codeAt t c k)) ++ drop (i * length (t .asks)) codes₀
+  pub losses-are : Filling (length (t .amounts)) (lossAt t c stations) losses₀ losses i
+
+pub rows-none :
+    {t : Tables} {c : ℕ} {stations codes losses : List ℕ} → length codes ≡ length (t .amounts) * length (t .asks)
+    → length losses ≡ length (t .amounts) → RowsSoFar t c stations codes losses codes losses 0
+unfolding joined
+rows-none {t} long l =
+    let none : 0 * length (t .asks) ≡ 0 = omega arith in
+    record { within = omega arith; long = long; is = rw none refl; losses-are = filling-none l }
+
+module _ {t : Tables} {c : ℕ} {stations codes₀ losses₀ codes losses : List ℕ} {i : ℕ}
+    (s : RowsSoFar t c stations codes₀ losses₀ codes losses i) where
+  abbrev m : ℕ
+  m = length (t .asks)
+
+  abbrev rows : ℕ → List ℕ
+  rows k = list m (codeAt t c k)
+
+  before-long : length (joined i rows) ≡ i * m
+  before-long = joined-length i m (codeAt t c)
+
+  pub rows-same : length codes ≡ length codes₀
+  rows-same =
+      ap length (s .is)
+      ∙ simp (length-append, length-drop) (omega (arith, before-long, s .long, mul-le-mul-right m (s .within)))
+
+  pub rows-fit : length (t .amounts) ≤ maxGuests → m ≤ maxStations → i * m ≤ maxGuests * maxStations
+  rows-fit a b = product-fits i m (omega (arith, s .within)) b
+
+  pub rows-turn :
+      {f : ℕ → ℕ} {codes′ : List ℕ} {top v : ℕ} → i < length (t .amounts)
+      → ((j : ℕ) → j < m → f j ≡ codeAt t c i j)
+      → (codes′ ≡ paste codes (i * m) (list m f) m) × (top ≡ greatest m f)
+      → v ≡ only (getD stations i 0 =? 0) top
+      → RowsSoFar t c stations codes₀ losses₀ codes′ (set losses i v) (i + 1)
+  unfolding joined
+  rows-turn {f} l h (e, q) p =
+      let next : (i + 1) * m ≡ i * m + m = omega arith in
+      let row : list m f ≡ rows i = list-cong m f (codeAt t c i) h in
+      record {
+        within = omega arith;
+        long = s .long;
+        is = rw (next, add-one) (e ∙ ap₂ (λ l r. paste l (i * m) r m) (s .is) row
+            ∙ paste-next (joined i rows) codes₀ (rows i) (i * m) m before-long (length-list m (codeAt t c i)));
+        losses-are = filling-turn (s .losses-are) l
+            (p ∙ ap (only (getD stations i 0 =? 0)) (q ∙ greatest-cong m f (codeAt t c i) h));
+      }
+
+  pub rows-end : length (t .amounts) ≤ i → CodesAtCut t c stations codes losses
+  rows-end l =
+      let all : i ≡ length (t .amounts) = omega (arith, s .within) in
+      let whole : i * m ≡ length codes₀ = rw all (sym (s .long)) in
+      record {
+        codes-are = s .is ∙ ap (λ k. joined i rows ++ drop k codes₀) whole
+            ∙ ap (λ l. joined i rows ++ l) (drop-length codes₀) ∙ append-nil (joined i rows)
+            ∙ ap (λ k. joined k rows) all;
+        losses-are = filling-end (s .losses-are) l;
+      }

@@ -1,0 +1,129 @@
+-- The loop: the first j places of the row hold the first j codes.
+use Prim.Native.Nat.{_+_, _-_, _<_}
+use mathlib.Core.Path.{sym, _∙_}
+use native.Mathlib.Omega.{arith}
+use lib.ListN.{length}
+use borrow.Author.Needs.{needs}
+use Rattle.model.specs.Limits.{maxStations}
+use Rattle.explain.specs.Codes.{rowCode}
+use Rattle.explain.proofs.codes.Codes.{RowSoFar, row-none, row-same, row-turn, row-end}
+use Rattle.explain.proofs.codes.explain_row.Statement.{statement}
+use Rattle.explain.proofs.codes.explain_row.Tie as tie
+
+abbrev Inv-loop : tie.InvT-loop
+Inv-loop asks bids amount ticket cut criticals bounds base codes₀ top₀ j₀ codes top j =
+    RowSoFar (length asks) (rowCode asks bids amount ticket (cut .0) criticals bounds base) codes₀ codes base top j
+
+abbrev μ-loop : tie.MeasureT-loop
+μ-loop asks bids amount ticket cut criticals bounds base codes₀ top₀ j₀ codes top j = length asks - j
+
+abbrev entry-before-test : tie.In-loop Inv-loop μ-loop → tie.Start Inv-loop μ-loop
+entry-before-test p = p .before .before .before .before .before .before .before
+
+abbrev test-before-code : tie.After-shared-slice-known8 Inv-loop μ-loop → tie.In-loop Inv-loop μ-loop
+test-before-code p = p .before .before .before .before .before
+
+abbrev test-after-code : tie.After-code Inv-loop μ-loop → tie.In-loop Inv-loop μ-loop
+test-after-code p = test-before-code (p .before)
+
+-- the bid's place is within its table, the code's within its own, and the station's number within the limits
+in-bids : (c : tie.In-loop Inv-loop μ-loop) →
+    let entry = entry-before-test c in
+    entry .args .base + c .before .loop .j < length (entry .args .bids .now)
+in-bids c = omega (arith, entry-before-test c .pre .bids-room, c .loop-test .taken)
+
+in-codes : (c : tie.In-loop Inv-loop μ-loop) →
+    entry-before-test c .args .base + c .before .loop .j < length (c .before .loop .codes)
+in-codes c =
+    let so-far = c .before .loop .inv in
+    omega (arith, row-same so-far, c .loop-test .taken, so-far .room)
+
+numbered : (c : tie.In-loop Inv-loop μ-loop) → c .before .loop .j + 1 < maxStations + 1
+numbered c = omega (arith, c .loop-test .taken, entry-before-test c .pre .few)
+
+loop-holds : tie.Need-loop-holds Inv-loop μ-loop
+loop-holds c = let entry = c .before .before .before .before in row-none (entry .before .pre .codes-room)
+
+add-t13 : tie.Need-add-t13 Inv-loop μ-loop
+add-t13 c = let h = in-bids c in search needs
+
+mul-t15 : tie.Need-mul-t15 Inv-loop μ-loop
+mul-t15 c = let h = in-bids c in search needs
+
+add-wide : tie.Need-add-wide Inv-loop μ-loop
+add-wide c = omega (arith, numbered (c .before .before))
+
+mul-wide : tie.Need-mul-wide Inv-loop μ-loop
+mul-wide c = omega (arith, numbered (c .before .before))
+
+shared-slice-read-wide : tie.Need-shared-slice-read-wide Inv-loop μ-loop
+shared-slice-read-wide c =
+    let at-test = c .before .before .before in
+    omega (arith, numbered at-test, entry-before-test at-test .pre .criticals-long)
+
+add-code : tie.Need-add-code Inv-loop μ-loop
+add-code c = omega (arith, numbered (c .before .before .before .before))
+
+mul-code : tie.Need-mul-code Inv-loop μ-loop
+mul-code c = omega (arith, numbered (c .before .before .before .before))
+
+shared-slice-read-code : tie.Need-shared-slice-read-code Inv-loop μ-loop
+shared-slice-read-code c =
+    let at-test = test-before-code c in
+    omega (arith, numbered at-test, entry-before-test at-test .pre .bounds-long)
+
+code-requires : tie.Need-code-requires Inv-loop μ-loop
+code-requires c κs =
+    let at-test = test-before-code c in
+    let ready = entry-before-test at-test .pre in
+    let within = at-test .loop-test .taken in (
+      (
+        ready .bids-low _ (in-bids at-test),
+        ready .amount-low,
+        omega (arith, c .before .wide .ensures, ready .criticals-low _ within),
+      ),
+      λ l h z. ready .no-tie _ within l h (sym (c .before .wide .ensures) ∙ z),
+    )
+
+add-codes : tie.Need-add-codes Inv-loop μ-loop
+add-codes c = let h = in-codes (test-after-code c) in search needs
+
+slice-write-codes : tie.Need-slice-write-codes Inv-loop μ-loop
+slice-write-codes c = in-codes (test-after-code c)
+
+loop-again : tie.Need-loop-again Inv-loop μ-loop
+unfolding rowCode
+loop-again c =
+    let at-code = c .before in
+    let at-test = test-after-code at-code in
+    let at-wide = at-code .before .before in
+    row-turn (at-test .before .loop .inv) (at-test .loop-test .taken)
+    (rw (← at-wide .wide .ensures) (at-code .code .ensures)) (c .higher .ensures)
+
+pub explain-row-spec : {M : Type 1} → statement M
+explain-row-spec =
+    tie.close
+    (tie.spec
+    Inv-loop
+    μ-loop
+    loop-holds
+    add-t13
+    mul-t15
+    (λ c. in-bids (c .before))
+    (λ c. search needs)
+    (λ c. search needs)
+    add-wide
+    mul-wide
+    shared-slice-read-wide
+    (λ c κs. search needs)
+    add-code
+    mul-code
+    shared-slice-read-code
+    code-requires
+    add-codes
+    slice-write-codes
+    (λ c κs. search needs)
+    (λ c. search needs)
+    (λ c. search needs)
+    loop-again
+    (λ c. row-same (c .before .loop .inv)) (λ c. row-end (c .before .loop .inv) (c .loop-test .left)))

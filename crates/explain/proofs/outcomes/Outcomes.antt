@@ -1,0 +1,128 @@
+-- Laws of guests' records, and of a row of them.
+use Prim.Native.Nat.{ℕ, zero, suc, _+_, _≤_, _<_}
+use mathlib.Core.Bool.{cond}
+use mathlib.Core.List.{List}
+use mathlib.Core.Logic.{⊎-elim}
+use mathlib.Core.Path.{_≡_, refl, sym, ap, ap₂, _∙_}
+use native.Mathlib.Numerals.{add-one}
+use native.Mathlib.Omega.{arith}
+use lib.ListN.{getD, length, set, length-set}
+use lib.Seq.{getD-set-same, getD-set-other}
+use Rattle.model.specs.Limits.{maxGuests}
+use Rattle.model.specs.Counting.{_<?_, _=?_, only}
+use Rattle.model.specs.Numbers.{codeOf, stationOf, chargeOf, lossOf}
+use Rattle.model.specs.declared.money.Mills.{Mills}
+use Rattle.model.specs.declared.reason.Reason.the-variants.{NoBid, NotOpen, BelowCut, Outbid}
+use Rattle.model.specs.declared.reason.GuestResult.the-variants.{Win, Loss}
+use Rattle.model.specs.declared.reason.GuestOutcome.{GuestOutcome}
+use Rattle.model.proofs.Tests.{is-eq, not-eq, eq-or-ne, is-lt, not-lt, lt-or-le, only-yes, only-no}
+use Rattle.explain.specs.Outcomes.{reasonOf, recordOf, mills, recordAt, writtenTo}
+use Rattle.explain.specs.declared.explained.Telling.{Telling}
+
+-- ---- the reason of a code
+
+pub reason-1 : {k : ℕ} → k ≡ 1 → NoBid ≡ reasonOf k
+unfolding reasonOf _=?_
+reason-1 e = rw e refl
+
+pub reason-2 : {k : ℕ} → k ≡ 2 → NotOpen ≡ reasonOf k
+unfolding reasonOf _=?_
+reason-2 e = rw e refl
+
+pub reason-3 : {k : ℕ} → k ≡ 3 → BelowCut ≡ reasonOf k
+unfolding reasonOf _=?_
+reason-3 e = rw e refl
+
+pub reason-4 : {k : ℕ} → (k ≡ 1 → ⊥) → (k ≡ 2 → ⊥) → (k ≡ 3 → ⊥) → Outbid ≡ reasonOf k
+unfolding reasonOf
+reason-4 {k} a b c = rw (not-eq k 1 a, not-eq k 2 b, not-eq k 3 c) refl
+
+-- ---- a record
+
+pub is-win : {station loss : ℕ} {charge : Mills} → loss ≡ 0
+    → record { result = Win station charge } ≡ recordOf station charge loss
+unfolding recordOf _=?_
+is-win e = rw e refl
+
+pub is-loss : (station : ℕ) (charge : Mills) (loss : ℕ) → (loss ≡ 0 → ⊥)
+    → record { result = Loss (reasonOf loss) } ≡ recordOf station charge loss
+unfolding recordOf
+is-loss station charge loss n = rw (not-eq loss 0 n) refl
+
+-- what a record shows: a loss has no station and no charge, and its code is from 1 to 4
+module _ (station : ℕ) (charge : Mills) (loss : ℕ) where
+  pub station-shown : (0 < loss → station ≡ 0) → stationOf (recordOf station charge loss .result) ≡ station
+  unfolding recordOf stationOf
+  station-shown h = ⊎-elim
+      (λ (e : loss ≡ 0). rw (is-eq loss 0 e) refl)
+      (λ (n : loss ≡ 0 → ⊥). rw (not-eq loss 0 n) (sym (h (omega arith))))
+      (eq-or-ne loss 0)
+
+  pub charge-shown : (0 < loss → charge .0 ≡ 0) → chargeOf (recordOf station charge loss .result) ≡ charge .0
+  unfolding recordOf chargeOf
+  charge-shown h = ⊎-elim
+      (λ (e : loss ≡ 0). rw (is-eq loss 0 e) refl)
+      (λ (n : loss ≡ 0 → ⊥). rw (not-eq loss 0 n) (sym (h (omega arith))))
+      (eq-or-ne loss 0)
+
+  pub loss-shown : loss ≤ 4 → lossOf (recordOf station charge loss .result) ≡ loss
+  unfolding recordOf lossOf reasonOf
+  loss-shown h = ⊎-elim
+      (λ (e : loss ≡ 0). rw (is-eq loss 0 e) (sym e))
+      (λ (n : loss ≡ 0 → ⊥). rw (not-eq loss 0 n) (⊎-elim
+      (λ (e : loss ≡ 1). rw (is-eq loss 1 e) (sym e))
+      (λ (p : loss ≡ 1 → ⊥). rw (not-eq loss 1 p) (⊎-elim
+      (λ (e : loss ≡ 2). rw (is-eq loss 2 e) (sym e))
+      (λ (q : loss ≡ 2 → ⊥). rw (not-eq loss 2 q) (⊎-elim
+      (λ (e : loss ≡ 3). rw (is-eq loss 3 e) (sym e))
+      (λ (r : loss ≡ 3 → ⊥). rw (not-eq loss 3 r) (omega arith))
+      (eq-or-ne loss 3)))
+      (eq-or-ne loss 2)))
+      (eq-or-ne loss 1)))
+      (eq-or-ne loss 0)
+
+-- ---- guest i's record
+
+module _ (e : Telling) (i : ℕ) where
+  pub record-in :
+      {charge : Mills} → i < maxGuests → charge .0 ≡ getD (e .charges) i 0
+      → recordOf (getD (e .stations) i 0) charge (getD (e .losses) i 0) ≡ recordAt e i
+  unfolding recordAt only
+  record-in l q =
+      rw (is-lt i maxGuests l) (ap (λ (x : ℕ). recordOf (getD (e .stations) i 0) (mills x) (getD (e .losses) i 0)) q)
+
+  pub record-past : {charge : Mills} → maxGuests ≤ i → charge .0 ≡ 0 → recordOf 0 charge 0 ≡ recordAt e i
+  unfolding recordAt only
+  record-past l q = rw (not-lt i maxGuests l) (ap (λ (x : ℕ). recordOf 0 (mills x) 0) q)
+
+-- ---- a row of records
+
+abbrev pub nobody : GuestOutcome
+nobody = record { result = Win 0 (mills 0) }
+
+abbrev pub recordIn : List GuestOutcome → ℕ → GuestOutcome
+recordIn l i = getD l i nobody
+
+module _ (e : Telling) (l : List GuestOutcome) where
+  pub written-none : l ≡ writtenTo e 0 l
+  unfolding writtenTo
+  written-none = refl
+
+  pub written-more : (i : ℕ) (r : GuestOutcome) → r ≡ recordAt e i → set (writtenTo e i l) i r ≡ writtenTo e (i + 1) l
+  unfolding writtenTo
+  written-more i r q = ap (λ b. set (writtenTo e i l) i b) q ∙ ap (λ n. writtenTo e n l) (sym (add-one i))
+
+  pub written-length : (n : ℕ) → length (writtenTo e n l) ≡ length l
+  unfolding writtenTo
+  written-length zero = refl
+  written-length (suc n) = length-set (writtenTo e n l) n _ ∙ written-length n
+
+  pub written-at : (n k : ℕ) → n ≤ length l → k < n → recordIn (writtenTo e n l) k ≡ recordAt e k
+  unfolding writtenTo
+  written-at zero k b h = absurd (omega arith)
+  written-at (suc n) k b h = ⊎-elim
+      (λ (q : k < n). getD-set-other (writtenTo e n l) n k _ _ (omega arith) ∙ written-at n k (omega arith) q)
+      (λ (q : n ≤ k).
+      let z : k ≡ n = omega arith in
+      rw z (getD-set-same (writtenTo e n l) n _ _ (omega (arith, written-length n))))
+      (lt-or-le k n)
