@@ -292,7 +292,7 @@ module _ (t : Tables) (c : ℕ) (least : List ℕ) (A : AtCut t c least) (j : �
       unfolding queue
       bounded-open {s} {bounds} es few-stations h =
           let at : getD (set bounds s e) s 0 ≡ e
-              = getD-set-same bounds s e 0 (omega (arith, h .bounds-long)) in
+          = getD-set-same bounds s e 0 (omega (arith, h .bounds-long)) in
           record {
             bounds-long = length-set bounds s e ∙ h .bounds-long;
             no-tie = λ i k li lk q z. ⊎-elim

@@ -244,10 +244,14 @@ module _ {S C L G : ℕ} (lost : S ≡ 0 → (L ≡ G) × (1 ≤ L)) where
       → (o ≡ Win station charged) ↔ ((S ≡ station) × (C ≡ charged .0) × (1 ≤ station))
   unfolding stationOf chargeOf lossOf
   wins-as (Win s c) x y z station charged = (
-    λ e. (x ∙ ap stationOf e, y ∙ ap chargeOf e, ⊎-elim
-        (λ (l : 0 < S). omega (arith, x ∙ ap stationOf e))
-        (λ (l : S ≤ 0). absurd (omega (arith, lost (omega arith) .1)))
-        (lt-or-le 0 S)),
+    λ e. (
+      x ∙ ap stationOf e,
+      y ∙ ap chargeOf e,
+      ⊎-elim
+          (λ (l : 0 < S). omega (arith, x ∙ ap stationOf e))
+          (λ (l : S ≤ 0). absurd (omega (arith, lost (omega arith) .1)))
+          (lt-or-le 0 S),
+    ),
     λ (p, q, _). same-win (sym x ∙ p) (sym y ∙ q),
   )
   wins-as (Loss r) x y z station charged = (

@@ -155,10 +155,10 @@ module _ (rule : Rule) (t : Tables) (n : ℕ) (table : List ℕ) (e : Telling) (
   prints-explained p w =
       let v : verdict t ≡ accepted tt = sym judged ∙ ap answerOfVerdict p in
       let f : firstFault (explainedFaults t (length table) (n ∷ [])) ≡ accepted tt
-          = market-verdict t (length table) n codes outcomes ∙ v in
+      = market-verdict t (length table) n codes outcomes ∙ v in
       let guests = s .guests-are ∙ updated-accepted _ _ f in
       let lines = lines-are rule t e (s .few) guests (s .outcomes-told ∙ updated-accepted _ _ f) in
       let short = joined-end _ 89 (λ k. record-short _ _) (e .guests) w in
       let long : length (joined (e .guests) (λ k. recordLine (k + 1) (recordAt e k))) ≤ maxPage
-          = omega (arith, w .next, s .few) in
+      = omega (arith, w .next, s .few) in
       rw v (prints (rw lines at w) (rw lines at long))

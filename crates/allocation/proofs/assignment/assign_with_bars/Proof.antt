@@ -31,8 +31,7 @@ assign-requires c κs =
     let at-totals = at-gains .before .before in
     let at-rising = at-totals .before in
     let entry = entry-before-totals at-totals in
-    let most = entry .pre .0 .within .shape .guests-most in
-    (
+    let most = entry .pre .0 .within .shape .guests-most in (
       entry .pre .0,
       (
         (at-rising .rising .ensures, sym (zeros-long maxGuests _ most)),
