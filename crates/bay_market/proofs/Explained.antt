@@ -114,7 +114,8 @@ module _ (rule : ℕ) (t : Tables) (table : List ℕ) (entry : Told) (x : ℕ)
           λ y. tellings (none-left guests (laid .stations-are) y) (none-left guests (laid .charges-are) y)
           (none-left guests (laid .losses-are) y)
 
-      pub explains-out : {r : ℕ} → r ≡ numberOf (answerOfVerdict (e .reply)) → ExplainsOut rule t table entry r table′ exit
+      pub explains-out :
+          {r : ℕ} → r ≡ numberOf (answerOfVerdict (e .reply)) → ExplainsOut rule t table entry r table′ exit
       explains-out n = record {
         number-is = n ∙ ap numberOf (s .answered ∙ verdict-is);
         codes-left = s .codes-left ∙ ap (λ w. updated w _ _) verdict-is;

@@ -41,7 +41,8 @@ assign-requires c κs =
 
 returns : tie.Need-returns
 returns c =
-    let at-gains = c .before .before .before .before .before .before .before .before in
+    let at-slices = c .before .before .before .before in
+    let at-gains = at-slices .before .before .before .before in
     let at-assign = at-gains .before .before .before in
     let done = at-assign .assign .ensures in
     (done .1, done .2)

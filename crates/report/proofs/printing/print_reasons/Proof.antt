@@ -32,7 +32,9 @@ slice-aggregate-explained-under : tie.Need-slice-aggregate-explained-under
 slice-aggregate-explained-under c = zeros-long maxBids _ (fits (c .before))
 
 reasons-text-requires : tie.Need-reasons-text-requires
-reasons-text-requires c κs = let at-explained = c .before .before .before .before in at-explained .explained-under .ensures .few
+reasons-text-requires c κs =
+    let at-explained = c .before .before .before .before in
+    at-explained .explained-under .ensures .few
 
 returns : tie.Need-returns
 returns c =
