@@ -231,12 +231,13 @@ module _ (rule : ℕ) (t : Tables) (table : List ℕ) (entry : Told) (x : ℕ)
           let is = s .outcomes-told ∙ updated-accepted _ _ q in
           let (a, b, c) = all-long q in
           let (ls, lc, ll) = outcomes-long (ruleOf rule) t in
+          let o = guestOutcomes (ruleOf rule) t in
           λ y. tellings
-          (all-filled ((guestOutcomes (ruleOf rule) t) .stations) (a ∙ sym guests) (ls ∙ sym guests) (laid .stations-are)
+          (all-filled (o .stations) (a ∙ sym guests) (ls ∙ sym guests) (laid .stations-are)
           (λ k l. shows-station (ruleOf rule) t e (s .few) guests is k (omega arith)) y)
-          (all-filled ((guestOutcomes (ruleOf rule) t) .charges) (b ∙ sym guests) (lc ∙ sym guests) (laid .charges-are)
+          (all-filled (o .charges) (b ∙ sym guests) (lc ∙ sym guests) (laid .charges-are)
           (λ k l. shows-charge (ruleOf rule) t e (s .few) guests is k (omega arith)) y)
-          (all-filled ((guestOutcomes (ruleOf rule) t) .losses) (c ∙ sym guests) (ll ∙ sym guests) (laid .losses-are)
+          (all-filled (o .losses) (c ∙ sym guests) (ll ∙ sym guests) (laid .losses-are)
           (λ k l. shows-loss (ruleOf rule) t e (s .few) guests is k (omega arith)) y)
       left-by (refused k) q =
           let guests = s .guests-are ∙ updated-refused _ _ k q in

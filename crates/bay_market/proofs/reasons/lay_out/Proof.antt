@@ -20,10 +20,13 @@ abbrev μ-loop : tie.MeasureT-loop
 loop-holds : tie.Need-loop-holds Inv-loop μ-loop
 loop-holds c = laying-none
 
+abbrev entry-before-test : tie.In-loop Inv-loop μ-loop → tie.Start Inv-loop μ-loop
+entry-before-test p = p .before .before .before .before .before
+
 -- where the loop goes on, there is room in each list
 module _ (c : tie.In-loop Inv-loop μ-loop) where
   abbrev entry : tie.Start Inv-loop μ-loop
-  entry = c .before .before .before .before .before
+  entry = entry-before-test c
 
   in-stations : c .before .loop .i < length (c .before .loop .stations)
   in-stations =
@@ -45,12 +48,12 @@ narrow-requires : tie.Need-narrow-requires Inv-loop μ-loop
 narrow-requires c κs =
     let at-outcome = c .before .before in
     let at-test = at-outcome .before in
-    let e = entry at-test .args .e in
+    let entry = entry-before-test at-test in
     omega (
       arith,
       c .charge-in .ensures ∙ ap (λ (o : GuestOutcome). chargeOf (o .result)) (at-outcome .outcome-at .ensures),
-      record-low e (at-test .before .loop .i),
-      entry at-test .pre .1 (at-test .before .loop .i) (at-test .loop-test .taken),
+      record-low (entry .args .e) (at-test .before .loop .i),
+      entry .pre .1 (at-test .before .loop .i) (at-test .loop-test .taken),
     )
 
 loop-again : tie.Need-loop-again Inv-loop μ-loop
@@ -59,8 +62,8 @@ loop-again c =
     let at-station = at-narrow .before .before in
     let at-outcome = at-station .before in
     let at-test = at-outcome .before in
-    let rooms = entry at-test .pre .0 in
-    laying-turn (at-test .before .loop .inv) (at-test .loop-test .taken) (rooms .1) (rooms .2) (rooms .3)
+    let lengths = entry-before-test at-test .pre .0 in
+    laying-turn (at-test .before .loop .inv) (at-test .loop-test .taken) (lengths .1) (lengths .2) (lengths .3)
     (at-outcome .outcome-at .ensures) (at-station .station-in .ensures)
     (at-narrow .narrow .ensures ∙ at-narrow .before .charge-in .ensures) (c .loss-in .ensures)
 
