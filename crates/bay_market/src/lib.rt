@@ -1,7 +1,7 @@
 // The engine for other languages, one archive: include/bay_market.h.
 mod clear;
-mod explain;
 mod places;
 mod post;
 mod read;
+mod reasons;
 mod write;

@@ -292,12 +292,13 @@ module _ (t : Tables) (c : ℕ) (least : List ℕ) (A : AtCut t c least) (j : �
       unfolding queue
       bounded-open {s} {bounds} es few-stations h =
           let at : getD (set bounds s e) s 0 ≡ e
-              = getD-set-same bounds s e 0 (omega (arith, h .bounds-long)) in
+          = getD-set-same bounds s e 0 (omega (arith, h .bounds-long)) in
           record {
             bounds-long = length-set bounds s e ∙ h .bounds-long;
             no-tie = λ i k li lk q z. ⊎-elim
                 (λ (y : k ≡ j). rw (y, ← add-one j, ← es) (at ∙ tied .none (critical-here ∙ rw y at z)))
-                (λ (y : k ≡ j → ⊥). getD-set-other bounds s (suc k) e 0 (omega arith) ∙ h .no-tie i k li (omega arith) q z)
+                (λ (y : k ≡ j → ⊥). getD-set-other bounds s (suc k) e 0 (omega arith)
+                ∙ h .no-tie i k li (omega arith) q z)
                 (eq-or-ne k j);
             wins = λ i k li lk q. ⊎-elim
                 (λ (y : k ≡ j). rw (y, ← add-one j, ← es, at) (won-there i li (rw y at q)))

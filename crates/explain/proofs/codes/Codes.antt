@@ -110,7 +110,7 @@ module _ (t : Tables) (c : ℕ) {criticals bounds : List ℕ} (w : WithinLimits 
   unfolding bidAt
   row-ready {codes} e =
       let end : i * length (t .asks) + length (t .asks) ≤ length (t .amounts) * length (t .asks)
-          = omega (arith, mul-le-mul-right (length (t .asks)) li) in
+      = omega (arith, mul-le-mul-right (length (t .asks)) li) in
       record {
         few = w .shape .stations-most;
         bids-low = w .bid-most;

@@ -45,7 +45,8 @@ unfolding codes
 code-at rule t i j li lj = getD-joined (length (t .amounts)) (length (t .asks)) (code (market rule t)) i j li lj
 
 pub codes-tell-facts : CodesTellFacts
-codes-tell-facts rule t i j li lj = subst (CodeTells rule t i j) (sym (code-at rule t i j li lj)) (code-tells rule t i j)
+codes-tell-facts rule t i j li lj =
+    subst (CodeTells rule t i j) (sym (code-at rule t i j li lj)) (code-tells rule t i j)
 
 -- ---- the outcomes
 
@@ -237,17 +238,22 @@ pub codes-tell-facts-calls : CodesTellFactsCalls
 codes-tell-facts-calls rule t e i j li lj =
     subst (CodeTells (ruleOf rule) t i j) (sym (code-here rule t e i j li lj)) (code-tells (ruleOf rule) t i j)
 
--- an outcome beside a clearing's station S and charge C, with the loss L: where there is no station, the greatest code G
+-- an outcome beside a clearing's station S and charge C, with the loss L: where there is no station, the greatest
+-- code G
 module _ {S C L G : ℕ} (lost : S ≡ 0 → (L ≡ G) × (1 ≤ L)) where
   wins-as :
       (o : GuestResult) → S ≡ stationOf o → C ≡ chargeOf o → L ≡ lossOf o → (station : ℕ) (charged : Mills)
       → (o ≡ Win station charged) ↔ ((S ≡ station) × (C ≡ charged .0) × (1 ≤ station))
   unfolding stationOf chargeOf lossOf
   wins-as (Win s c) x y z station charged = (
-    λ e. (x ∙ ap stationOf e, y ∙ ap chargeOf e, ⊎-elim
-        (λ (l : 0 < S). omega (arith, x ∙ ap stationOf e))
-        (λ (l : S ≤ 0). absurd (omega (arith, lost (omega arith) .1)))
-        (lt-or-le 0 S)),
+    λ e. (
+      x ∙ ap stationOf e,
+      y ∙ ap chargeOf e,
+      ⊎-elim
+          (λ (l : 0 < S). omega (arith, x ∙ ap stationOf e))
+          (λ (l : S ≤ 0). absurd (omega (arith, lost (omega arith) .1)))
+          (lt-or-le 0 S),
+    ),
     λ (p, q, _). same-win (sym x ∙ p) (sym y ∙ q),
   )
   wins-as (Loss r) x y z station charged = (

@@ -56,7 +56,8 @@ module _ (rule : Rule) (t : Tables) (i j : ℕ) where
       (λ (n : (bidAt t i j =? 0) ≡ true). no-bid (eq-yes _ _ n) (rw n refl))
       (λ (n : (bidAt t i j =? 0) ≡ false). ⊎-elim
       (λ (o : opens (market rule t) j ≡ true). ⊎-elim
-      (λ (b : (bidAt t i j <? cut (market rule t)) ≡ true). below-cut (eq-no _ _ n) o (lt-yes _ _ b) (rw (n, o, b) refl))
+      (λ (b : (bidAt t i j <? cut (market rule t)) ≡ true).
+      below-cut (eq-no _ _ n) o (lt-yes _ _ b) (rw (n, o, b) refl))
       (λ (b : (bidAt t i j <? cut (market rule t)) ≡ false).
       let r = is-le _ _ (lt-no _ _ b) in
       ⊎-elim

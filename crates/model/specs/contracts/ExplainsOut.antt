@@ -1,5 +1,5 @@
--- What the exported `explain` promises: 0 or the refusal's number, the code table, and the outcome table as three lists;
--- a refusal leaves all four as they were.
+-- What the exported `explain` promises: 0 or the refusal's number, the code table, and the outcome table as three
+-- lists; a refusal leaves all four as they were.
 use Prim.Native.Nat.{ℕ}
 use mathlib.Core.List.{List, [], _∷_}
 use mathlib.Core.Path.{_≡_}

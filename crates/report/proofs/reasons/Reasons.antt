@@ -1,7 +1,7 @@
 -- The lines of guests' records, and how long they are at most.
-use Prim.Native.Nat.{ℕ, _+_, _*_, _≤_}
+use Prim.Native.Nat.{ℕ, _+_, _*_, _≤_, _<_}
 use mathlib.Core.List.{List, [], _∷_, _++_}
-use mathlib.Core.Path.{_≡_, refl, sym, ap, _∙_}
+use mathlib.Core.Path.{_≡_, refl, sym, ap, subst, _∙_}
 use native.Mathlib.Omega.{arith}
 use lib.ListN.{getD, length, length-append}
 use Rattle.model.specs.Limits.{maxGuests, maxPage}
@@ -48,7 +48,7 @@ reason-word NotOpen = omega arith
 reason-word BelowCut = omega arith
 reason-word Outbid = omega arith
 
-pub loss-short : (g : ℕ) (r : Reason) → length (lossLine g (codeOf r)) ≤ 60
+loss-short : (g : ℕ) (r : Reason) → length (lossLine g (codeOf r)) ≤ 60
 unfolding lossLine
 loss-short g r =
     omega (
@@ -75,7 +75,7 @@ win-short g s c =
 
 -- ---- records
 
-pub win-is : (g s : ℕ) (c : Mills) → recordLine g (record { result = Win s c }) ≡ winLine g s (c .0)
+win-is : (g s : ℕ) (c : Mills) → recordLine g (record { result = Win s c }) ≡ winLine g s (c .0)
 unfolding recordLine outcomeLine stationOf chargeOf lossOf _=?_
 win-is g s c = refl
 
@@ -86,9 +86,24 @@ loss-line g NotOpen = refl
 loss-line g BelowCut = refl
 loss-line g Outbid = refl
 
-pub loss-is : (g : ℕ) (r : Reason) → recordLine g (record { result = Loss r }) ≡ lossLine g (codeOf r)
+loss-is : (g : ℕ) (r : Reason) → recordLine g (record { result = Loss r }) ≡ lossLine g (codeOf r)
 unfolding recordLine stationOf chargeOf lossOf
 loss-is g r = loss-line g r
+
+-- the line of a record, by its case
+pub wrote-win :
+    {l l′ : List ℕ} {p q s : ℕ} {c : Mills} (g : ℕ) (o : GuestOutcome) → o .result ≡ Win s c
+    → Wrote l p (winLine g s (c .0)) l′ q → Wrote l p (recordLine g o) l′ q
+wrote-win {l} {l′} {p} {q} {s} {c} g o e w =
+    subst (λ t. Wrote l p t l′ q)
+    (sym (win-is g s c) ∙ ap (λ (r : GuestResult). recordLine g (record { result = r })) (sym e)) w
+
+pub wrote-loss :
+    {l l′ : List ℕ} {p q : ℕ} {r : Reason} (g : ℕ) (o : GuestOutcome) → o .result ≡ Loss r
+    → Wrote l p (lossLine g (codeOf r)) l′ q → Wrote l p (recordLine g o) l′ q
+wrote-loss {l} {l′} {p} {q} {r} g o e w =
+    subst (λ t. Wrote l p t l′ q)
+    (sym (loss-is g r) ∙ ap (λ (x : GuestResult). recordLine g (record { result = x })) (sym e)) w
 
 pub record-short : (g : ℕ) (o : GuestOutcome) → length (recordLine g o) ≤ 89
 record-short g o = go (o .result)
@@ -101,14 +116,24 @@ record-short g o = go (o .result)
 
 module _ (rule : Rule) (t : Tables) (e : Telling) (few : e .guests ≤ maxGuests)
     (guests : e .guests ≡ length (t .amounts)) (is : toldBy e ≡ guestOutcomes rule t) where
+  line-is :
+      (k : ℕ) → k < length (t .amounts)
+      → recordLine (k + 1) (recordAt e k)
+      ≡ outcomeLine (k + 1) (getD ((guestOutcomes rule t) .stations) k 0)
+      (getD ((guestOutcomes rule t) .charges) k 0) (getD ((guestOutcomes rule t) .losses) k 0)
+  unfolding recordLine
+  line-is k l = λ x. outcomeLine (k + 1) (shows-station rule t e few guests is k l x)
+      (shows-charge rule t e few guests is k l x) (shows-loss rule t e few guests is k l x)
+
   lines-are :
       joined (e .guests) (λ k. recordLine (k + 1) (recordAt e k)) ≡ reasonsText (guestOutcomes rule t)
-  unfolding reasonsText outcomeLines recordLine
-  lines-are = rw (outcomes-long rule t .0, guests) (joined-cong (length (t .amounts)) _ _ (λ k l.
-      λ x. outcomeLine (k + 1) (shows-station rule t e few guests is k l x) (shows-charge rule t e few guests is k l x)
-      (shows-loss rule t e few guests is k l x)))
+  unfolding reasonsText outcomeLines
+  lines-are =
+      ap (λ n. joined n (λ k. recordLine (k + 1) (recordAt e k))) guests
+      ∙ joined-cong (length (t .amounts)) _ _ (λ k l. line-is k l)
+      ∙ ap (outcomeLines (guestOutcomes rule t)) (sym (outcomes-long rule t .0))
 
-module _ {rule : Rule} {t : Tables} {n : ℕ} {table : List ℕ} {e : Telling} {table′ : List ℕ}
+module _ (rule : Rule) (t : Tables) (n : ℕ) (table : List ℕ) (e : Telling) (table′ : List ℕ)
     (codes : length table ≡ length (t .amounts) * length (t .asks)) (outcomes : n ≡ length (t .amounts))
     (s : ExplainedUnder rule t n table e table′) where
   judged : answerOfVerdict (e .reply) ≡ verdict t
@@ -130,10 +155,10 @@ module _ {rule : Rule} {t : Tables} {n : ℕ} {table : List ℕ} {e : Telling} {
   prints-explained p w =
       let v : verdict t ≡ accepted tt = sym judged ∙ ap answerOfVerdict p in
       let f : firstFault (explainedFaults t (length table) (n ∷ [])) ≡ accepted tt
-          = market-verdict t (length table) n codes outcomes ∙ v in
+      = market-verdict t (length table) n codes outcomes ∙ v in
       let guests = s .guests-are ∙ updated-accepted _ _ f in
       let lines = lines-are rule t e (s .few) guests (s .outcomes-told ∙ updated-accepted _ _ f) in
       let short = joined-end _ 89 (λ k. record-short _ _) (e .guests) w in
       let long : length (joined (e .guests) (λ k. recordLine (k + 1) (recordAt e k))) ≤ maxPage
-          = omega (arith, w .next, s .few) in
+      = omega (arith, w .next, s .few) in
       rw v (prints (rw lines at w) (rw lines at long))

@@ -11,8 +11,8 @@ use Rattle.allocation.proofs.assignment.all_stations.Statement.{stateme
 use Rattle.allocation.proofs.assignment.all_stations.Tie as tie
 
 abbrev Inv-loop : tie.InvT-loop
-Inv-loop asks bays amounts tickets bids rising cut least totals₀ chosen₀ gains₀ criticals₀ bounds₀ j₀ totals chosen gains
-    criticals bounds j =
+Inv-loop asks bays amounts tickets bids rising cut least totals₀ chosen₀ gains₀ criticals₀ bounds₀ j₀ totals chosen
+    gains criticals bounds j =
     Turning (regular asks bays amounts tickets bids) (cut .0) j totals₀ totals chosen gains criticals
     × BoundedIn (regular asks bays amounts tickets bids) (cut .0) j bounds
 
@@ -83,7 +83,8 @@ same-length-3 c =
 same-length-4 : tie.Need-same-length-4 Inv-loop μ-loop
 same-length-4 c =
     let entry = entry-before-loop (c .before) in
-    long _ _ (c .before .loop .inv .0 .turned .after .criticals-are) ∙ sym (long _ _ (entry .pre .1 .1 .0 .criticals-are))
+    let after = c .before .loop .inv .0 .turned .after in
+    long _ _ (after .criticals-are) ∙ sym (long _ _ (entry .pre .1 .1 .0 .criticals-are))
 
 same-length-5 : tie.Need-same-length-5 Inv-loop μ-loop
 same-length-5 c =

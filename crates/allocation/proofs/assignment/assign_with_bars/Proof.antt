@@ -31,8 +31,7 @@ assign-requires c κs =
     let at-totals = at-gains .before .before in
     let at-rising = at-totals .before in
     let entry = entry-before-totals at-totals in
-    let most = entry .pre .0 .within .shape .guests-most in
-    (
+    let most = entry .pre .0 .within .shape .guests-most in (
       entry .pre .0,
       (
         (at-rising .rising .ensures, sym (zeros-long maxGuests _ most)),
@@ -42,7 +41,8 @@ assign-requires c κs =
 
 returns : tie.Need-returns
 returns c =
-    let at-gains = c .before .before .before .before .before .before .before .before in
+    let at-slices = c .before .before .before .before in
+    let at-gains = at-slices .before .before .before .before in
     let at-assign = at-gains .before .before .before in
     let done = at-assign .assign .ensures in
     (done .1, done .2)

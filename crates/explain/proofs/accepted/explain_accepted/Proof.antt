@@ -13,7 +13,8 @@ entry-before-least p = p .before .before .before .before .before .before .before
 
 abbrev entry-before-call : tie.After-explain-with-room-arg4 → tie.Start
 entry-before-call p =
-    p .before .before .before .before .before .before .before .before .before .before .before .before .before .before .before .before
+    p .before .before .before .before .before .before .before .before .before .before .before .before
+    .before .before .before .before
 
 array-borrow-prefix-least : tie.Need-array-borrow-prefix-least
 array-borrow-prefix-least c = omega (arith, entry-before-least c .pre .0 .shape .guests-most)

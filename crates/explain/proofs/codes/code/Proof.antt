@@ -10,12 +10,6 @@ use Rattle.explain.proofs.codes.Codes.{code-no-bid, code-not-open, code
 use Rattle.explain.proofs.codes.code.Statement.{statement}
 use Rattle.explain.proofs.codes.code.Tie as tie
 
--- the station is open; the bid is at least the cut
-open-station : (c : tie.Else2) →
-    let entry = c .before .before .before .before in
-    entry .args .ask .0 < entry .args .cut .0
-open-station c = lt-yes _ _ (sym (c .before .below .ensures) ∙ not-false _ (c .if2 .left))
-
 returns : tie.Need-returns
 returns c = code-no-bid _ _ _ _ (c .if1 .taken)
 
@@ -24,12 +18,19 @@ returns-2 c =
     code-not-open _ (c .before .before .if1 .left)
     (lt-no _ _ (sym (c .before .below .ensures) ∙ not-true _ (c .if2 .taken)))
 
+-- the station is open
+open-station : (c : tie.Else2) →
+    let entry = c .before .before .before .before in
+    entry .args .ask .0 < entry .args .cut .0
+open-station c = lt-yes _ _ (sym (c .before .below .ensures) ∙ not-false _ (c .if2 .left))
+
 returns-3 : tie.Need-returns-3
 returns-3 c =
     let past-open = c .before .before in
     code-below-cut _ (past-open .before .before .if1 .left) (open-station past-open)
     (lt-yes _ _ (sym (c .before .below2 .ensures) ∙ c .if3 .taken))
 
+-- the bid is at least the cut
 reaches-cut : (c : tie.Else3) →
     let past-open = c .before .before in
     let entry = past-open .before .before .before .before in

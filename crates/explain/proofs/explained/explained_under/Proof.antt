@@ -63,7 +63,8 @@ returns c =
 returns-2 : tie.Need-returns-2
 returns-2 c =
     let at-accepted = accepted-before-end c in
-    let at-told = at-accepted .before .before .before .before .before in
+    let at-call = at-accepted .before .before .before .before in
+    let at-told = at-call .before in
     accepted-explained _ _ _ _ _ _ _ _ _
     (told (at-told .enum-told .given .1) (at-told .before .before .explaining-fault .ensures))
     (at-accepted .explain-accepted .ensures) refl refl refl refl refl

@@ -21,6 +21,13 @@ returns-2 c =
 returns-3 : tie.Need-returns-3
 unfolding pageOf
 returns-3 c =
+    let at-print-reasons = c .before .before in
+    let at-asked = at-print-reasons .before .before .before in
+    rw (at-asked .asked3 .given .1) (at-print-reasons .print-reasons .ensures)
+
+returns-4 : tie.Need-returns-4
+unfolding pageOf
+returns-4 c =
     let at-print-sheet = c .before .before in
     let at-asked = at-print-sheet .before .before in
     rw (at-asked .enum-told .given .1) (at-print-sheet .print-sheet .ensures)
@@ -28,5 +35,5 @@ returns-3 c =
 pub print-market-spec : {M : Type 1} → statement M
 print-market-spec =
     tie.close (tie.spec (λ c. search needs) (λ c κs. search needs) (λ c. search needs) (λ c κs. search needs)
-    (λ c. search needs) (λ c κs. search needs) (λ c. search needs) returns (λ c. search needs) returns-2
-    (λ c. search needs) returns-3)
+    (λ c. search needs) (λ c κs. search needs) (λ c. search needs) (λ c κs. search needs) (λ c. search needs) returns
+    (λ c. search needs) returns-2 (λ c. search needs) returns-3 (λ c. search needs) returns-4)

@@ -3,11 +3,11 @@ use crate::post;
 use explain::explained;
 use explain::explained::Telling;
 use explain::outcomes;
-ghost use Prim.Native.Nat.{_≤_};
+ghost use Prim.Native.Nat.{ℕ, _<_, _≤_, _^_};
 ghost use mathlib.Core.Bool.{not};
 ghost use mathlib.Core.List.{[], _∷_};
 ghost use mathlib.Core.Path.{_≡_};
-ghost use lib.ListN.{length};
+ghost use lib.ListN.{length, getD};
 ghost use Rattle.model.specs.Limits.{maxGuests};
 ghost use Rattle.model.specs.Counting.{_=?_, any};
 ghost use Rattle.model.specs.contracts.ExplainsOut.{ExplainsOut};
@@ -28,6 +28,7 @@ fn table_length(n: usize, stations: usize, charges: usize, reasons: usize) -> us
 fn lay_out(e: Telling, stations: &mut [u16], charges: &mut [u32], reasons: &mut [u8])
     requires { ⌜ (e .guests ≤ maxGuests) × (e .guests ≤ length (now stations))
         × (e .guests ≤ length (now charges)) × (e .guests ≤ length (now reasons)) ⌝ }
+    requires { ⌜ ((k : ℕ) → k < e .guests → getD (e .charges) k 0 < 2 ^ 32) ⌝ }
     ensures { λ _. ⌜ LaidOut e (tellingsIn stations charges reasons) (tellingsOut stations charges reasons) ⌝ }
 {
     let n = e.guests;
