@@ -39,7 +39,7 @@ use Rattle.pricing.specs.CutAsk.{cutAsk}
 use Rattle.pricing.proofs.cut.CutAsk.{cut-is}
 use Rattle.allocation.specs.Assignment.{Assigned}
 use Rattle.allocation.specs.Screens.{screenedAt}
-use Rattle.explain.specs.Codes.{codeAt, CodesAtCut}
+use Rattle.explain.specs.Codes.{CodesAtCut}
 use Rattle.explain.specs.Explained.{ExplainsAccepted, refusing, toldBy, ExplainedAs, ExplainedUnder, ExplainedBy}
 use Rattle.explain.specs.declared.explained.Telling.{Telling}
 use Rattle.explain.specs.Outcomes.{recordOf, mills, recordAt, writtenTo}

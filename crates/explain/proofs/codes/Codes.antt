@@ -16,12 +16,11 @@ use Rattle.model.specs.market.Market.{Tables, bidAt, marketBy, market, cut, ope
 use Rattle.model.specs.market.Reasons.{reasons, code}
 use Rattle.model.specs.claims.Meaning.{WithinLimits}
 use Rattle.model.specs.declared.rule.Rule.{Rule}
-use Rattle.model.proofs.Tests.{both, lt-yes, lt-no, is-lt, not-lt, is-le, not-le, not-eq, lt-or-le}
+use Rattle.model.proofs.Tests.{both, is-lt, not-lt, is-le, not-eq, lt-or-le}
 use Rattle.model.proofs.Counting.{greatest-cong, length-list, getD-list, list-cong}
-use Rattle.model.proofs.Loops.{Filling, filling-none, filling-turn, filling-end, in-table}
+use Rattle.model.proofs.Loops.{Filling, filling-none, filling-turn, filling-end}
 use Rattle.model.proofs.market.Acceptance.{product-fits}
 use Rattle.model.proofs.sheet.Joined.{joined-length, paste-next}
-use Rattle.allocation.specs.Offers.{wonBy}
 use Rattle.allocation.specs.Screens.{screenedAt}
 use Rattle.allocation.specs.Stages.{Bars}
 use Rattle.explain.specs.Codes.{codeBy, codeAt, rowCode, RowReady, CodesAtCut}

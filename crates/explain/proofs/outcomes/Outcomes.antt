@@ -1,21 +1,20 @@
 -- Laws of guests' records, and of a row of them.
 use Prim.Native.Nat.{ℕ, zero, suc, _+_, _≤_, _<_}
-use mathlib.Core.Bool.{cond}
 use mathlib.Core.List.{List}
 use mathlib.Core.Logic.{⊎-elim}
-use mathlib.Core.Path.{_≡_, refl, sym, ap, ap₂, _∙_}
+use mathlib.Core.Path.{_≡_, refl, sym, ap, _∙_}
 use native.Mathlib.Numerals.{add-one}
 use native.Mathlib.Omega.{arith}
 use lib.ListN.{getD, length, set, length-set}
 use lib.Seq.{getD-set-same, getD-set-other}
 use Rattle.model.specs.Limits.{maxGuests}
-use Rattle.model.specs.Counting.{_<?_, _=?_, only}
-use Rattle.model.specs.Numbers.{codeOf, stationOf, chargeOf, lossOf}
+use Rattle.model.specs.Counting.{_=?_, only}
+use Rattle.model.specs.Numbers.{stationOf, chargeOf, lossOf}
 use Rattle.model.specs.declared.money.Mills.{Mills}
 use Rattle.model.specs.declared.reason.Reason.the-variants.{NoBid, NotOpen, BelowCut, Outbid}
 use Rattle.model.specs.declared.reason.GuestResult.the-variants.{Win, Loss}
 use Rattle.model.specs.declared.reason.GuestOutcome.{GuestOutcome}
-use Rattle.model.proofs.Tests.{is-eq, not-eq, eq-or-ne, is-lt, not-lt, lt-or-le, only-yes, only-no}
+use Rattle.model.proofs.Tests.{is-eq, not-eq, eq-or-ne, is-lt, not-lt, lt-or-le}
 use Rattle.explain.specs.Outcomes.{reasonOf, recordOf, mills, recordAt, writtenTo}
 use Rattle.explain.specs.declared.explained.Telling.{Telling}
 

@@ -7,7 +7,6 @@ use lib.ListN.{getD}
 use lib.Signed.{_≤ℤ_}
 use Rattle.model.specs.Counting.{sum}
 use Rattle.model.specs.market.Market.{bidAt, market}
-use Rattle.model.specs.market.Rules.{position}
 use Rattle.model.specs.declared.rule.Rule.the-variants.{Median}
 use Rattle.model.specs.market.Mechanism.{charged, paid, margin}
 use Rattle.model.specs.market.Outcome.{screened, decision, efficientDecision}

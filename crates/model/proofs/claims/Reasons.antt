@@ -1,6 +1,6 @@
 -- Request 7, proved: of tables, and of calls of `explain` and `clear`.
 use Prim.Native.Nat.{ℕ, zero, suc, _+_, _*_, _≤_, _<_}
-use mathlib.Core.Bool.{true, false, not}
+use mathlib.Core.Bool.{false, not}
 use mathlib.Core.List.{List, [], _∷_}
 use mathlib.Core.Logic.{_↔_, ⊎-elim}
 use mathlib.Core.Path.{_≡_, refl, sym, ap, subst, _∙_}
@@ -20,7 +20,7 @@ use Rattle.model.specs.market.Rules.{ruleOf}
 use Rattle.model.specs.claims.Calls.{ClearedCall}
 use Rattle.model.specs.claims.Reasons.{CodeTells, CodesTellFacts, OutcomesTellWinsAndLosses, ToldDetermines}
 use Rattle.model.specs.claims.Reasons.{ExplainingWithinLimits, ExplainingAcceptedIffWithinLimits, ExplainedCall}
-use Rattle.model.specs.claims.Reasons.{codeIn, outcomeIn, CodesTellFactsCalls, TellsClearing, ExplainTellsClear}
+use Rattle.model.specs.claims.Reasons.{codeIn, outcomeIn, CodesTellFactsCalls, ExplainTellsClear}
 use Rattle.model.specs.contracts.Explains.{explainingVerdict}
 use Rattle.model.specs.declared.money.Mills.{Mills}
 use Rattle.model.specs.declared.rule.Rule.{Rule}

@@ -1,10 +1,10 @@
 -- Laws of codes and outcomes: each code with its fact.
-use Prim.Native.Nat.{ℕ, zero, suc, _≤_, _<_}
-use mathlib.Core.Bool.{Bool, true, false, not}
+use Prim.Native.Nat.{ℕ, zero, _≤_, _<_}
+use mathlib.Core.Bool.{true, false, not}
 use mathlib.Core.Logic.{⊎-elim}
-use mathlib.Core.Path.{_≡_, refl, sym, ap, _∙_}
+use mathlib.Core.Path.{_≡_, refl}
 use native.Mathlib.Omega.{arith}
-use lib.ListN.{getD, length}
+use lib.ListN.{length}
 use Rattle.model.specs.Counting.{_<?_, _=?_, _and_, only, greatest}
 use Rattle.model.specs.Verdicts.{firstFault, numberOf}
 use Rattle.model.specs.market.Market.{Tables, bidAt, marketBy, market, cut, opens, screen, queue, provisional}

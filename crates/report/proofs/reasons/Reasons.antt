@@ -13,7 +13,7 @@ use Rattle.model.specs.market.Faults.{verdict, explainedFaults}
 use Rattle.model.specs.market.Reasons.{guestOutcomes}
 use Rattle.model.specs.text.Decimal.{field}
 use Rattle.model.specs.text.Lines.{guestWord, chargeWord, lineEnd}
-use Rattle.model.specs.text.ReasonsText.{winsWord, losesWord, noBidWord, notOpenWord, belowCutWord, outbidWord}
+use Rattle.model.specs.text.ReasonsText.{winsWord, losesWord}
 use Rattle.model.specs.text.ReasonsText.{reasonWord, winLine, lossLine, outcomeLine, outcomeLines, reasonsText}
 use Rattle.model.specs.text.Text.{refusalText}
 use Rattle.model.specs.text.MarketText.{reasonsPage, reasonsPageOf}

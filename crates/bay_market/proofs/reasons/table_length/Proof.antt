@@ -1,5 +1,4 @@
 use native.Mathlib.Omega.{arith}
-use borrow.Author.Needs.{needs}
 use Rattle.bay_market.proofs.Explained.{table-fits, table-differs}
 use Rattle.bay_market.proofs.reasons.table_length.Statement.{statement}
 use Rattle.bay_market.proofs.reasons.table_length.Tie as tie

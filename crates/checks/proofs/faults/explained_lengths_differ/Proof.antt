@@ -1,6 +1,6 @@
 use native.Mathlib.Omega.{arith}
 use borrow.Author.Needs.{needs}
-use lib.ListN.{getD, length}
+use lib.ListN.{length}
 use Rattle.model.specs.Counting.{_=?_, _or_, some, any}
 use Rattle.model.proofs.market.Acceptance.{product-fits}
 use Rattle.checks.proofs.faults.explained_lengths_differ.Statement.{statement}

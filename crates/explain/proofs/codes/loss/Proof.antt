@@ -1,6 +1,4 @@
-use native.Mathlib.Omega.{arith}
-use borrow.Author.Needs.{needs}
-use Rattle.model.specs.Counting.{_=?_, only}
+use Rattle.model.specs.Counting.{only}
 use Rattle.model.proofs.Tests.{only-yes, only-no, is-eq, not-eq}
 use mathlib.Core.Path.{sym}
 use Rattle.explain.proofs.codes.loss.Statement.{statement}

@@ -1,4 +1,3 @@
-use borrow.Author.Needs.{needs}
 use Rattle.explain.proofs.outcomes.Outcomes.{reason-1, reason-2, reason-3, reason-4}
 use Rattle.explain.proofs.outcomes.reason.Statement.{statement}
 use Rattle.explain.proofs.outcomes.reason.Tie as tie

@@ -1,6 +1,5 @@
 use borrow.Author.Needs.{needs}
 use Rattle.model.specs.Counting.{_=?_}
-use Rattle.model.specs.Numbers.{codeOf}
 use Rattle.model.specs.text.ReasonsText.{reasonWord}
 use Rattle.report.proofs.reasons.put_reason.Statement.{statement}
 use Rattle.report.proofs.reasons.put_reason.Tie as tie
