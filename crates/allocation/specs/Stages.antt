@@ -66,8 +66,6 @@ pub record Turned (t : Tables) (c j : ℕ) (totals₀ totals chosen gains critic
 -- wins by the critical total and that bound
 pub record Bounded (S : Screened) (n j : ℕ) (bounds : List ℕ) : Type 0 where
   pub bounds-long : length bounds ≡ maxStations + 1
-  pub no-tie :
-      (i k : ℕ) → i < n → k < j → S .candidate i k ≡ true → critical (queue S k) ≡ 0 → getD bounds (suc k) 0 ≡ 0
   pub wins :
       (i k : ℕ) → i < n → k < j → S .candidate i k ≡ true
       → wonBy (S .total i k) (critical (queue S k)) (S .key i) (getD bounds (suc k) 0) ≡ provisional (queue S k) i

@@ -21,7 +21,7 @@ fn bar(critical: Mills, ticket: u32, bound: u32) -> Mills
 }
 
 // Whether a guest of this total and ticket wins a place: above the critical total, or at it and below the bound.
-pub fn wins(total: Mills, critical: Mills, ticket: u32, bound: u32) -> bool
+fn wins(total: Mills, critical: Mills, ticket: u32, bound: u32) -> bool
     requires { ⌜ (critical .0 ≡ 0 → bound ≡ 0) ⌝ }
     requires { ⌜ (total .0 ≤ maxTotal) × (critical .0 ≤ maxTotal) ⌝ }
     ensures { λ r. ⌜ r ≡ wonBy (total .0) (critical .0) ticket bound ⌝ }

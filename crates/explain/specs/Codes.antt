@@ -34,9 +34,6 @@ pub record RowReady (asks bids : List ℕ) (amount cut : ℕ) (criticals bounds 
   pub criticals-long : length criticals ≡ maxStations + 1
   pub bounds-long : length bounds ≡ maxStations + 1
   pub criticals-low : (j : ℕ) → j < length asks → getD criticals (j + 1) 0 ≤ maxTotal
-  pub no-tie :
-      (j : ℕ) → j < length asks → getD asks j 0 < cut → cut ≤ getD bids (base + j) 0 → getD criticals (j + 1) 0 ≡ 0
-      → getD bounds (j + 1) 0 ≡ 0
   pub bids-room : base + length asks ≤ length bids
   pub codes-room : base + length asks ≤ length codes
 

@@ -1,13 +1,14 @@
 // The code of each guest and station, row after row, and each guest's loss.
-use allocation::offers;
+use allocation::signed;
 use model::money::Mills;
 use model::money::UnitPrice;
 ghost use Prim.Native.Nat.{_+_, _*_, _<_, _≤_, max};
+ghost use mathlib.Core.Bool.{cond};
 ghost use mathlib.Core.Path.{_≡_};
 ghost use lib.ListN.{length};
 ghost use lib.Seq.{paste};
 ghost use Rattle.model.specs.Limits.{maxPrice, maxAmount};
-ghost use Rattle.model.specs.Counting.{_=?_, only, greatest, list};
+ghost use Rattle.model.specs.Counting.{_<?_, _=?_, only, greatest, list};
 ghost use Rattle.model.specs.contracts.Lent.{regularOf, regularIn};
 ghost use Rattle.model.specs.claims.Meaning.{WithinLimits};
 ghost use Rattle.allocation.specs.Offers.{wonBy};
@@ -15,8 +16,40 @@ ghost use Rattle.allocation.specs.Stages.{Bars};
 ghost use Rattle.allocation.specs.Totals.{maxTotal};
 ghost use Rattle.explain.specs.Codes.{codeBy, rowCode, RowReady, CodesAtCut};
 
-// The code of a bid: the first of 1 to 4 that applies, or 0. A candidate holds a place where it wins by the critical
-// total and the tie bound of the station.
+// A total with one mill more where the ticket is below the bound.
+fn credited(total: Mills, ticket: u32, bound: u32) -> Mills
+    requires { ⌜ total .0 ≤ maxTotal ⌝ }
+    ensures { λ r. ⌜ r .0 ≡ total .0 + only (ticket <? bound) 1 ⌝ }
+{
+    if ticket < bound {
+        total.plus(Mills(1))
+    } else {
+        total
+    }
+}
+
+// Whether a candidate of this total and ticket holds a place, by the critical total and the tie bound of the station.
+fn holds(total: Mills, critical: Mills, ticket: u32, bound: u32) -> bool
+    requires { ⌜ (total .0 ≤ maxTotal) × (critical .0 ≤ maxTotal) ⌝ }
+    ensures { λ r. ⌜ r ≡ wonBy (total .0) (critical .0) ticket bound ⌝ }
+{
+    signed::below_small(critical, credited(total, ticket, bound))
+}
+
+fn no_bid(bid: UnitPrice) -> bool
+    ensures { λ r. ⌜ r ≡ (bid .0 =? 0) ⌝ }
+{
+    bid.0 == 0
+}
+
+fn choose(test: bool, a: u8, b: u8) -> u8
+    ensures { λ r. ⌜ r ≡ cond test a b ⌝ }
+{
+    if test { a } else { b }
+}
+
+// The code of a bid: the first of 1 to 4 that applies, or 0. No branch: who is a candidate and who wins cannot be
+// foreseen.
 fn code(
     bid: UnitPrice,
     amount: u16,
@@ -27,22 +60,17 @@ fn code(
     bound: u32,
 ) -> u8
     requires { ⌜ (bid .0 ≤ maxPrice) × (amount ≤ maxAmount) × (critical .0 ≤ maxTotal) ⌝ }
-    requires { ⌜ (ask .0 < cut .0 → cut .0 ≤ bid .0 → critical .0 ≡ 0 → bound ≡ 0) ⌝ }
     ensures { λ r. ⌜ r ≡ codeBy (bid .0) (ask .0) (cut .0) (wonBy (bid .0 * amount) (critical .0) ticket bound) ⌝ }
 {
-    if bid.0 == 0 {
-        return 1;
-    }
-    if !ask.below(cut) {
-        return 2;
-    }
-    if bid.below(cut) {
-        return 3;
-    }
-    if offers::wins(bid.times(amount as u32), critical, ticket, bound) {
-        return 0;
-    }
-    4
+    let total = bid.times(amount as u32);
+    let held = holds(total, critical, ticket, bound);
+    let of_candidate = choose(held, 0, 4);
+    let below = bid.below(cut);
+    let where_open = choose(below, 3, of_candidate);
+    let open = ask.below(cut);
+    let of_bid = choose(open, where_open, 2);
+    let none = no_bid(bid);
+    choose(none, 1, of_bid)
 }
 
 fn higher(a: u8, b: u8) -> u8

@@ -66,7 +66,6 @@ bounded-end h b x = rw (le-antisymm b (h .within)) x
 pub bounded-none : {S : Screened} {n : ℕ} {bounds : List ℕ} → length bounds ≡ maxStations + 1 → Bounded S n 0 bounds
 bounded-none e = record {
   bounds-long = e;
-  no-tie = λ i k li lk. absurd (omega arith);
   wins = λ i k li lk. absurd (omega arith);
 }
 

@@ -186,10 +186,6 @@ module _ (t : Tables) (c j : ℕ) (h : c ≤ getD (t .asks) j 0) where
   unfolding screenedAt
   bounded-closed n b = record {
     bounds-long = b .bounds-long;
-    no-tie = λ i k li lk q. ⊎-elim
-        (λ (z : k ≡ j). absurd (clash q (rw z (and-no _ _ (not-lt _ _ h)))))
-        (λ (z : k ≡ j → ⊥). b .no-tie i k li (omega arith) q)
-        (eq-or-ne k j);
     wins = λ i k li lk q. ⊎-elim
         (λ (z : k ≡ j). absurd (clash q (rw z (and-no _ _ (not-lt _ _ h)))))
         (λ (z : k ≡ j → ⊥). b .wins i k li (omega arith) q)
@@ -295,11 +291,6 @@ module _ (t : Tables) (c : ℕ) (least : List ℕ) (A : AtCut t c least) (j : �
           = getD-set-same bounds s e 0 (omega (arith, h .bounds-long)) in
           record {
             bounds-long = length-set bounds s e ∙ h .bounds-long;
-            no-tie = λ i k li lk q z. ⊎-elim
-                (λ (y : k ≡ j). rw (y, ← add-one j, ← es) (at ∙ tied .none (critical-here ∙ rw y at z)))
-                (λ (y : k ≡ j → ⊥). getD-set-other bounds s (suc k) e 0 (omega arith)
-                ∙ h .no-tie i k li (omega arith) q z)
-                (eq-or-ne k j);
             wins = λ i k li lk q. ⊎-elim
                 (λ (y : k ≡ j). rw (y, ← add-one j, ← es, at) (won-there i li (rw y at q)))
                 (λ (y : k ≡ j → ⊥). rw (getD-set-other bounds s (suc k) e 0 (omega arith))

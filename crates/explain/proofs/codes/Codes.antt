@@ -10,44 +10,63 @@ use native.Mathlib.Omega.{arith}
 use lib.ListN.{getD, length, set, drop, length-append, length-drop}
 use lib.Seq.{paste, paste-zero, paste-suc, length-paste, drop-length}
 use Rattle.model.specs.Limits.{maxGuests, maxStations}
-use Rattle.model.specs.Counting.{_<?_, _≤?_, _=?_, _and_, only, greatest, list, joined}
+use Rattle.model.specs.Counting.{_<?_, _≤?_, _=?_, _and_, _or_, only, greatest, list, joined}
 use Rattle.model.specs.Verdicts.{_gives_, firstFault, numberOf}
 use Rattle.model.specs.market.Market.{Tables, bidAt, marketBy, market, cut, opens, screen, queue, provisional}
 use Rattle.model.specs.market.Reasons.{reasons, code}
 use Rattle.model.specs.claims.Meaning.{WithinLimits}
 use Rattle.model.specs.declared.rule.Rule.{Rule}
-use Rattle.model.proofs.Tests.{both, is-lt, not-lt, is-le, not-eq, lt-or-le}
+use Rattle.model.proofs.Tests.{both, and-no, or-left, or-right, neither, is-lt, not-lt, is-le, is-eq, not-eq, lt-or-le}
+use Rattle.model.proofs.Tests.{eq-or-ne, only-yes, only-no, only-le}
 use Rattle.model.proofs.Counting.{greatest-cong, length-list, getD-list, list-cong}
 use Rattle.model.proofs.Loops.{Filling, filling-none, filling-turn, filling-end}
 use Rattle.model.proofs.market.Acceptance.{product-fits}
 use Rattle.model.proofs.sheet.Joined.{joined-length, paste-next}
+use Rattle.allocation.specs.Offers.{wonBy}
 use Rattle.allocation.specs.Screens.{screenedAt}
 use Rattle.allocation.specs.Stages.{Bars}
 use Rattle.explain.specs.Codes.{codeBy, codeAt, rowCode, RowReady, CodesAtCut}
 
 -- ---- the code of a bid
 
-pub code-no-bid : (bid ask c : ℕ) (won : Bool) → bid ≡ 0 → 1 ≡ codeBy bid ask c won
-unfolding codeBy _=?_
-code-no-bid bid ask c won e = rw e refl
+-- one mill more for whoever is below the bound: above the critical total, or at it and below the bound
+and-false : (a : Bool) → (a and false) ≡ false
+unfolding _and_
+and-false true = refl
+and-false false = refl
 
-pub code-not-open : {bid ask c : ℕ} (won : Bool) → (bid ≡ 0 → ⊥) → c ≤ ask → 2 ≡ codeBy bid ask c won
-unfolding codeBy
-code-not-open {bid} {ask} {c} won n h = rw (not-eq bid 0 n, not-lt ask c h) refl
+above-credited : (x t k e : ℕ) → (t <? x + only (k <? e) 1) ≡ wonBy x t k e
+unfolding wonBy
+above-credited x t k e = ⊎-elim
+    (λ (p : t < x). is-lt _ _ (omega arith) ∙ sym (or-left _ _ (is-lt t x p)))
+    (λ (p : x ≤ t). ⊎-elim
+    (λ (q : x ≡ t). ⊎-elim
+    (λ (l : k < e). is-lt _ _ (omega (arith, only-yes _ 1 (is-lt k e l)))
+    ∙ sym (or-right _ _ (both (is-eq x t q) (is-lt k e l))))
+    (λ (l : e ≤ k). not-lt _ _ (omega (arith, only-no _ 1 (not-lt k e l)))
+    ∙ sym (neither (not-lt t x p) (ap (λ b. x =? t and b) (not-lt k e l) ∙ and-false (x =? t))))
+    (lt-or-le k e))
+    (λ (q : x ≡ t → ⊥). not-lt _ _ (omega (arith, only-le (k <? e) 1 1 (λ _. omega arith)))
+    ∙ sym (neither (not-lt t x p) (and-no _ _ (not-eq x t q))))
+    (eq-or-ne x t))
+    (lt-or-le t x)
 
-pub code-below-cut : {bid ask c : ℕ} (won : Bool) → (bid ≡ 0 → ⊥) → ask < c → bid < c → 3 ≡ codeBy bid ask c won
-unfolding codeBy
-code-below-cut {bid} {ask} {c} won n h l = rw (not-eq bid 0 n, is-lt ask c h, is-lt bid c l) refl
+pub held-is :
+    (x t k e : ℕ) {credited : ℕ} {held : Bool} → credited ≡ x + only (k <? e) 1 → held ≡ (t <? credited)
+    → held ≡ wonBy x t k e
+held-is x t k e c h = h ∙ ap (λ y. t <? y) c ∙ above-credited x t k e
 
-pub code-held :
-    {bid ask c : ℕ} (won : Bool) → (bid ≡ 0 → ⊥) → ask < c → c ≤ bid → won ≡ true → 0 ≡ codeBy bid ask c won
+-- the choices, from the last test to the first
+pub code-chosen :
+    (bid ask c : ℕ) {of-candidate where-open of-bid r : ℕ} {held won below opened none : Bool}
+    → held ≡ won → of-candidate ≡ cond held 0 4 → below ≡ (bid <? c) → where-open ≡ cond below 3 of-candidate
+    → opened ≡ (ask <? c) → of-bid ≡ cond opened where-open 2 → none ≡ (bid =? 0) → r ≡ cond none 1 of-bid
+    → r ≡ codeBy bid ask c won
 unfolding codeBy
-code-held {bid} {ask} {c} won n h l e = rw (not-eq bid 0 n, is-lt ask c h, not-lt bid c l, e) refl
-
-pub code-outbid :
-    {bid ask c : ℕ} (won : Bool) → (bid ≡ 0 → ⊥) → ask < c → c ≤ bid → won ≡ false → 4 ≡ codeBy bid ask c won
-unfolding codeBy
-code-outbid {bid} {ask} {c} won n h l e = rw (not-eq bid 0 n, is-lt ask c h, not-lt bid c l, e) refl
+code-chosen bid ask c h k b w o f n r =
+    r
+    ∙ ap₂ (λ x y. cond x 1 y) n
+    (f ∙ ap₂ (λ x y. cond x y 2) o (w ∙ ap₂ (λ x y. cond x 3 y) b (k ∙ ap (λ x. cond x 0 4) h)))
 
 -- who wins matters for candidates alone
 won-matters :
@@ -117,8 +136,6 @@ module _ (t : Tables) (c : ℕ) {criticals bounds : List ℕ} (w : WithinLimits 
         criticals-long = b .criticals-long;
         bounds-long = b .bounded .bounds-long;
         criticals-low = λ j lj. rw (add-one j) (b .criticals-low j lj);
-        no-tie = λ j lj l h z. rw (add-one j) (b .bounded .no-tie i j li lj (candidate j l h)
-            (sym (b .criticals-are j lj) ∙ rw (add-one j) at z));
         bids-room = omega (arith, w .shape .bids-length);
         codes-room = omega arith;
       }

@@ -1,6 +1,5 @@
 -- The loop: the first j places of the row hold the first j codes.
 use Prim.Native.Nat.{_+_, _-_, _<_}
-use mathlib.Core.Path.{sym, _∙_}
 use native.Mathlib.Omega.{arith}
 use lib.ListN.{length}
 use borrow.Author.Needs.{needs}
@@ -75,14 +74,10 @@ shared-slice-read-code c =
 code-requires : tie.Need-code-requires Inv-loop μ-loop
 code-requires c κs =
     let at-test = test-before-code c in
-    let ready = entry-before-test at-test .pre in
-    let within = at-test .loop-test .taken in (
-      (
-        ready .bids-low _ (in-bids at-test),
-        ready .amount-low,
-        omega (arith, c .before .wide .ensures, ready .criticals-low _ within),
-      ),
-      λ l h z. ready .no-tie _ within l h (sym (c .before .wide .ensures) ∙ z),
+    let ready = entry-before-test at-test .pre in (
+      ready .bids-low _ (in-bids at-test),
+      ready .amount-low,
+      omega (arith, c .before .wide .ensures, ready .criticals-low _ (at-test .loop-test .taken)),
     )
 
 add-codes : tie.Need-add-codes Inv-loop μ-loop
