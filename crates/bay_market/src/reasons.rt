@@ -3,6 +3,7 @@ use crate::post;
 use explain::explained;
 use explain::explained::Telling;
 use explain::outcomes;
+use model::money::Mills;
 ghost use Prim.Native.Nat.{ℕ, _<_, _≤_, _^_};
 ghost use mathlib.Core.Bool.{not};
 ghost use mathlib.Core.List.{[], _∷_};
@@ -34,7 +35,8 @@ fn lay_out(e: Telling, stations: &mut [u16], charges: &mut [u32], reasons: &mut 
     let n = e.guests;
     let mut i = 0;
     while i < n {
-        let outcome = outcomes::outcome_at(e, i);
+        let charge = Mills::wide(e.charges[i]);
+        let outcome = outcomes::guest_outcome(e.stations[i], charge, e.losses[i]);
         stations[i] = outcomes::station_in(outcome);
         charges[i] = outcomes::charge_in(outcome).narrow();
         reasons[i] = outcomes::loss_in(outcome);
