@@ -49,9 +49,9 @@ extern "C" {
 #define BAY_MARKET_MAX_STACK 16384                    /* bytes of stack that a call takes at most */
 
 /*
- * The rule of a clearing or posting: the position, from 1, of the cut among the m asks in rising order. Under rule 1 it
- * is ceil((m + 1) / 2), under rule 2 floor(2 m / 3) + 1. Asks 1, 2, 3, 4, 5, 6 give cut 4 under rule 1 and 5 under
- * rule 2. Two markets are compared, for what a false report would gain, only under one rule.
+ * The rule of a clearing, an explanation or a posting: the position, from 1, of the cut among the m asks in rising
+ * order. Under rule 1 it is ceil((m + 1) / 2), under rule 2 floor(2 m / 3) + 1. Asks 1, 2, 3, 4, 5, 6 give cut 4 under
+ * rule 1 and 5 under rule 2. Two markets are compared, for what a false report would gain, only under one rule.
  */
 #define BAY_MARKET_RULE_MEDIAN 1
 #define BAY_MARKET_RULE_TWO_THIRDS 2
@@ -90,7 +90,7 @@ enum bay_market_refusal {
     BAY_MARKET_BAYS_OUT_OF_RANGE = 7,           /* a station has no bays or more than 200 */
     BAY_MARKET_AMOUNT_OUT_OF_RANGE = 8,         /* an amount is 0 or above 1,000 */
     BAY_MARKET_BID_OUT_OF_RANGE = 9,            /* a bid is above 1,000,000 */
-    BAY_MARKET_LENT_LENGTHS = 10,               /* the reader's tables or a result list have another length */
+    BAY_MARKET_LENT_LENGTHS = 10,               /* a lent table or a result list has another length */
     BAY_MARKET_ROUND_OUT_OF_TURN = 11,          /* the round is not the last one plus 1, or no round is left */
     BAY_MARKET_ACCOUNT_OVER_LIMIT = 12,         /* an account is above 10^15, or would be */
     BAY_MARKET_BOOK_SIZE = 13,                  /* the ledger is beyond the limits, or smaller than the market */
@@ -115,7 +115,7 @@ static inline const char *bay_market_refusal_text(uint8_t answer)
     case BAY_MARKET_BAYS_OUT_OF_RANGE: return "a station has no bays or more than 200";
     case BAY_MARKET_AMOUNT_OUT_OF_RANGE: return "an amount is 0 or above 1,000";
     case BAY_MARKET_BID_OUT_OF_RANGE: return "a bid is above 1,000,000";
-    case BAY_MARKET_LENT_LENGTHS: return "the reader's tables or a result list have another length";
+    case BAY_MARKET_LENT_LENGTHS: return "a lent table or a result list has another length";
     case BAY_MARKET_ROUND_OUT_OF_TURN: return "the round is not the last one plus 1, or no round is left";
     case BAY_MARKET_ACCOUNT_OVER_LIMIT: return "an account is above 10^15, or would be";
     case BAY_MARKET_BOOK_SIZE: return "the ledger is beyond the limits, or smaller than the market";

@@ -51,7 +51,8 @@ pub const MAX_ROUND: u32 = u32::MAX;
 /// Bytes of stack that a call of the engine takes at most.
 pub const MAX_STACK: usize = 16_384;
 
-/// The rule of a clearing or posting: the position of the cut, from 1, among the m asks in rising order.
+/// The rule of a clearing, an explanation or a posting: the position of the cut, from 1, among the m asks in rising
+/// order.
 #[derive(Clone, Copy, Debug, PartialEq, Eq, Hash)]
 #[repr(u8)]
 pub enum Rule {

@@ -22,7 +22,7 @@ pub enum Refusal {
     AmountOutOfRange = 8,
     /// a bid is above 1,000,000
     BidOutOfRange = 9,
-    /// the reader's tables or a result list have another length
+    /// a lent table or a result list has another length
     LentLengths = 10,
     /// the round is not the last one plus 1, or no round is left
     RoundOutOfTurn = 11,
@@ -77,7 +77,7 @@ impl Refusal {
             Refusal::BaysOutOfRange => "a station has no bays or more than 200",
             Refusal::AmountOutOfRange => "an amount is 0 or above 1,000",
             Refusal::BidOutOfRange => "a bid is above 1,000,000",
-            Refusal::LentLengths => "the reader's tables or a result list have another length",
+            Refusal::LentLengths => "a lent table or a result list has another length",
             Refusal::RoundOutOfTurn => "the round is not the last one plus 1, or no round is left",
             Refusal::AccountOverLimit => "an account is above 10^15, or would be",
             Refusal::BookSize => "the ledger is beyond the limits, or smaller than the market",
