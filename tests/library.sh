@@ -25,7 +25,7 @@ done
 given=$(nm -g --defined-only "$libraries/libbay_market.a" | awk 'NF == 3 { print $3 }' | sort | xargs)
 needed=$(nm -u "$libraries/libbay_market.a" | awk '$1 == "U" { print $2 }' | sort | xargs)
 shared=$(nm -D --defined-only "$libraries/libbay_market.so" | awk '{ print $3 }' | sort | xargs)
-functions=(clear clear_efficient explain place_bids post read write)
+read -ra functions <<<"$(scripts/exports --names)"
 [ "$given" = "${functions[*]/#/bay_market_}" ]
 [ "$needed" = 'memcpy memset' ]
 [ "$shared" = "$given" ]

@@ -19,6 +19,7 @@ for folder in crates/*/; do
 done
 rt fmt --check
 scripts/refusals --check
+scripts/exports --check
 tests/lines.py
 # the proofs that are generated are as their descriptions have them
 tools/walks/walks.py --check

@@ -10,7 +10,8 @@ seed=20261115
 rm -rf "$wrong"
 mkdir -p "$wrong"
 (cd "$wrong" && ar x "$real/libbay_market.a")
-for function in read write place_bids clear clear_efficient explain post; do
+read -ra functions <<<"$(scripts/exports --names)"
+for function in "${functions[@]}"; do
     objcopy --redefine-sym "bay_market_$function=real_bay_market_$function" "$wrong/bay_market.o"
 done
 gcc -std=c11 -O1 -Wall -Wextra -Werror -fPIC -Iinclude -c tests/wrong_engine.c -o "$wrong/wrong_engine.o"
@@ -42,55 +43,33 @@ BAY_MARKET_FAULT='explain own' "$compare" $seed explain >/dev/null
 BAY_MARKET_FAULT='explain own' "$compare" $seed facts >/dev/null
 
 # what a function only reads, what it fills, the numbers that it gives
-lists() {
-    case $1 in
-    read) echo sheet ;;
-    place_bids) echo prices falls guest_first guest_second station_first station_second ;;
-    write | clear | clear_efficient | explain | post) echo asks bays amounts tickets bids ;;
-    esac
-}
-filled() {
-    case $1 in
-    read) echo amounts tickets asks bays bids ;;
-    write) echo sheet ;;
-    place_bids) echo bids ;;
-    clear | clear_efficient) echo stations charges sold paid ;;
-    explain) echo codes stations charges reasons ;;
-    post) echo guests stations ;;
-    esac
-}
-numbers() {
-    case $1 in
-    read) echo n m ;;
-    write) echo length ;;
-    clear | clear_efficient) echo cut margin ;;
-    post) echo house last ;;
-    esac
-}
+lists() { scripts/exports --parts slice "$1"; }
+filled() { scripts/exports --parts lent "$1"; }
+numbers() { scripts/exports --parts out "$1"; }
 # the types that own what guests are told take no other code, station, charge or reason than there is
 no_such='the engine gave'
-for function in read write place_bids clear clear_efficient explain post; do
+for function in "${functions[@]}"; do
     for way in c slices owned; do
-        finds "$function answer" "differs|$no_such" $function $way
-        finds "$function number" 'differs' $function $way
-        for part in $(filled $function) $(numbers $function); do
-            finds "$function $part first accepted" "differ|$no_such" $function $way
+        finds "$function answer" "differs|$no_such" "$function" $way
+        finds "$function number" 'differs' "$function" $way
+        for part in $(filled "$function") $(numbers "$function"); do
+            finds "$function $part first accepted" "differ|$no_such" "$function" $way
         done
     done
-    for part in $(lists $function) $(filled $function); do
+    for part in $(lists "$function") $(filled "$function"); do
         for place in first last before after; do
             for answer in accepted refused; do
-                finds "$function $part $place $answer" 'differ|written|wrote' $function c
-                finds "$function $part $place $answer" 'differ|written|wrote' $function slices
+                finds "$function $part $place $answer" 'differ|written|wrote' "$function" c
+                finds "$function $part $place $answer" 'differ|written|wrote' "$function" slices
             done
         done
     done
-    for part in $(numbers $function); do
+    for part in $(numbers "$function"); do
         for place in first before after; do
-            finds "$function $part $place refused" 'differ|wrote' $function c
+            finds "$function $part $place refused" 'differ|wrote' "$function" c
         done
-        finds "$function $part before accepted" 'differ' $function c
-        finds "$function $part after accepted" 'differ' $function c
+        finds "$function $part before accepted" 'differ' "$function" c
+        finds "$function $part after accepted" 'differ' "$function" c
     done
 done
 # faults of a writer; what owns its output knows no other length than the largest sheet's

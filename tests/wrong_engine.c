@@ -71,37 +71,11 @@
 #include <stdlib.h>
 #include <string.h>
 
-/* The real functions, renamed in the object file. */
+/* The real functions, renamed in the object file; parameters, arguments and parts of what is lent. */
+#include "exports.h"
 #define REAL(name) real_##name
-#define MARKET_TYPES const uint32_t *, size_t, const uint16_t *, size_t, const uint16_t *, size_t, const uint32_t *, \
-    size_t, const uint32_t *, size_t, size_t
-uint8_t REAL(bay_market_read)(const uint8_t *, size_t, uint16_t *, size_t, uint32_t *, size_t, uint32_t *, size_t,
-                              uint16_t *, size_t, uint32_t *, size_t, uint16_t *, uint16_t *);
-uint8_t REAL(bay_market_write)(MARKET_TYPES, uint8_t *, size_t, size_t *);
-#define RESULT_TYPES uint16_t *, size_t, uint32_t *, size_t, uint32_t *, size_t, uint64_t *, size_t, uint32_t *, \
-    uint64_t *
-uint8_t REAL(bay_market_clear)(uint8_t, MARKET_TYPES, RESULT_TYPES);
-uint8_t REAL(bay_market_clear_efficient)(uint8_t, MARKET_TYPES, RESULT_TYPES);
-uint8_t REAL(bay_market_explain)(uint8_t, MARKET_TYPES, uint8_t *, size_t, uint16_t *, size_t, uint32_t *, size_t,
-                                 uint8_t *, size_t);
-uint8_t REAL(bay_market_post)(uint8_t, MARKET_TYPES, uint32_t, uint64_t *, size_t,
-                              struct bay_market_station_account *, size_t, uint64_t *, uint32_t *);
-uint8_t REAL(bay_market_place_bids)(const uint32_t *, size_t, const uint32_t *, size_t, const uint16_t *, size_t,
-                                    const uint16_t *, size_t, const uint16_t *, size_t, const uint16_t *, size_t,
-                                    uint32_t *, size_t);
-
-/* The lent market: parameters, arguments with other tickets, parts. */
-#define MARKET_PARAMETERS const uint32_t *asks, size_t asks_len, const uint16_t *bays, size_t bays_len, \
-    const uint16_t *amounts, size_t amounts_len, const uint32_t *tickets, size_t tickets_len, \
-    const uint32_t *bids, size_t bids_len, size_t width
+/* the lent market with other tickets */
 #define MARKET(others) asks, asks_len, bays, bays_len, amounts, amounts_len, others, tickets_len, bids, bids_len, width
-#define MARKET_LISTS LIST(asks), LIST(bays), LIST(amounts), LIST(tickets), LIST(bids)
-
-/* What a clearing is lent besides: parameters, arguments, parts. */
-#define RESULT_PARAMETERS uint16_t *stations, size_t stations_len, uint32_t *charges, size_t charges_len, \
-    uint32_t *sold, size_t sold_len, uint64_t *paid, size_t paid_len, uint32_t *cut, uint64_t *margin
-#define RESULTS stations, stations_len, charges, charges_len, sold, sold_len, paid, paid_len, cut, margin
-#define RESULT_LISTS LIST(stations), LIST(charges), LIST(sold), LIST(paid), NUMBER(cut), NUMBER(margin)
 
 struct part {
     const char *name;
@@ -216,12 +190,9 @@ static size_t next_row(const uint8_t *sheet, size_t at, size_t m)
     return bids + 4 * set;
 }
 
-uint8_t bay_market_read(const uint8_t *sheet, size_t sheet_len, uint16_t *amounts, size_t amounts_len,
-                        uint32_t *tickets, size_t tickets_len, uint32_t *asks, size_t asks_len,
-                        uint16_t *bays, size_t bays_len, uint32_t *bids, size_t bids_len, uint16_t *n, uint16_t *m)
+uint8_t bay_market_read(READ_PARAMETERS)
 {
-    const struct part parts[] = {LIST(sheet), LIST(amounts), LIST(tickets), LIST(asks), LIST(bays), LIST(bids),
-                                 NUMBER(n), NUMBER(m)};
+    const struct part parts[] = {READ_PARTS};
     static int taken = 0;
     uint32_t before[BAY_MARKET_MAX_GUESTS];
     char words[4][16];
@@ -229,8 +200,7 @@ uint8_t bay_market_read(const uint8_t *sheet, size_t sheet_len, uint16_t *amount
     if (tickets_len == BAY_MARKET_MAX_GUESTS) {
         memcpy(before, tickets, sizeof before);
     }
-    uint8_t answer = REAL(bay_market_read)(sheet, sheet_len, amounts, amounts_len, tickets, tickets_len, asks, asks_len,
-                                           bays, bays_len, bids, bids_len, n, m);
+    uint8_t answer = REAL(bay_market_read)(READ_ARGUMENTS);
     if (answer == 0 && fault("read", words)) {
         taken++;
         if (strcmp(words[1], "second") == 0 && taken % 2 == 0) {
@@ -277,9 +247,9 @@ static void set_empty(size_t m, size_t n, const uint32_t *bids, uint8_t *sheet, 
     *length += 4;
 }
 
-uint8_t bay_market_write(MARKET_PARAMETERS, uint8_t *sheet, size_t sheet_len, size_t *length)
+uint8_t bay_market_write(WRITE_PARAMETERS)
 {
-    const struct part parts[] = {MARKET_LISTS, LIST(sheet), NUMBER(length)};
+    const struct part parts[] = {WRITE_PARTS};
     const uint32_t *seen = others("write", tickets, tickets_len);
     static uint8_t apart[BAY_MARKET_MAX_SHEET];
     static int written = 0;
@@ -359,12 +329,12 @@ static uint8_t other_rule(const char *function, uint8_t rule, size_t asks_len)
     return rule;
 }
 
-uint8_t bay_market_clear(uint8_t rule, MARKET_PARAMETERS, RESULT_PARAMETERS)
+uint8_t bay_market_clear(CLEAR_PARAMETERS)
 {
-    const struct part parts[] = {MARKET_LISTS, RESULT_LISTS};
+    const struct part parts[] = {CLEAR_PARTS};
     const uint32_t *seen = others("clear", tickets, tickets_len);
     char words[4][16];
-    uint8_t answer = REAL(bay_market_clear)(other_rule("clear", rule, asks_len), MARKET(seen), RESULTS);
+    uint8_t answer = REAL(bay_market_clear)(other_rule("clear", rule, asks_len), MARKET(seen), RESULT_ARGUMENTS);
 
     answer = out_of_place("clear", answer, tickets, tickets_len, 0);
     if (answer == 0 && fault("clear", words)) {
@@ -509,9 +479,9 @@ static uint8_t untouched(uint8_t rule, MARKET_PARAMETERS, RESULT_PARAMETERS)
                                             sold_len, earned, paid_len, cut, margin);
 }
 
-uint8_t bay_market_clear_efficient(uint8_t rule, MARKET_PARAMETERS, RESULT_PARAMETERS)
+uint8_t bay_market_clear_efficient(CLEAR_EFFICIENT_PARAMETERS)
 {
-    const struct part parts[] = {MARKET_LISTS, RESULT_LISTS};
+    const struct part parts[] = {CLEAR_PARTS};
     const uint32_t *seen = others("clear_efficient", tickets, tickets_len);
     char words[4][16];
     uint8_t answer;
@@ -520,11 +490,11 @@ uint8_t bay_market_clear_efficient(uint8_t rule, MARKET_PARAMETERS, RESULT_PARAM
         words[1][0] = '\0';
     }
     if (strcmp(words[1], "untouched") == 0) {
-        return untouched(rule, MARKET(tickets), RESULTS);
+        return untouched(rule, MARKET(tickets), RESULT_ARGUMENTS);
     }
     rule = other_rule("clear_efficient", rule, asks_len);
-    answer = strcmp(words[1], "truthful") == 0 ? REAL(bay_market_clear)(rule, MARKET(seen), RESULTS)
-             : REAL(bay_market_clear_efficient)(rule, MARKET(seen), RESULTS);
+    answer = strcmp(words[1], "truthful") == 0 ? REAL(bay_market_clear)(rule, MARKET(seen), RESULT_ARGUMENTS)
+             : REAL(bay_market_clear_efficient)(rule, MARKET(seen), RESULT_ARGUMENTS);
     answer = out_of_place("clear_efficient", answer, tickets, tickets_len, 0);
     if (answer == 0 && is_own(words[1])) {
         clear_wrong(words[1], asks, asks_len, bays, amounts, amounts_len, tickets, bids, stations, charges, sold, paid,
@@ -578,12 +548,6 @@ static int taken(char words[4][16], const struct fit *lists, size_t count)
     }
     return taken;
 }
-
-/* What an explanation is lent besides: parameters, arguments, parts. */
-#define TOLD_PARAMETERS uint8_t *codes, size_t codes_len, uint16_t *stations, size_t stations_len, \
-    uint32_t *charges, size_t charges_len, uint8_t *reasons, size_t reasons_len
-#define TOLD codes, codes_len, stations, stations_len, charges, charges_len, reasons, reasons_len
-#define TOLD_LISTS LIST(codes), LIST(stations), LIST(charges), LIST(reasons)
 
 /* The code of a guest at a station, with a fault; `code` is the right one. */
 static uint8_t wrong_code(const char *wrong, uint8_t code, uint32_t bid, uint32_t ask, uint32_t cut, int seated_there,
@@ -742,10 +706,10 @@ static uint8_t list_out_of_place(char words[4][16], uint8_t answer, const uint32
     return answer;
 }
 
-uint8_t bay_market_explain(uint8_t rule, MARKET_PARAMETERS, TOLD_PARAMETERS)
+uint8_t bay_market_explain(EXPLAIN_PARAMETERS)
 {
     const size_t n = amounts_len, m = asks_len;
-    const struct part parts[] = {MARKET_LISTS, TOLD_LISTS};
+    const struct part parts[] = {EXPLAIN_PARTS};
     const struct fit lists[] = {{"codes", codes_len, n * m}, {"stations", stations_len, n}, {"charges", charges_len, n},
                                 {"reasons", reasons_len, n}};
     const uint32_t *seen = others("explain", tickets, tickets_len);
@@ -754,25 +718,23 @@ uint8_t bay_market_explain(uint8_t rule, MARKET_PARAMETERS, TOLD_PARAMETERS)
 
     rule = other_rule("explain", rule, asks_len);
     if (!fault("explain", words)) {
-        return REAL(bay_market_explain)(rule, MARKET(tickets), TOLD);
+        return REAL(bay_market_explain)(rule, MARKET(tickets), TOLD_ARGUMENTS);
     }
     if (strcmp(words[1], "untouched") == 0 || strcmp(words[1], "kept") == 0) {
-        return not_told(strcmp(words[1], "kept") == 0, rule, MARKET(tickets), TOLD);
+        return not_told(strcmp(words[1], "kept") == 0, rule, MARKET(tickets), TOLD_ARGUMENTS);
     }
-    answer = REAL(bay_market_explain)(rule, MARKET(seen), TOLD);
+    answer = REAL(bay_market_explain)(rule, MARKET(seen), TOLD_ARGUMENTS);
     answer = out_of_place("explain", answer, tickets, tickets_len, 0);
     if (answer == 0 && seen == tickets) {
-        tell_wrong(words[1], rule, MARKET(tickets), TOLD);
+        tell_wrong(words[1], rule, MARKET(tickets), TOLD_ARGUMENTS);
     }
     answer = list_out_of_place(words, answer, asks, m, lists, sizeof lists / sizeof *lists);
     return SPOIL("explain", answer, parts);
 }
 
-uint8_t bay_market_post(uint8_t rule, MARKET_PARAMETERS, uint32_t round, uint64_t *guests, size_t guests_len,
-                        struct bay_market_station_account *stations, size_t stations_len,
-                        uint64_t *house, uint32_t *last)
+uint8_t bay_market_post(POST_PARAMETERS)
 {
-    const struct part parts[] = {MARKET_LISTS, LIST(guests), LIST(stations), NUMBER(house), NUMBER(last)};
+    const struct part parts[] = {POST_PARTS};
     const uint32_t *seen = others("post", tickets, tickets_len);
     uint8_t answer = REAL(bay_market_post)(other_rule("post", rule, asks_len), MARKET(seen), round, guests, guests_len,
                                            stations, stations_len, house, last);
@@ -791,15 +753,6 @@ static uint32_t walk(uint32_t q)
     }
     return walks[q];
 }
-
-/* What bids are placed from: parameters, arguments, parts. */
-#define PLACES_PARAMETERS const uint32_t *prices, size_t prices_len, const uint32_t *falls, size_t falls_len, \
-    const uint16_t *guest_first, size_t guest_first_len, const uint16_t *guest_second, size_t guest_second_len, \
-    const uint16_t *station_first, size_t station_first_len, const uint16_t *station_second, size_t station_second_len
-#define PLACES prices, prices_len, falls, falls_len, guest_first, guest_first_len, guest_second, guest_second_len, \
-    station_first, station_first_len, station_second, station_second_len
-#define PLACES_LISTS LIST(prices), LIST(falls), LIST(guest_first), LIST(guest_second), LIST(station_first), \
-    LIST(station_second)
 
 /* Writes the bids, with a fault. */
 static void place_wrong(const char *wrong, const uint32_t *prices, const uint32_t *falls, const uint16_t *guest_first,
@@ -836,14 +789,14 @@ static uint8_t judged(const char *wrong, uint8_t answer, PLACES_PARAMETERS)
            : over ? BAY_MARKET_PRICE_OR_FALL_OUT_OF_RANGE : BAY_MARKET_ACCEPTED;
 }
 
-uint8_t bay_market_place_bids(PLACES_PARAMETERS, uint32_t *bids, size_t bids_len)
+uint8_t bay_market_place_bids(PLACE_BIDS_PARAMETERS)
 {
     const size_t n = guest_first_len, m = station_first_len;
-    const struct part parts[] = {PLACES_LISTS, LIST(bids)};
+    const struct part parts[] = {PLACE_BIDS_PARTS};
     const struct fit lists[] = {{"prices", prices_len, n}, {"falls", falls_len, n}, {"bids", bids_len, n * m},
                                 {"guest_second", guest_second_len, n}, {"station_second", station_second_len, m}};
     char words[4][16];
-    uint8_t answer = REAL(bay_market_place_bids)(PLACES, bids, bids_len);
+    uint8_t answer = REAL(bay_market_place_bids)(PLACE_BIDS_ARGUMENTS);
 
     if (!fault("place_bids", words)) {
         return answer;
@@ -851,7 +804,7 @@ uint8_t bay_market_place_bids(PLACES_PARAMETERS, uint32_t *bids, size_t bids_len
     if (answer == BAY_MARKET_LENGTHS_DIFFER && taken(words, lists, sizeof lists / sizeof *lists)) {
         return BAY_MARKET_ACCEPTED;
     }
-    answer = judged(words[1], answer, PLACES);
+    answer = judged(words[1], answer, PLACES_ARGUMENTS);
     if (answer == BAY_MARKET_ACCEPTED) {
         place_wrong(words[1], prices, falls, guest_first, guest_second, n, station_first, station_second, m, bids);
     }

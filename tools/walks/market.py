@@ -27,7 +27,7 @@ CLEARS = f'''\
 Rattle.model.specs.market.Outcome: results
 Rattle.model.specs.market.Market: tables
 {view.USES}\
-Rattle.model.specs.contracts.Clears: Clears
+Rattle.model.specs.contracts.EntryPoints: Clears
 Rattle.model.specs.declared.answers.Clearing: Clearing
 Rattle.model.proofs.answers.Clearing as S
 Rattle.model.proofs.answers.Clearing.Laws as S′

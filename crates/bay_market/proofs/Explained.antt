@@ -3,7 +3,7 @@ use Prim.Native.Nat.{ℕ, zero, suc, _+_, _*_, _^_, _≤_, _<_}
 use mathlib.Core.Bool.{Bool, true, false, not, _&&_}
 use mathlib.Core.List.{List, [], _∷_}
 use mathlib.Core.Logic.{⊎-elim}
-use mathlib.Core.Path.{_≡_, refl, sym, ap, _∙_}
+use mathlib.Core.Path.{_≡_, refl, sym, ap, ap₂, _∙_}
 use native.Mathlib.Nat.{le-refl}
 use native.Mathlib.Omega.{arith}
 use lib.Dec.{eqb}
@@ -18,15 +18,17 @@ use Rattle.model.specs.market.Mechanism.{charged}
 use Rattle.model.specs.market.Outcome.{screened, decision}
 use Rattle.model.specs.market.Faults.{unknownRule, counts, lengths, values, explainedLengths, explainedFaults}
 use Rattle.model.specs.market.Faults.{Accepted, explainingFaults}
-use Rattle.model.specs.market.Reasons.{codes, Told, tellings, guestOutcomes}
+use Rattle.model.specs.market.Reasons.{codes, Told, tellings, guestOutcomes, Shown, shownAs}
 use Rattle.model.specs.market.Rules.{ruleOf}
-use Rattle.model.specs.contracts.ExplainsOut.{tellingVerdict, ExplainsOut}
+use Rattle.model.specs.contracts.EntryPoints.{explaining}
+use Rattle.model.specs.Promises.{Keeps, RepliesOut}
 use Rattle.model.specs.declared.money.Mills.{Mills}
 use Rattle.model.specs.declared.rule.Rule.{Rule}
 use Rattle.model.specs.declared.reason.GuestOutcome.{GuestOutcome}
 use Rattle.model.proofs.Tests.{decide, not-eq, only-le}
 use Rattle.model.proofs.Counting.{any-no}
 use Rattle.model.proofs.Loops.{Filled, filled-none, filled-more, in-table}
+use Rattle.model.proofs.Promises.{updated-both, giving-nothing}
 use Rattle.model.proofs.Verdicts.{updated-accepted, updated-refused}
 use Rattle.model.proofs.market.Acceptance.{equal, not-unequal, accepted-iff-within-limits}
 use Rattle.model.proofs.market.Limits.{product}
@@ -38,6 +40,7 @@ use Rattle.explain.specs.Outcomes.{recordOf, mills, recordAt}
 use Rattle.explain.specs.declared.explained.Telling.{Telling}
 use Rattle.explain.proofs.Answers.{charge-held, shows-station, shows-charge, shows-loss, outcomes-long}
 use Rattle.bay_market.specs.LaidOut.{FirstPlaces, LaidOut}
+use Rattle.bay_market.proofs.Told.{replied}
 
 -- a loop that has filled n places
 pub places :
@@ -165,15 +168,18 @@ charge-fits rule t a i li = rw (charge-at rule t i li) (go ((decision rule t) .a
           product (getD (t .bids) (i * length (t .asks) + j) 0) (getD (t .amounts) i 0) b (w .amount-most i li),
         )
 
+-- an outcome table in three lists
+abbrev pub outcomeLengths : Told → List ℕ
+outcomeLengths o = length (o .stations) ∷ length (o .charges) ∷ length (o .losses) ∷ []
+
 module _ (rule : ℕ) (t : Tables) (table : List ℕ) (entry : Told) (x : ℕ)
     (same : any (x ∷ []) (λ k. not (k =? length (t .amounts)))
-    ≡ any (length (entry .stations) ∷ length (entry .charges) ∷ length (entry .losses) ∷ [])
-    (λ k. not (k =? length (t .amounts)))) where
+    ≡ any (outcomeLengths entry) (λ k. not (k =? length (t .amounts)))) where
   abbrev v : Verdict
   v = firstFault (explainingFaults rule t (length table) (x ∷ []))
 
-  verdict-is : v ≡ tellingVerdict rule t table entry
-  unfolding tellingVerdict explainingFaults explainedFaults explainedLengths
+  verdict-is : v ≡ firstFault (explainingFaults rule t (length table) (outcomeLengths entry))
+  unfolding explainingFaults explainedFaults explainedLengths
   verdict-is =
       ap (λ b. firstFault (unknownRule rule ∷ counts (length (t .amounts)) (length (t .asks))
       ∷ lengths (length (t .amounts)) (length (t .asks)) (length (t .bays)) (length (t .tickets)) (length (t .bids))
@@ -188,7 +194,7 @@ module _ (rule : ℕ) (t : Tables) (table : List ℕ) (entry : Told) (x : ℕ)
     all-long q =
         let fits = explaining-within rule t (length table) x q .outcomes-long in
         let none = sym same ∙ one-fits _ x fits in
-        let lists = length (entry .stations) ∷ length (entry .charges) ∷ length (entry .losses) ∷ [] in (
+        let lists = outcomeLengths entry in (
           equal _ _ (any-no lists _ none 0 (omega arith)),
           equal _ _ (any-no lists _ none 1 (omega arith)),
           equal _ _ (any-no lists _ none 2 (omega arith)),
@@ -244,10 +250,23 @@ module _ (rule : ℕ) (t : Tables) (table : List ℕ) (entry : Told) (x : ℕ)
           λ y. tellings (none-left guests (laid .stations-are) y) (none-left guests (laid .charges-are) y)
           (none-left guests (laid .losses-are) y)
 
-      pub explains-out :
-          {r : ℕ} → r ≡ numberOf (answerOfVerdict (e .reply)) → ExplainsOut rule t table entry r table′ exit
-      explains-out n = record {
-        number-is = n ∙ ap numberOf (s .answered ∙ verdict-is);
-        codes-left = s .codes-left ∙ ap (λ w. updated w (codes (ruleOf rule) t) table) verdict-is;
-        outcomes-left = left-by v refl ∙ ap (λ w. updated w (guestOutcomes (ruleOf rule) t) entry) verdict-is;
+      abbrev new : Shown
+      new = shownAs (codes (ruleOf rule) t) (guestOutcomes (ruleOf rule) t)
+
+      left : shownAs table′ exit ≡ updated v new (shownAs table entry)
+      left = ap₂ shownAs (s .codes-left) (left-by v refl)
+          ∙ updated-both shownAs v (codes (ruleOf rule) t) table (guestOutcomes (ruleOf rule) t) entry
+
+      keeps :
+          Keeps (explaining rule t (outcomeLengths entry)) (shownAs table entry) (answerOfVerdict (e .reply))
+          (shownAs table′ exit)
+      unfolding explaining
+      keeps = record {
+        answered = s .answered ∙ verdict-is ∙ sym (giving-nothing _);
+        left = left ∙ ap (λ w. updated w new (shownAs table entry)) verdict-is;
       }
+
+      pub explains-out :
+          {r : ℕ} → r ≡ numberOf (answerOfVerdict (e .reply))
+          → RepliesOut (explaining rule t (outcomeLengths entry)) (shownAs table entry) r (shownAs table′ exit)
+      explains-out n = replied keeps n

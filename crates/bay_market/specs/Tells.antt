@@ -1,10 +1,13 @@
--- How a clearing's answer is told to other languages: the answer's number, and the cut and margin of a clearing.
+-- How an answer is told to other languages: its number, and its value in the out parameters, which a refusal leaves.
 use Prim.Native.Nat.{ℕ}
 use mathlib.Core.Path.{_≡_}
-use Rattle.model.specs.Numbers.{number}
-use Rattle.model.specs.declared.answers.Clearing.{Clearing}
-use Rattle.model.specs.declared.answers.Clearing.the-variants.{Cleared, Refused}
+use Rattle.model.specs.Verdicts.{Answer, accepted, refused, numberOf}
 
-unfoldable pub Tells : Clearing → (cut margin r cut′ margin′ : ℕ) → Type 0
-Tells (Refused x) cut margin r cut′ margin′ = (r ≡ number x) × (cut′ ≡ cut) × (margin′ ≡ margin)
-Tells (Cleared a b) cut margin r cut′ margin′ = (r ≡ 0) × (cut′ ≡ a .0) × (margin′ ≡ b .0)
+-- the value, or what is there where there is none
+unfoldable pub valueOr : {A : Type 0} (out : A) → Answer A → A
+valueOr out (accepted a) = a
+valueOr out (refused k) = out
+
+pub record Tells {A : Type 0} (answer : Answer A) (out : A) (number : ℕ) (out′ : A) : Type 0 where
+  pub number-is : number ≡ numberOf answer
+  pub out-is : out′ ≡ valueOr out answer

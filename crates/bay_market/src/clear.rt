@@ -1,14 +1,17 @@
 // The clearing for other languages: include/bay_market.h.
 use clearing::view_clearing;
 use model::answers::Clearing;
-ghost use Rattle.model.specs.contracts.ClearsOut.{ClearsOut, ClearsEfficientOut};
+ghost use Rattle.model.specs.Promises.{KeepsOut};
+ghost use Rattle.model.specs.market.Outcome.{outcome, efficientOutcome};
+ghost use Rattle.model.specs.contracts.EntryPoints.{clearing};
 ghost use Rattle.model.specs.contracts.Lent.{tablesIn, resultsIn, resultsOut};
+ghost use Rattle.model.specs.Numbers.{answerOfClearing};
 ghost use Rattle.bay_market.specs.Tells.{Tells};
 
 // The answer's number, 0 for a clearing, whose cut and margin go to their places.
 fn tell(answer: Clearing, cut: &mut u32, margin: &mut u64) -> u8
-    ensures { λ r. ⌜ Tells answer (now (cut .entry)) (now (margin .entry)) r
-        (now (cut .exit)) (now (margin .exit)) ⌝ }
+    ensures { λ r. ⌜ Tells (answerOfClearing answer) (now (cut .entry), now (margin .entry)) r
+        (now (cut .exit), now (margin .exit)) ⌝ }
 {
     match answer {
         Clearing::Refused(refusal) => refusal.number(),
@@ -39,9 +42,9 @@ pub extern "C" fn bay_market_clear(
     cut: &mut u32,
     margin: &mut u64,
 ) -> u8
-    ensures { λ r. ⌜ ClearsOut rule (tablesIn asks bays amounts tickets bids width)
-        (resultsIn stations charges sold paid) (now (cut .entry)) (now (margin .entry)) r
-        (resultsOut stations charges sold paid) (now (cut .exit)) (now (margin .exit)) ⌝ }
+    ensures { λ r. ⌜ KeepsOut (clearing outcome rule (tablesIn asks bays amounts tickets bids width))
+        (resultsIn stations charges sold paid) (now (cut .entry), now (margin .entry)) r
+        (resultsOut stations charges sold paid) (now (cut .exit), now (margin .exit)) ⌝ }
 {
     let answer = view_clearing::clear_through_view(
         rule,
@@ -75,9 +78,9 @@ pub extern "C" fn bay_market_clear_efficient(
     cut: &mut u32,
     margin: &mut u64,
 ) -> u8
-    ensures { λ r. ⌜ ClearsEfficientOut rule (tablesIn asks bays amounts tickets bids width)
-        (resultsIn stations charges sold paid) (now (cut .entry)) (now (margin .entry)) r
-        (resultsOut stations charges sold paid) (now (cut .exit)) (now (margin .exit)) ⌝ }
+    ensures { λ r. ⌜ KeepsOut (clearing efficientOutcome rule (tablesIn asks bays amounts tickets bids width))
+        (resultsIn stations charges sold paid) (now (cut .entry), now (margin .entry)) r
+        (resultsOut stations charges sold paid) (now (cut .exit), now (margin .exit)) ⌝ }
 {
     let answer = clearing::clear_efficient(
         rule,

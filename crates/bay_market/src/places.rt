@@ -1,7 +1,8 @@
 // Bids from parking places for other languages: include/bay_market.h.
 use crate::post;
 ghost use Rattle.model.specs.contracts.Lent.{placesIn};
-ghost use Rattle.model.specs.contracts.PlacesBidsOut.{PlacesBidsOut};
+ghost use Rattle.model.specs.contracts.EntryPoints.{placing};
+ghost use Rattle.model.specs.Promises.{RepliesOut};
 
 #[no_mangle]
 pub extern "C" fn bay_market_place_bids(
@@ -13,8 +14,8 @@ pub extern "C" fn bay_market_place_bids(
     station_second: &[u16],
     bids: &mut [u32],
 ) -> u8
-    ensures { λ r. ⌜ PlacesBidsOut
-        (placesIn prices falls «guest_first» «guest_second» «station_first» «station_second»)
+    ensures { λ r. ⌜ RepliesOut
+        (placing (placesIn prices falls «guest_first» «guest_second» «station_first» «station_second»))
         (now (bids .entry)) r (now (bids .exit)) ⌝ }
 {
     let reply = grid::place_bids(

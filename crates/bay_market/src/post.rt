@@ -6,7 +6,9 @@ ghost use Rattle.model.specs.Verdicts.{numberOf};
 ghost use Rattle.model.specs.Numbers.{answerOfVerdict};
 ghost use Rattle.model.specs.book.Posting.{posting};
 ghost use Rattle.model.specs.contracts.Lent.{tablesIn, bookIn, bookOut};
-ghost use Rattle.model.specs.contracts.PostsOut.{PostsOut};
+ghost use Rattle.model.specs.contracts.EntryPoints.{entering};
+ghost use Rattle.model.specs.Promises.{RepliesOut};
+ghost use Rattle.model.specs.book.Book.{plain};
 
 pub fn reply_number(reply: Verdict) -> u8
     ensures { λ k. ⌜ k ≡ numberOf (answerOfVerdict reply) ⌝ }
@@ -33,9 +35,8 @@ pub extern "C" fn bay_market_post(
     house: &mut u64,
     last: &mut u32,
 ) -> u8
-    ensures { λ k. ⌜ PostsOut (bookIn guests stations house last)
-        (posting rule (tablesIn asks bays amounts tickets bids width) round)
-        (bookOut guests stations house last) k ⌝ }
+    ensures { λ k. ⌜ RepliesOut (entering (posting rule (tablesIn asks bays amounts tickets bids width) round))
+        (plain (bookIn guests stations house last)) k (plain (bookOut guests stations house last)) ⌝ }
 {
     let reply = ledger::post(
         rule,

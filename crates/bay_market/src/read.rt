@@ -1,7 +1,8 @@
 // The reader for other languages: include/bay_market.h.
 use model::answers::Reading;
 ghost use Rattle.model.specs.contracts.Lent.{lentTablesIn, lentTablesOut};
-ghost use Rattle.model.specs.contracts.ReadsOut.{ReadsOut};
+ghost use Rattle.model.specs.contracts.EntryPoints.{reading};
+ghost use Rattle.model.specs.Promises.{KeepsOut};
 
 #[no_mangle]
 pub extern "C" fn bay_market_read(
@@ -14,9 +15,9 @@ pub extern "C" fn bay_market_read(
     n: &mut u16,
     m: &mut u16,
 ) -> u8
-    ensures { λ r. ⌜ ReadsOut (now (sheet .entry))
-        (lentTablesIn amounts tickets asks bays bids) (now (n .entry)) (now (m .entry)) r
-        (lentTablesOut amounts tickets asks bays bids) (now (n .exit)) (now (m .exit)) ⌝ }
+    ensures { λ r. ⌜ KeepsOut (reading (now (sheet .entry)))
+        (lentTablesIn amounts tickets asks bays bids) (now (n .entry), now (m .entry)) r
+        (lentTablesOut amounts tickets asks bays bids) (now (n .exit), now (m .exit)) ⌝ }
 {
     let reading = sheet::read(sheet, amounts, tickets, asks, bays, bids);
     match reading {

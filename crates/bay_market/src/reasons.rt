@@ -11,8 +11,9 @@ ghost use mathlib.Core.Path.{_≡_};
 ghost use lib.ListN.{length, getD};
 ghost use Rattle.model.specs.Limits.{maxGuests};
 ghost use Rattle.model.specs.Counting.{_=?_, any};
-ghost use Rattle.model.specs.contracts.ExplainsOut.{ExplainsOut};
-ghost use Rattle.model.specs.contracts.Lent.{tablesIn, tellingsIn, tellingsOut};
+ghost use Rattle.model.specs.contracts.EntryPoints.{explaining};
+ghost use Rattle.model.specs.Promises.{RepliesOut};
+ghost use Rattle.model.specs.contracts.Lent.{tablesIn, tellingsIn, tellingsOut, shownIn, shownOut};
 ghost use Rattle.bay_market.specs.LaidOut.{LaidOut};
 
 // The length of an outcome table that is given as three lists: n where each of them is n long, else another number.
@@ -58,8 +59,9 @@ pub extern "C" fn bay_market_explain(
     charges: &mut [u32],
     reasons: &mut [u8],
 ) -> u8
-    ensures { λ r. ⌜ ExplainsOut rule (tablesIn asks bays amounts tickets bids width) (now (codes .entry))
-        (tellingsIn stations charges reasons) r (now (codes .exit)) (tellingsOut stations charges reasons) ⌝ }
+    ensures { λ r. ⌜ RepliesOut (explaining rule (tablesIn asks bays amounts tickets bids width)
+        (length (now (stations .entry)) ∷ length (now (charges .entry)) ∷ length (now (reasons .entry)) ∷ []))
+        (shownIn codes stations charges reasons) r (shownOut codes stations charges reasons) ⌝ }
 {
     let table = table_length(amounts.len(), stations.len(), charges.len(), reasons.len());
     let e = explained::explained(

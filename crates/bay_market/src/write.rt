@@ -1,7 +1,8 @@
 // The writer for other languages: include/bay_market.h.
 use model::answers::Writing;
 ghost use Rattle.model.specs.contracts.Lent.{tablesIn};
-ghost use Rattle.model.specs.contracts.WritesOut.{WritesOut};
+ghost use Rattle.model.specs.contracts.EntryPoints.{writing};
+ghost use Rattle.model.specs.Promises.{KeepsOut};
 
 #[no_mangle]
 pub extern "C" fn bay_market_write(
@@ -14,7 +15,7 @@ pub extern "C" fn bay_market_write(
     sheet: &mut [u8],
     length: &mut usize,
 ) -> u8
-    ensures { λ r. ⌜ WritesOut (tablesIn asks bays amounts tickets bids width)
+    ensures { λ r. ⌜ KeepsOut (writing (tablesIn asks bays amounts tickets bids width))
         (now (sheet .entry)) (now (length .entry)) r (now (sheet .exit)) (now (length .exit)) ⌝ }
 {
     match sheet::write(asks, bays, amounts, tickets, bids, width, sheet) {

@@ -10,8 +10,9 @@ use Rattle.model.specs.declared.refusal.Refusal.{Refusal}
 use Rattle.model.specs.declared.refusal.Refusal.the-variants.{UnknownRule}
 use Rattle.model.specs.Counting.{_=?_, only, sum, list}
 use Rattle.model.specs.Numbers.{answerOfClearing, answerOfVerdict}
-use Rattle.model.specs.Verdicts.{Answer, accepted, firstFault, giving, updated}
-use Rattle.model.proofs.Verdicts.{giving-accepted, giving-refused, updated-accepted, updated-refused}
+use Rattle.model.specs.Verdicts.{Answer, accepted, firstFault}
+use Rattle.model.proofs.Promises.{keeps-refused}
+use Rattle.model.proofs.Verdicts.{giving-accepted, updated-accepted}
 use Rattle.model.specs.declared.answers.Verdict.{Verdict}
 use Rattle.model.specs.declared.money.UnitPrice.{UnitPrice}
 use Rattle.model.specs.declared.money.Mills.{Mills}
@@ -38,7 +39,7 @@ use Rattle.allocation.specs.Stages.{AtCut}
 use Rattle.allocation.specs.Assignment.{Assigned}
 use Rattle.allocation.specs.Screens.{screenedAt}
 use Rattle.clearing.specs.Decided.{decided}
-use Rattle.model.specs.contracts.Clears.{ClearsUnder, ClearsBy}
+use Rattle.model.specs.contracts.EntryPoints.{clearing, clearingUnder, ClearsUnder, ClearsBy}
 use Rattle.clearing.specs.ClearsAccepted.{ClearsAccepted}
 use Rattle.model.specs.declared.answers.Clearing.{Clearing}
 use Rattle.model.specs.declared.answers.Clearing.the-variants as clearings
@@ -149,11 +150,10 @@ unfolding answerOfVerdict
 is-accepted t r e = sym e
 
 pub refused-clears :
-    {made : Tables → Outcome} (t : Tables) (r : Results) (x : Refusal) → Judged t r (verdicts.Refused x)
+    (made : Tables → Outcome) (t : Tables) (r : Results) (x : Refusal) → Judged t r (verdicts.Refused x)
     → ClearsUnder made t r (clearings.Refused x) r
-unfolding answerOfVerdict answerOfClearing
-refused-clears t r x e =
-    record { answered = sym (giving-refused _ _ (sym e)); left = sym (updated-refused _ _ _ (sym e)) }
+unfolding answerOfVerdict answerOfClearing clearingUnder
+refused-clears made t r x e = keeps-refused (sym e)
 
 pub clear-accepts : (asks bays amounts tickets bids : List ℕ) (width : ℕ) (r : Results)
     → Judged (tables asks bays amounts tickets bids width) r verdicts.Accepted
@@ -171,6 +171,7 @@ pub clear-accepted-clears :
     {exit : Results} → let t = tables asks bays amounts tickets bids width in
     Judged t r verdicts.Accepted → ClearsAccepted (made (regular asks bays amounts tickets bids)) answer exit
     → ClearsUnder made t r answer exit
+unfolding clearingUnder
 clear-accepted-clears made asks bays amounts tickets bids width r e s =
     let t = tables asks bays amounts tickets bids width in
     let v = is-accepted t r e in
@@ -183,14 +184,14 @@ clear-accepted-clears made asks bays amounts tickets bids width r e s =
 -- the rule's number first
 
 pub unknown-clears :
-    {made : Rule → Tables → Outcome} (rule : ℕ) (t : Tables) (r : Results) → Unknown ≡ named rule
+    (made : Rule → Tables → Outcome) (rule : ℕ) (t : Tables) (r : Results) → Unknown ≡ named rule
     → ClearsBy made rule t r (clearings.Refused UnknownRule) r
-unfolding answerOfClearing clearingFaults unknownRule isUnknown firstFault giving updated
-unknown-clears rule t r e = record { answered = rw (← e) refl; left = rw (← e) refl }
+unfolding answerOfClearing clearing clearingFaults unknownRule isUnknown firstFault
+unknown-clears made rule t r e = keeps-refused (rw (← e) refl)
 
 pub known-clears :
-    {made : Rule → Tables → Outcome} (rule : ℕ) (known : Rule) (t : Tables) (r : Results) {answer : Clearing}
+    (made : Rule → Tables → Outcome) (rule : ℕ) (known : Rule) (t : Tables) (r : Results) (answer : Clearing)
     {exit : Results} → Known known ≡ named rule → ClearsUnder (made known) t r answer exit
     → ClearsBy made rule t r answer exit
-unfolding clearingFaults unknownRule isUnknown ruleIn firstFault
-known-clears rule known t r e c = record { answered = rw (← e) (c .answered); left = rw (← e) (c .left) }
+unfolding clearing clearingUnder clearingFaults unknownRule isUnknown ruleIn firstFault
+known-clears made rule known t r answer e c = record { answered = rw (← e) (c .answered); left = rw (← e) (c .left) }

@@ -11,7 +11,7 @@ use model::refusal::Refusal;
 use model::rule::NamedRule;
 use model::rule::Rule;
 ghost use Rattle.model.specs.market.Outcome.{outcomeIn};
-ghost use Rattle.model.specs.contracts.Clears.{ClearsUnder, ClearsBy, Clears, ClearsEfficient};
+ghost use Rattle.model.specs.contracts.EntryPoints.{ClearsUnder, ClearsBy, Clears, ClearsEfficient};
 ghost use Rattle.model.specs.contracts.Lent.{tablesIn, resultsIn, resultsOut};
 
 // Clears a market by a mechanism under a rule, or refuses it and writes nothing.

@@ -3,7 +3,7 @@ use crate::views;
 use crate::views::BidTable;
 use model::answers::Clearing;
 ghost use Rattle.model.specs.market.Market.{tables};
-ghost use Rattle.model.specs.contracts.Clears.{Clears};
+ghost use Rattle.model.specs.contracts.EntryPoints.{Clears};
 ghost use Rattle.model.specs.contracts.Lent.{tablesIn, resultsIn, resultsOut};
 
 // Clears a market whose bids stand in a view, or refuses it and writes nothing: `clear` of what the view holds.

@@ -21,14 +21,16 @@ use Rattle.model.specs.market.Mechanism.{at, truthful}
 use Rattle.model.specs.market.Outcome.{outcomeBy, screened, decision, outcome}
 use Rattle.model.specs.market.Faults.{unknownRule, counts, lengths, marketFaults, verdict, explainedLengths}
 use Rattle.model.specs.market.Faults.{explainedFaults, explainingFaults}
-use Rattle.model.specs.market.Reasons.{codes, highestCode, Told, tellings, told, loss, guestOutcomes}
+use Rattle.model.specs.market.Reasons.{codes, highestCode, Told, tellings, told, loss, guestOutcomes, explanation}
+use Rattle.model.specs.market.Reasons.{shownAs, shown}
 use Rattle.model.specs.market.Rules.{named, isUnknown, ruleIn, ruleOf}
 use Rattle.model.specs.claims.Meaning.{WithinLimits}
-use Rattle.model.specs.contracts.Explains.{explanation, explainingVerdict, Explains}
+use Rattle.model.specs.contracts.EntryPoints.{explaining, Explains}
 use Rattle.model.specs.declared.reason.GuestOutcome.{GuestOutcome}
 use Rattle.model.proofs.Tests.{neither}
 use Rattle.model.proofs.Counting.{length-list, list-cong}
 use Rattle.model.proofs.Loops.{element}
+use Rattle.model.proofs.Promises.{updated-both, giving-nothing}
 use Rattle.model.proofs.Verdicts.{updated-accepted, updated-refused}
 use Rattle.model.proofs.market.Acceptance.{accepted-iff-within-limits, not-unequal, width-of}
 use Rattle.model.proofs.claims.Reasons.{explained-within, explaining-within, station-told}
@@ -329,11 +331,12 @@ pub explains :
     (ys′ : List GuestOutcome) → ExplainedBy rule t (length ys) table e table′
     → ys′ ≡ writtenTo e (min (length ys) (e .guests)) ys
     → Explains rule t (explanation table ys) (e .reply) (explanation table′ ys′)
-unfolding explainingVerdict updated writtenTo
+unfolding explaining shown updated writtenTo
 explains rule t table ys e table′ ys′ s w = record {
-  answered = s .answered;
-  codes-left = s .codes-left;
-  outcomes-left = ap told w ∙ by-verdict _ refl;
+  answered = s .answered ∙ sym (giving-nothing _);
+  left = ap₂ shownAs (s .codes-left) (ap told w ∙ by-verdict _ refl)
+      ∙ updated-both shownAs (firstFault (explainingFaults rule t (length table) (length ys ∷ [])))
+      (codes (ruleOf rule) t) table (guestOutcomes (ruleOf rule) t) (told ys);
 }
   where
     by-verdict :

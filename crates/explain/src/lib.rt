@@ -6,7 +6,7 @@ pub mod outcomes;
 
 use model::answers::Verdict;
 use model::reason::GuestOutcome;
-ghost use Rattle.model.specs.contracts.Explains.{Explains};
+ghost use Rattle.model.specs.contracts.EntryPoints.{Explains};
 ghost use Rattle.model.specs.contracts.Lent.{tablesIn, explanationIn, explanationOut};
 
 // Explains the clearing of a market under the rule of a number, or refuses it and writes nothing.

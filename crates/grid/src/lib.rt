@@ -1,7 +1,7 @@
 // Bids from parking places.
 use model::answers::Verdict;
 ghost use Rattle.model.specs.contracts.Lent.{placesIn};
-ghost use Rattle.model.specs.contracts.PlacesBids.{PlacesBids};
+ghost use Rattle.model.specs.contracts.EntryPoints.{PlacesBids};
 
 mod faults;
 mod rows;

@@ -34,7 +34,8 @@ use Rattle.model.specs.declared.account.StationAccount.{StationAccount}
 use Rattle.model.proofs.book.Records.{length-sold, length-paid}
 use Rattle.ledger.proofs.stations.Stations.{exceeding-is, sold-credited, paid-credited}
 use Rattle.model.specs.book.Posting.{Posting, posting, screenedOf, decisionOf, toGuest, toSold, toPaid, toHouse}
-use Rattle.model.specs.contracts.Posts.{Posts}
+use Rattle.model.specs.contracts.EntryPoints.{Posts}
+use Rattle.model.proofs.contracts.Posts.{post-is-plain-step}
 use Rattle.model.proofs.book.Accounts.{length-raised, getD-raised}
 use Rattle.ledger.specs.Plans.{adding, roundBy, Planned}
 
@@ -319,7 +320,4 @@ module _ (p : Posting) (L : Book) where
       posts =
           let h = subst (λ v. Settled v r (p .round) (L .guests) (L .house) (L .last) s guests′ house′ last′) ruled-is
           t in
-          record {
-            answered = h .says;
-            left = left-by (answer B p) refl h;
-          }
+          post-is-plain-step L exit p _ .1 (h .says, left-by (answer B p) refl h)

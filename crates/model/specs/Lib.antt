@@ -1,6 +1,7 @@
 pub mod Counting
 pub mod Limits
 pub mod Numbers
+pub mod Promises
 pub mod Verdicts
 pub mod book
 pub mod cases

@@ -3,6 +3,7 @@ pub mod Efficient
 pub mod Meaning
 pub mod Places
 pub mod Postings
+pub mod Promises
 pub mod Reasons
 pub mod Sheets
 pub mod Truth

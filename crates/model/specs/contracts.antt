@@ -1,16 +1,5 @@
-pub mod Clears
-pub mod ClearsOut
-pub mod Explains
-pub mod ExplainsOut
+pub mod EntryPoints
 pub mod Lent
-pub mod PlacesBids
-pub mod PlacesBidsOut
-pub mod Posts
-pub mod PostsOut
 pub mod Prints
-pub mod Reads
-pub mod ReadsOut
 pub mod Rows
 pub mod Steps
-pub mod Writes
-pub mod WritesOut

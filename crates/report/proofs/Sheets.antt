@@ -9,7 +9,7 @@ use Rattle.model.specs.market.Market.{Tables, tables}
 use Rattle.sheet.specs.Wrote.{Wrote}
 use Rattle.model.specs.text.Text.{refusalText}
 use Rattle.model.specs.sheet.Content.{readSheet, tablesOf}
-use Rattle.model.specs.contracts.Reads.{lentTables}
+use Rattle.model.specs.sheet.Lent.{lentTables}
 use Rattle.model.proofs.contracts.Reads.{ReadTables}
 use Rattle.model.specs.text.MarketText.{pageOf}
 use Rattle.model.specs.contracts.Prints.{Prints}

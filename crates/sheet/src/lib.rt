@@ -18,8 +18,8 @@ use model::limits::MAX_STATIONS;
 use model::refusal::Refusal;
 ghost use mathlib.Core.Path.{_≡_};
 ghost use Rattle.model.specs.Verdicts.{_gives_};
-ghost use Rattle.model.specs.contracts.Reads.{tableLengths, Reads};
-ghost use Rattle.model.specs.contracts.Writes.{Writes};
+ghost use Rattle.model.specs.sheet.Lent.{tableLengths};
+ghost use Rattle.model.specs.contracts.EntryPoints.{Reads, Writes};
 ghost use Rattle.model.specs.contracts.Lent.{tablesIn, lentTablesIn, lentTablesOut};
 
 fn table_lengths_differ(

@@ -7,6 +7,7 @@
 
 use crate::StationAccount;
 
+// scripts/exports writes what follows from crates/bay_market/src
 #[rustfmt::skip] // pointer and length on one line
 unsafe extern "C" {
     pub fn bay_market_read(
@@ -97,3 +98,4 @@ unsafe extern "C" {
         house: *mut u64, last: *mut u32,
     ) -> u8;
 }
+// end of what scripts/exports writes

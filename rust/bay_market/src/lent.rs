@@ -13,7 +13,7 @@
 //! assert_eq!((stations, charges, sold, paid), ([1, 0], [24, 0], [3, 0], [18, 0]));
 //! ```
 
-use crate::{MAX_BIDS, MAX_GUESTS, MAX_STATIONS, Refusal, Rule, StationAccount, c};
+use crate::{MAX_BIDS, MAX_GUESTS, MAX_STATIONS, Refusal, Rule, StationAccount, slices};
 
 /// A market: n amounts and tickets, m asks, m bays, n rows of m bids (0: no bid); `width` is the length of a row.
 #[derive(Clone, Copy, Debug)]
@@ -113,22 +113,19 @@ impl<'a> Tables<'a> {
 }
 
 /// Reads a sheet into the first places of the tables.
-#[rustfmt::skip] // pointer and length on one line
 pub fn read(sheet: &[u8], tables: &mut Tables) -> Result<Counts, Refusal> {
     let mut counts = Counts { guests: 0, stations: 0 };
-    // SAFETY: every pointer and length is that of a live slice or number, and borrows keep the written ones apart.
-    // The order is the reader's: amounts, tickets, asks, bays, bids.
-    let answer = unsafe {
-        c::bay_market_read(
-            sheet.as_ptr(), sheet.len(),
-            tables.amounts.as_mut_ptr(), tables.amounts.len(),
-            tables.tickets.as_mut_ptr(), tables.tickets.len(),
-            tables.asks.as_mut_ptr(), tables.asks.len(),
-            tables.bays.as_mut_ptr(), tables.bays.len(),
-            tables.bids.as_mut_ptr(), tables.bids.len(),
-            &mut counts.guests, &mut counts.stations,
-        )
-    };
+    // the order is the reader's: amounts, tickets, asks, bays, bids
+    let answer = slices::read(
+        sheet,
+        tables.amounts,
+        tables.tickets,
+        tables.asks,
+        tables.bays,
+        tables.bids,
+        &mut counts.guests,
+        &mut counts.stations,
+    );
     Refusal::check(answer).map(|()| counts)
 }
 
@@ -146,22 +143,10 @@ pub fn read(sheet: &[u8], tables: &mut Tables) -> Result<Counts, Refusal> {
 /// assert_eq!(sheet[10..], [3, 0, 8, 0, 0, 0, 0, 4, 0, 7, 0, 0, 0, 1, 9, 0, 0, 0, 77, 77]);
 /// assert_eq!(write(&market, &mut sheet[..27]), Err(Refusal::OutputTooShort));
 /// ```
-#[rustfmt::skip] // pointer and length on one line
 pub fn write(market: &Market, sheet: &mut [u8]) -> Result<usize, Refusal> {
+    let Market { asks, bays, amounts, tickets, bids, width } = *market;
     let mut length = 0;
-    // SAFETY: as in `read`. The order is asks, bays, amounts, tickets, bids.
-    let answer = unsafe {
-        c::bay_market_write(
-            market.asks.as_ptr(), market.asks.len(),
-            market.bays.as_ptr(), market.bays.len(),
-            market.amounts.as_ptr(), market.amounts.len(),
-            market.tickets.as_ptr(), market.tickets.len(),
-            market.bids.as_ptr(), market.bids.len(),
-            market.width,
-            sheet.as_mut_ptr(), sheet.len(),
-            &mut length,
-        )
-    };
+    let answer = slices::write(asks, bays, amounts, tickets, bids, width, sheet, &mut length);
     Refusal::check(answer).map(|()| length)
 }
 
@@ -183,20 +168,9 @@ pub fn write(market: &Market, sheet: &mut [u8]) -> Result<usize, Refusal> {
 /// assert_eq!(place_bids(&places, &mut bids), Ok(()));
 /// assert_eq!(bids, [750, 858, 0]);
 /// ```
-#[rustfmt::skip] // pointer and length on one line
 pub fn place_bids(places: &Places, bids: &mut [u32]) -> Result<(), Refusal> {
-    // SAFETY: as in `read`. The order is prices, falls, guests' first and second coordinates, stations'.
-    Refusal::check(unsafe {
-        c::bay_market_place_bids(
-            places.prices.as_ptr(), places.prices.len(),
-            places.falls.as_ptr(), places.falls.len(),
-            places.guest_first.as_ptr(), places.guest_first.len(),
-            places.guest_second.as_ptr(), places.guest_second.len(),
-            places.station_first.as_ptr(), places.station_first.len(),
-            places.station_second.as_ptr(), places.station_second.len(),
-            bids.as_mut_ptr(), bids.len(),
-        )
-    })
+    let Places { prices, falls, guest_first, guest_second, station_first, station_second } = *places;
+    Refusal::check(slices::place_bids(prices, falls, guest_first, guest_second, station_first, station_second, bids))
 }
 
 /// Clears a market by a rule in a truthful round: no guest and no station gains by a false report.
@@ -228,30 +202,29 @@ enum Mechanism {
     Efficient,
 }
 
-#[rustfmt::skip] // pointer and length on one line
 fn clear_by(mechanism: Mechanism, rule: Rule, market: &Market, results: &mut Results) -> Result<Cleared, Refusal> {
+    let Market { asks, bays, amounts, tickets, bids, width } = *market;
+    let Results { stations, charges, sold, paid } = results;
     let mut cleared = Cleared { cut: 0, margin: 0 };
     let clear = match mechanism {
-        Mechanism::Truthful => c::bay_market_clear,
-        Mechanism::Efficient => c::bay_market_clear_efficient,
+        Mechanism::Truthful => slices::clear,
+        Mechanism::Efficient => slices::clear_efficient,
     };
-    // SAFETY: as in `write`.
-    let answer = unsafe {
-        clear(
-            rule.number(),
-            market.asks.as_ptr(), market.asks.len(),
-            market.bays.as_ptr(), market.bays.len(),
-            market.amounts.as_ptr(), market.amounts.len(),
-            market.tickets.as_ptr(), market.tickets.len(),
-            market.bids.as_ptr(), market.bids.len(),
-            market.width,
-            results.stations.as_mut_ptr(), results.stations.len(),
-            results.charges.as_mut_ptr(), results.charges.len(),
-            results.sold.as_mut_ptr(), results.sold.len(),
-            results.paid.as_mut_ptr(), results.paid.len(),
-            &mut cleared.cut, &mut cleared.margin,
-        )
-    };
+    let answer = clear(
+        rule.number(),
+        asks,
+        bays,
+        amounts,
+        tickets,
+        bids,
+        width,
+        stations,
+        charges,
+        sold,
+        paid,
+        &mut cleared.cut,
+        &mut cleared.margin,
+    );
     Refusal::check(answer).map(|()| cleared)
 }
 
@@ -273,42 +246,17 @@ fn clear_by(mechanism: Mechanism, rule: Rule, market: &Market, results: &mut Res
 /// let outcome = GuestOutcome::from_numbers(stations[0], charges[0], reasons[0]);
 /// assert_eq!(outcome, Some(GuestOutcome::Win { station: 1, charge: 24 }));
 /// ```
-#[rustfmt::skip] // pointer and length on one line
 pub fn explain(rule: Rule, market: &Market, explanation: &mut Explanation) -> Result<(), Refusal> {
-    // SAFETY: as in `write`.
-    Refusal::check(unsafe {
-        c::bay_market_explain(
-            rule.number(),
-            market.asks.as_ptr(), market.asks.len(),
-            market.bays.as_ptr(), market.bays.len(),
-            market.amounts.as_ptr(), market.amounts.len(),
-            market.tickets.as_ptr(), market.tickets.len(),
-            market.bids.as_ptr(), market.bids.len(),
-            market.width,
-            explanation.codes.as_mut_ptr(), explanation.codes.len(),
-            explanation.stations.as_mut_ptr(), explanation.stations.len(),
-            explanation.charges.as_mut_ptr(), explanation.charges.len(),
-            explanation.reasons.as_mut_ptr(), explanation.reasons.len(),
-        )
-    })
+    let Market { asks, bays, amounts, tickets, bids, width } = *market;
+    let Explanation { codes, stations, charges, reasons } = explanation;
+    let rule = rule.number();
+    Refusal::check(slices::explain(rule, asks, bays, amounts, tickets, bids, width, codes, stations, charges, reasons))
 }
 
 /// Clears a market by a rule as [`clear`] does and posts it to the ledger as a round.
-#[rustfmt::skip] // pointer and length on one line
 pub fn post(rule: Rule, market: &Market, round: u32, ledger: &mut Ledger) -> Result<(), Refusal> {
-    // SAFETY: as in `write`; StationAccount has the header's layout.
-    Refusal::check(unsafe {
-        c::bay_market_post(
-            rule.number(),
-            market.asks.as_ptr(), market.asks.len(),
-            market.bays.as_ptr(), market.bays.len(),
-            market.amounts.as_ptr(), market.amounts.len(),
-            market.tickets.as_ptr(), market.tickets.len(),
-            market.bids.as_ptr(), market.bids.len(),
-            market.width, round,
-            ledger.guests.as_mut_ptr(), ledger.guests.len(),
-            ledger.stations.as_mut_ptr(), ledger.stations.len(),
-            ledger.house, ledger.last,
-        )
-    })
+    let Market { asks, bays, amounts, tickets, bids, width } = *market;
+    let Ledger { guests, stations, house, last } = ledger;
+    let rule = rule.number();
+    Refusal::check(slices::post(rule, asks, bays, amounts, tickets, bids, width, round, guests, stations, house, last))
 }

@@ -26,6 +26,8 @@ mod decided;
 pub mod lent;
 mod owned;
 mod refusal;
+#[rustfmt::skip] // pointer and length on one line
+mod slices;
 
 pub use decided::{Code, GuestOutcome, Reason};
 pub use owned::{Cell, Clearing, Explanation, Ledger, Market, Places};

@@ -1,9 +1,9 @@
-//! The C header agrees with the Rust declarations: functions with their parameters, the account's fields, limits, version.
+//! The C header agrees with the Rust crate: the account's fields, limits, version. scripts/exports writes the functions of
+//! both.
 
 use std::collections::BTreeMap;
 
 const HEADER: &str = include_str!("../../../include/bay_market.h");
-const DECLARATIONS: &str = include_str!("../../bay_market/src/c.rs");
 
 /// Text without comments.
 fn bare(text: &str) -> String {
@@ -18,63 +18,13 @@ fn bare(text: &str) -> String {
     bare.lines().map(|line| line.split("//").next().unwrap_or("")).collect::<Vec<_>>().join("\n")
 }
 
-/// A C declaration `const uint32_t *asks` as Rust has it: `asks: *const u32`.
-fn in_rust(declaration: &str) -> String {
-    let words: Vec<&str> = declaration.split_whitespace().collect();
-    let (name, types) = words.split_last().expect("a name");
-    let types: Vec<&str> = types.iter().copied().filter(|word| *word != "struct").collect();
-    let (constant, base) = match types[..] {
-        ["const", base] => ("const", base),
-        [base] => ("mut", base),
-        _ => panic!("not read: {declaration}"),
-    };
-    let base = match base {
-        "uint8_t" => "u8",
-        "uint16_t" => "u16",
-        "uint32_t" => "u32",
-        "uint64_t" => "u64",
-        "size_t" => "usize",
-        "bay_market_station_account" => "StationAccount",
-        _ => panic!("not read: {declaration}"),
-    };
-    match name.strip_prefix('*') {
-        Some(name) => format!("{name}: *{constant} {base}"),
-        None => format!("{name}: {base}"),
-    }
-}
-
-/// Each function's parameters and result, by its name, of text in which `open` stands before a name.
-fn functions(text: &str, open: &str, close: &str, parameter: fn(&str) -> String) -> BTreeMap<String, Vec<String>> {
-    text.match_indices(open)
-        .map(|(start, _)| {
-            let (name, rest) = text[start + open.len()..].split_once('(').expect("parameters");
-            let (parameters, _) = rest.split_once(close).expect("the end of a function");
-            let parameters = parameters.split(',').map(str::trim).filter(|text| !text.is_empty());
-            (name.to_string(), parameters.map(parameter).collect())
-        })
-        .collect()
-}
-
-#[test]
-fn the_functions_agree() {
-    let header = bare(HEADER);
-    let in_header = functions(&header[header.find("struct bay_market").unwrap()..], "\nuint8_t ", ");", in_rust);
-    let declared =
-        functions(&bare(DECLARATIONS), "pub fn ", ") -> u8;", |text| text.split_whitespace().collect::<Vec<_>>().join(" "));
-    let names = ["clear", "clear_efficient", "explain", "place_bids", "post", "read", "write"];
-    let names = names.map(|name| format!("bay_market_{name}"));
-    assert_eq!(in_header.keys().collect::<Vec<_>>(), names.iter().collect::<Vec<_>>());
-    assert_eq!(in_header["bay_market_clear_efficient"], in_header["bay_market_clear"]);
-    assert_eq!(in_header, declared);
-}
-
 #[test]
 fn the_account_agrees() {
     let header = bare(HEADER);
     let (_, rest) = header.split_once("struct bay_market_station_account {").expect("the account");
     let (fields, _) = rest.split_once('}').expect("its end");
-    let fields: Vec<String> = fields.split(';').map(str::trim).filter(|field| !field.is_empty()).map(in_rust).collect();
-    assert_eq!(fields, ["sold: u64", "paid: u64"]);
+    let fields: Vec<&str> = fields.split(';').map(str::trim).filter(|field| !field.is_empty()).collect();
+    assert_eq!(fields, ["uint64_t sold", "uint64_t paid"]);
     assert_eq!(std::mem::offset_of!(bay_market::StationAccount, sold), 0);
     assert_eq!(std::mem::offset_of!(bay_market::StationAccount, paid), 8);
     assert_eq!(size_of::<bay_market::StationAccount>(), 16);

@@ -12,7 +12,6 @@ LENT = [GUESTS, STATIONS, HOUSE, LAST]
 FUNCTION = Function('bay_market', 'post.bay_market_post', 9, [RULE, *SLICES, WIDTH, ROUND, *LENT],
                     [POST, NUMBER], naming=each, uses='''\
 Rattle.model.specs.Verdicts: numberOf
-Rattle.model.specs.Verdicts as answers
 Rattle.model.specs.market.Market: tables
 Rattle.model.specs.Numbers: answerOfVerdict
 Rattle.model.specs.declared.answers.Verdict: Verdict
@@ -22,8 +21,8 @@ Rattle.model.specs.declared.account.StationAccount: StationAccount
 Rattle.model.proofs.account.StationAccount as T
 Rattle.model.specs.book.Posting: Posting posting
 Rattle.model.specs.book.Book: Book book
-Rattle.model.specs.contracts.Posts: Posts
-Rattle.model.specs.contracts.PostsOut: PostsOut
+Rattle.model.specs.contracts.EntryPoints: Posts
+Rattle.bay_market.proofs.Told: replied
 ''')
 LASTS = lasts(FUNCTION.parameters, 'ls')
 LEFT = [p.name for p in LENT]
@@ -50,7 +49,7 @@ def goes_number():
 
 
 def exits():
-    w = Walk('tokens', 'Market', *LEFT, 'number').step('says ! (posted-out said e)').frame()
+    w = Walk('tokens', 'Market', *LEFT, 'number').step('says ! (replied said e)').frame()
     w.chain('Market', *(p.name for p in SLICES)).move('bids').nothing('owns')
     for p in reversed(FUNCTION.parameters):
         w.add(p.name, *(p.made() if p in (RULE, WIDTH, ROUND) else ()))
@@ -91,11 +90,6 @@ def proof():
 
 
 TEMPLATE = '''
-posted-out :
-    {entry exit : Book} {p : Posting} {v : answers.Verdict} {k : ℕ} → Posts entry p v exit → k ≡ numberOf v
-    → PostsOut entry p exit k
-posted-out said e = record { number-is = e ∙ ap numberOf (said .answered); left = said .left }
-
 «book»
 «stayed»
 «contracts»

@@ -78,7 +78,7 @@ def walk():
     w.given('tokens', 'result').show().learn('peeks', 'S.the-row', 'a′', 'u', 'is′')
     w.land('_0', 'EL.lawful S.the-type S′.the-laws 𝓤 H A W tt .typed a′ _ is′ .0').leave()
     w.keep('tokens', *(p.name for p in RESULTS), 'result', 'Kept')
-    return w.end(f'by ! (exits fits a′ u {LISTS} (of-view r e said) {LENGTHS})')
+    return w.end(f'by ! (exits fits a′ u {LISTS} (of-view r e a′ said) {LENGTHS})')
 
 
 def proof():
@@ -217,9 +217,9 @@ val x = sliceVal (x .ptr) (length (x .now))
       (results (now stations) (now charges) (now sold) (now paid)) a′ (results «LASTS»)
 
   of-view :
-      (r : BidTable) → Made r → {a′ : Clearing} {«LASTS» : List ℕ}
+      (r : BidTable) → Made r → (a′ : Clearing) {«LASTS» : List ℕ}
       → Said (r .bids) (r .width) a′ «LASTS» → Said bids width a′ «LASTS»
-  of-view r (e, q) {a′} {stations′} {charges′} {sold′} {paid′} said =
+  of-view r (e, q) a′ {stations′} {charges′} {sold′} {paid′} said =
       subst (λ w. Said bids w a′ «LASTS») q
       (subst (λ x. Said x (r .width) a′ «LASTS») e said)
 

@@ -11,13 +11,13 @@ abbrev known-before-clear : tie.After-clear-under → tie.After-known
 known-before-clear p = p .before .before .before .before .before .before
 
 returns : tie.Need-returns
-returns c = unknown-clears _ _ _ (sym (c .enum-told .given .1) ∙ c .before .before .named .ensures)
+returns c = unknown-clears _ _ _ _ (sym (c .enum-told .given .1) ∙ c .before .before .named .ensures)
 
 returns-2 : tie.Need-returns-2
 returns-2 c =
     let at-clear = clear-before-end c in
     let at-known = known-before-clear at-clear in
-    known-clears _ _ _ _ (sym (at-known .known .given .1) ∙ at-known .before .before .named .ensures)
+    known-clears _ _ _ _ _ _ (sym (at-known .known .given .1) ∙ at-known .before .before .named .ensures)
     (at-clear .clear-under .ensures)
 
 pub clear-by-spec : {M : Type 1} → statement M

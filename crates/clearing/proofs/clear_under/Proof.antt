@@ -14,7 +14,7 @@ clear-accepted-requires c κs =
 
 returns : tie.Need-returns
 returns c =
-    refused-clears _ _ _ (told (c .before .verdict .given .1) (c .before .before .before .clearing-fault .ensures))
+    refused-clears _ _ _ _ (told (c .before .verdict .given .1) (c .before .before .before .clearing-fault .ensures))
 
 returns-2 : tie.Need-returns-2
 returns-2 c =

@@ -1,12 +1,14 @@
 -- Nothing is written before the last check.
-use mathlib.Core.Path.{_≡_, sym}
+use mathlib.Core.Path.{_≡_, refl, sym}
+use lib.ListN.{length}
 use borrow.Author.Needs.{needs}
 use Rattle.model.specs.Numbers.{answerOfVerdict}
-use Rattle.model.specs.Verdicts.{accepted}
+use Rattle.model.specs.Verdicts.{accepted, firstFault}
 use Rattle.model.specs.places.Bids.{Places, places}
-use Rattle.model.specs.contracts.PlacesBids.{placingVerdict}
+use Rattle.model.specs.contracts.EntryPoints.{placing}
+use Rattle.model.specs.places.Faults.{placingFaults}
 use Rattle.model.proofs.Verdicts.{told}
-use Rattle.model.proofs.contracts.PlacesBids.{refuses-places, places-bids}
+use Rattle.model.proofs.Promises.{keeps-accepted, keeps-refused}
 use Rattle.model.proofs.places.Acceptance.{placing-accepted-iff-within-limits}
 use Rattle.grid.proofs.place_bids.Statement.{statement}
 use Rattle.grid.proofs.place_bids.Tie as tie
@@ -21,24 +23,24 @@ placesAt c =
 
 is-accepted : (c : tie.After-enum-told) →
     let entry = entry-before-fault (c .before .before) in
-    placingVerdict (placesAt entry) (entry .args .bids .now) ≡ accepted tt
-unfolding placingVerdict answerOfVerdict
+    firstFault (placingFaults (placesAt entry) (length (entry .args .bids .now))) ≡ accepted tt
+unfolding answerOfVerdict
 is-accepted c = sym (told (c .enum-told .given .1) (c .before .before .placing-fault .ensures))
 
 place-rows-requires : tie.Need-place-rows-requires
-unfolding placingVerdict
 place-rows-requires c κs = placing-accepted-iff-within-limits _ _ .0 (is-accepted (c .before))
 
 returns : tie.Need-returns
-unfolding placingVerdict answerOfVerdict
+unfolding placing answerOfVerdict
 returns c =
     let at-fault = c .before .before .before in
-    refuses-places _ _ _ (sym (told (c .before .refusal .given .1) (at-fault .placing-fault .ensures)))
+    keeps-refused (sym (told (c .before .refusal .given .1) (at-fault .placing-fault .ensures)))
 
 returns-2 : tie.Need-returns-2
+unfolding placing answerOfVerdict
 returns-2 c =
     let at-rows = c .before .before in
-    places-bids _ _ _ (is-accepted (at-rows .before .before)) (at-rows .place-rows .ensures)
+    keeps-accepted (is-accepted (at-rows .before .before)) refl (at-rows .place-rows .ensures)
 
 pub place-bids-spec : {M : Type 1} → statement M
 place-bids-spec =

@@ -31,7 +31,7 @@ use Rattle.ledger.specs.Rounds.{posted, refusing}
 use Rattle.model.specs.declared.answers.Verdict.the-variants as verdicts
 use Rattle.ledger.specs.declared.round.Round.{Round}
 use Rattle.model.specs.book.Posting.{posting, toGuest, toSold, toPaid, toHouse}
-use Rattle.model.specs.contracts.Clears.{ClearsUnder}
+use Rattle.model.specs.contracts.EntryPoints.{ClearsUnder}
 use Rattle.model.specs.declared.answers.Clearing.{Clearing}
 use Rattle.model.specs.declared.answers.Clearing.the-variants as clearing
 use Rattle.model.specs.declared.money.UnitPrice.{UnitPrice}
@@ -135,7 +135,7 @@ module _ (rule : Rule) (k : ℕ) (e : named k ≡ Known rule) (asks bays amounts
     by-number = subst (λ q. ClearsUnder (outcome q) t entry answer exit) rule-is c
 
     pub clear-refuses : (x : Refusal) (r : Round) → answer ≡ clearing.Refused x → r ≡ refusing x → Planned k t r
-    clear-refuses x r q p = refused-plan x r p (clear-refused t entry exit answer c l x q)
+    clear-refuses x r q p = refused-plan x r p (clear-refused _ t entry exit answer c l x q)
 
     pub clear-posts :
         (price : UnitPrice) (m : Mills) (r : Round) → length amounts ≤ maxGuests → length asks ≤ maxStations
@@ -147,7 +147,7 @@ module _ (rule : Rule) (k : ℕ) (e : named k ≡ Known rule) (asks bays amounts
         → Planned k t r
     unfolding answerOfVerdict roundBy posted
     clear-posts price m r n s q p =
-        let d = clear-cleared t entry exit answer by-number l price m q in
+        let d = clear-cleared _ t entry exit answer by-number l price m q in
         let x = d .results-are in
         let full = p ∙ full-round (exit .charges) (exit .sold) (exit .paid) (m .0) n s (d .margin-is)
         (ap (λ r. r .charges) x) (ap (λ r. r .sold) x) (ap (λ r. r .paid) x) in

@@ -28,7 +28,7 @@ use Rattle.model.specs.sheet.Shortest.{bidden, shortest, writingFaults}
 use Rattle.model.specs.places.Bids.{difference, squaredDistance, walk, bidBetween, guestCell, stationCell}
 use Rattle.model.specs.places.Bids.{placedBid, placedBids}
 use Rattle.model.specs.places.Faults.{placeLengths, placeValues, placingFaults}
-use Rattle.model.specs.contracts.Reads.{tableLengths, readVerdict}
+use Rattle.model.specs.sheet.Lent.{tableLengths, readingFaults}
 use Rattle.model.specs.text.Decimal.{higher, digits, decimal, field}
 use Rattle.model.specs.text.Lines.{guestLine, stationLine, guestLines, stationLines}
 use Rattle.model.specs.text.Text.{text, refusalText}
@@ -58,7 +58,7 @@ posting-computes = tt
 
 unfoldable pub reading-computes : Unit {0}
 unfolding counting-computes counts littleEndian mapWidth hasBit mapAt bidsAt nextAt rowAt askOf baysOf amountOf ticketOf
-    bidBy bidOf rowFaults rowsFaults guests stations tablesOf sheetFaults readSheet tableLengths readVerdict
+    bidBy bidOf rowFaults rowsFaults guests stations tablesOf sheetFaults readSheet tableLengths readingFaults
 reading-computes = tt
 
 unfoldable pub writing-computes : Unit {0}

@@ -7,7 +7,7 @@ use Rattle.model.specs.book.PlainBook.{emptyPlain, answers, final}
 use Rattle.model.specs.cases.Cases.{pair, caseE, six, sixFirst}
 use Rattle.model.specs.book.Book.{account, Book, book, emptyBook, plain}
 use Rattle.model.specs.book.Posting.{Posting, posting}
-use Rattle.model.specs.contracts.Posts.{Posts}
+use Rattle.model.specs.contracts.EntryPoints.{entering, Posts}
 use Rattle.model.specs.claims.Postings.{none, call, ExampleIsPosted, ExampleEndsSo, BothRulesArePosted}
 use Rattle.model.proofs.cases.Computing.{posting-computes}
 use Rattle.model.proofs.claims.Postings.{from-empty}
@@ -27,11 +27,11 @@ unfolding posting-computes pair caseE
 plain-twice = (refl, refl)
 
 posted-once : Posts (emptyBook 2 2) (posting 1 caseE 1) (accepted tt) once
-unfolding posting-computes pair caseE
+unfolding posting-computes entering pair caseE
 posted-once = record { answered = refl; left = refl }
 
 refused-again : Posts once (posting 1 caseE 1) (refused 11) once
-unfolding posting-computes pair caseE
+unfolding posting-computes entering pair caseE
 refused-again = record { answered = refl; left = refl }
 
 pub example-is-posted : ExampleIsPosted
@@ -49,15 +49,15 @@ sixBook charged sold paid last =
     last
 
 by-rule-1 : Posts (emptyBook 1 6) (posting 1 sixFirst 1) (accepted tt) (sixBook 4 1 4 1)
-unfolding posting-computes six sixFirst
+unfolding posting-computes entering six sixFirst
 by-rule-1 = record { answered = refl; left = refl }
 
 by-rule-2 : Posts (sixBook 4 1 4 1) (posting 2 sixFirst 2) (accepted tt) (sixBook 9 2 9 2)
-unfolding posting-computes six sixFirst
+unfolding posting-computes entering six sixFirst
 by-rule-2 = record { answered = refl; left = refl }
 
 by-no-rule : Posts (sixBook 9 2 9 2) (posting 3 sixFirst 3) (refused 18) (sixBook 9 2 9 2)
-unfolding posting-computes six sixFirst
+unfolding posting-computes entering six sixFirst
 by-no-rule = record { answered = refl; left = refl }
 
 pub both-rules-are-posted : BothRulesArePosted

@@ -4,7 +4,7 @@ use mathlib.Core.Path.{refl}
 use native.Mathlib.Omega.{arith}
 use Rattle.model.specs.Numbers.{answerOfVerdict}
 use Rattle.model.specs.market.Faults.{Accepted as AcceptedMarket}
-use Rattle.model.specs.contracts.PlacesBids.{placingVerdict}
+use Rattle.model.specs.contracts.EntryPoints.{placing}
 use Rattle.model.specs.claims.Places.{Placed, withoutBids}
 use Rattle.model.specs.declared.answers.Verdict.the-variants.{Accepted}
 use Rattle.model.specs.cases.Places.{DistancesHold, WalksHold, BidsHold, twoByTwo, PlacedBidsHold, placedMarket}
@@ -33,7 +33,7 @@ unfolding clearing-computes placing-computes twoByTwo placedMarket
 placed-market-clears = refl
 
 bids-were-placed : Placed twoByTwo (placedMarket .bids)
-unfolding placing-computes answerOfVerdict placingVerdict twoByTwo placedMarket
+unfolding placing-computes answerOfVerdict placing twoByTwo placedMarket
 bids-were-placed = record {
   entry = 9 ∷ 9 ∷ 9 ∷ 9 ∷ [];
   answer = Accepted;

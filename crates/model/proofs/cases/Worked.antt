@@ -12,7 +12,7 @@ use Rattle.model.specs.market.Mechanism.{at}
 use Rattle.model.specs.market.Outcome.{Results, Outcome, results}
 use Rattle.model.specs.claims.Truth.{AlikeButForGuest, AlikeButForStation}
 use Rattle.model.specs.declared.rule.Rule.{Rule}
-use Rattle.model.specs.contracts.Clears.{ClearsBy}
+use Rattle.model.specs.contracts.EntryPoints.{clearing, ClearsBy}
 use Rattle.model.specs.Numbers.{answerOfClearing}
 use Rattle.model.specs.declared.answers.Clearing.{Clearing}
 use Rattle.model.specs.claims.Calls.{ClearedCallBy, ClearedCall, EfficientCall, guestGainIn, stationGainIn}
@@ -57,7 +57,7 @@ called t cut margin exit c =
     }
 
 pub calls : ClearedCall 1 honest × ClearedCall 1 overbid × ClearedCall 1 overask
-unfolding clearing-computes
+unfolding clearing-computes clearing
 calls = (
   called honest 6 2 (results (1 ∷ 0 ∷ []) (20 ∷ 0 ∷ []) (3 ∷ 0 ∷ []) (18 ∷ 0 ∷ []))
       (record { answered = refl; left = refl }),
@@ -111,7 +111,7 @@ limits-worked = call-limits 1 honest (calls .0)
 
 -- the same of calls of `clear_efficient`
 pub efficient-calls : EfficientCall 1 honest × EfficientCall 1 overask
-unfolding efficient-computes
+unfolding efficient-computes clearing
 efficient-calls = (
   called honest 6 2 (results (1 ∷ 0 ∷ []) (20 ∷ 0 ∷ []) (3 ∷ 0 ∷ []) (18 ∷ 0 ∷ []))
       (record { answered = refl; left = refl }),

@@ -5,14 +5,14 @@ use native.Mathlib.Omega.{arith}
 use lib.IntN.{subℕ}
 use lib.ListN.{getD, length}
 use Rattle.model.specs.Counting.{_=?_, only, sum}
-use Rattle.model.specs.Verdicts.{accepted, firstFault}
-use Rattle.model.proofs.Verdicts.{gave-accepted, gave-refused, updated-accepted, updated-refused}
+use Rattle.model.specs.contracts.EntryPoints.{clearing}
+use Rattle.model.proofs.Promises.{was-accepted}
 use Rattle.model.specs.market.Market.{Tables, bidAt, marketBy, market, Screened, screen}
 use Rattle.model.specs.market.Mechanism.{Decision, at, charged, obtained, served, sold, paid, margin, truthful}
 use Rattle.model.specs.market.Efficient.{efficient}
 use Rattle.model.specs.market.Outcome.{Outcome, outcomeBy, screened, decision, outcome, efficientDecision}
 use Rattle.model.specs.market.Outcome.{efficientOutcome}
-use Rattle.model.specs.market.Faults.{Accepted, clearingFaults}
+use Rattle.model.specs.market.Faults.{Accepted}
 use Rattle.model.specs.declared.rule.Rule.{Rule}
 use Rattle.model.specs.market.Rules.{position, ruleOf}
 use Rattle.model.specs.market.Gains.{guestGain, stationGain}
@@ -21,14 +21,10 @@ use Rattle.model.proofs.Counting.{sum-cong, count-cong, getD-list}
 use Rattle.model.proofs.market.Acceptance.{accepted-iff-within-limits}
 use Rattle.model.proofs.claims.Truth.{guest-truthful-under, station-truthful-under, clearing-limits}
 use Rattle.model.proofs.claims.Efficient.{efficient-station-truthful-under, efficient-limits}
-use Rattle.model.specs.claims.Calls.{RefusedLeaves, ClearedCallBy, guestGainIn, stationGainIn, GuestTruthfulCalls}
+use Rattle.model.specs.claims.Calls.{ClearedCallBy, guestGainIn, stationGainIn, GuestTruthfulCalls}
 use Rattle.model.specs.claims.Calls.{StationTruthfulCallsBy, StationTruthfulCalls, EfficientStationTruthfulCalls}
 use Rattle.model.specs.claims.Calls.{CallWithin, CallLimits, EfficientCallLimits}
 use Rattle.model.proofs.contracts.Accepts.{accepted-call}
-
-pub refused-leaves : RefusedLeaves
-refused-leaves made rule t entry exit answer k e c =
-    c .left ∙ updated-refused _ _ k (gave-refused _ _ k (sym (c .answered) ∙ e))
 
 -- a call that clears by a mechanism
 module _ {made : Rule → Tables → Outcome} (mechanism : Screened → Decision)
@@ -37,23 +33,19 @@ module _ {made : Rule → Tables → Outcome} (mechanism : Screened → Decision
   abbrev D : Decision
   D = mechanism (screened (ruleOf rule) t)
 
-  told :
-      (firstFault (clearingFaults rule t (k .entry)) ≡ accepted tt)
-      × (_≡_ {A = ℕ × ℕ} ((made (ruleOf rule) t) .cut, (made (ruleOf rule) t) .margin) (k .cut, k .margin))
-  told = gave-accepted _ _ _ (sym (k .call .answered) ∙ k .cleared)
-
-  no-fault : firstFault (clearingFaults rule t (k .entry)) ≡ accepted tt
-  no-fault = told .0
-
   is-accepted : Accepted t
-  is-accepted = accepted-iff-within-limits t .1 (accepted-call rule t (k .entry) no-fault .within)
+  unfolding clearing
+  is-accepted = accepted-iff-within-limits t .1
+      (accepted-call rule t (k .entry) (was-accepted (k .call) (k .cleared) .0) .within)
 
   leaves : k .exit ≡ (outcomeBy (screened (ruleOf rule) t) D) .results
-  leaves = k .call .left ∙ updated-accepted _ _ no-fault ∙ ap (λ o. o .results) (made-by (ruleOf rule) t)
+  unfolding clearing
+  leaves = was-accepted (k .call) (k .cleared) .2 ∙ ap (λ o. o .results) (made-by (ruleOf rule) t)
 
   margin-is : k .margin ≡ margin (screened (ruleOf rule) t) D
-  unfolding outcomeBy
-  margin-is = sym (ap (λ p. p .1) (told .1)) ∙ ap (λ o. o .margin) (made-by (ruleOf rule) t)
+  unfolding clearing outcomeBy
+  margin-is =
+      sym (ap (λ p. p .1) (was-accepted (k .call) (k .cleared) .1)) ∙ ap (λ o. o .margin) (made-by (ruleOf rule) t)
 
   station-of : (i : ℕ) → i < length (t .amounts) → getD (k .exit .stations) i 0 ≡ D .assigned i
   unfolding outcomeBy screened screen market marketBy

@@ -12,6 +12,7 @@ use Rattle.model.proofs.book.Records.{length-sold, length-paid}
 use Rattle.model.specs.book.Posting.{Posting}
 use Rattle.model.specs.claims.Postings.{PostedInTurn, none, call, PostedInTurnExists}
 use Rattle.model.proofs.book.Accounts.{length-raised}
+use Rattle.model.proofs.contracts.Posts.{post-is-plain-step}
 
 records : (sold paid : List ℕ) → List StationAccount
 records [] ys = []
@@ -70,8 +71,8 @@ calls-from B (p ∷ ps) =
     let (vs, C, c) = calls-from (listLengths (after (plain B) p)) ps in (
       answer (plain B) p ∷ vs,
       C,
-      call (record { answered = refl; left = plain-lent (after (plain B) p) (even-after (plain B) p (even-plain B)) })
-          c,
+      call (post-is-plain-step _ _ _ _ .1
+          (refl, plain-lent (after (plain B) p) (even-after (plain B) p (even-plain B)))) c,
     )
 
 pub posted-in-turn-exists : PostedInTurnExists

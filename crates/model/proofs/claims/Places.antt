@@ -11,11 +11,11 @@ use Rattle.model.specs.market.Market.{Tables, tables, bidAt}
 use Rattle.model.specs.market.Faults.{Accepted}
 use Rattle.model.specs.places.Bids.{squaredDistance, bidBetween, Places, guestsPlaced, stationsPlaced}
 use Rattle.model.specs.places.Bids.{placedBid, placedBids}
-use Rattle.model.specs.contracts.PlacesBids.{placingVerdict}
+use Rattle.model.specs.contracts.EntryPoints.{placing}
 use Rattle.model.specs.claims.Places.{NearerNeverLowers, PlacesWithinLimits, Placed, PlacedBidsAreRead}
 use Rattle.model.specs.claims.Places.{PlacedWithinPrice, PlacedNearerNeverLowers, withoutBids}
 use Rattle.model.specs.claims.Places.{PlacedMarketAccepted}
-use Rattle.model.proofs.Verdicts.{updated-accepted}
+use Rattle.model.proofs.Promises.{was-accepted}
 use Rattle.model.proofs.market.Acceptance.{accepted-iff-within-limits}
 use Rattle.model.proofs.sheet.Joined.{joined-length, getD-joined}
 use Rattle.model.proofs.places.Acceptance.{placing-accepted-iff-within-limits}
@@ -55,15 +55,13 @@ exchanged t bids long low a =
 -- ---- what an accepted call left
 
 module _ (p : Places) (bids : List ℕ) (c : Placed p bids) where
-  found : placingVerdict p (c .entry) ≡ accepted tt
-  found = sym (c .called .answered) ∙ c .accepts
-
   limits : PlacesWithinLimits p (length (c .entry))
-  unfolding placingVerdict
-  limits = placing-accepted-iff-within-limits p (length (c .entry)) .0 found
+  unfolding placing
+  limits = placing-accepted-iff-within-limits p (length (c .entry)) .0 (was-accepted (c .called) (c .accepts) .0)
 
   bids-are : bids ≡ placedBids p
-  bids-are = c .called .left ∙ updated-accepted _ _ found
+  unfolding placing
+  bids-are = was-accepted (c .called) (c .accepts) .2
 
   bids-long : length bids ≡ guestsPlaced p * stationsPlaced p
   unfolding placedBids

@@ -19,6 +19,7 @@ use Rattle.model.specs.book.Book.{Book, emptyBook, plain}
 use Rattle.model.specs.claims.Postings.{PostedInTurn, none, call, WellKept, BooksAreWellKept}
 use Rattle.model.proofs.book.Accounts.{length-raised, getD-raised, sum-all-raised, sum-all-zeros}
 use Rattle.model.proofs.book.Book.{plain-empty}
+use Rattle.model.proofs.contracts.Posts.{post-is-plain-step}
 
 -- what a posted round's acceptance says
 abbrev Fits : PlainBook → Posting → Type 0
@@ -145,8 +146,9 @@ as-plain :
 unfolding answers final
 as-plain none = (refl, refl)
 as-plain (call {ps = ps} h c) =
+    let (e, l) = post-is-plain-step _ _ _ _ .0 h in
     let i = as-plain c in
-    (ap₂ _∷_ (h .answered) (i .0 ∙ ap (λ b. answers b ps) (h .left)), i .1 ∙ ap (λ b. final b ps) (h .left))
+    (ap₂ _∷_ e (i .0 ∙ ap (λ b. answers b ps) l), i .1 ∙ ap (λ b. final b ps) l)
 
 pub from-empty :
     (g s : ℕ) (ps : List Posting) {vs : List Verdict} {B : Book} → PostedInTurn (emptyBook g s) ps vs B

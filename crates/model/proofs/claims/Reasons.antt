@@ -15,13 +15,12 @@ use Rattle.model.specs.market.Mechanism.{at, charge, charged}
 use Rattle.model.specs.market.Outcome.{outcomeBy, screened, decision, outcome}
 use Rattle.model.specs.market.Faults.{Accepted, unknownRule, verdict, marketFaults, counts, lengths}
 use Rattle.model.specs.market.Faults.{explainedLengths, explainedFaults, explainingFaults}
-use Rattle.model.specs.market.Reasons.{code, codes, highestCode, told, loss, guestOutcomes}
+use Rattle.model.specs.market.Reasons.{code, codes, highestCode, told, loss, guestOutcomes, shown}
 use Rattle.model.specs.market.Rules.{ruleOf}
 use Rattle.model.specs.claims.Calls.{ClearedCall}
 use Rattle.model.specs.claims.Reasons.{CodeTells, CodesTellFacts, OutcomesTellWinsAndLosses, ToldDetermines}
 use Rattle.model.specs.claims.Reasons.{ExplainingWithinLimits, ExplainingAcceptedIffWithinLimits, ExplainedCall}
 use Rattle.model.specs.claims.Reasons.{codeIn, outcomeIn, CodesTellFactsCalls, ExplainTellsClear}
-use Rattle.model.specs.contracts.Explains.{explainingVerdict}
 use Rattle.model.specs.declared.money.Mills.{Mills}
 use Rattle.model.specs.declared.rule.Rule.{Rule}
 use Rattle.model.specs.declared.reason.Reason.{Reason}
@@ -31,7 +30,9 @@ use Rattle.model.specs.declared.reason.GuestResult.the-variants.{Win, Lo
 use Rattle.model.specs.declared.reason.GuestOutcome.{GuestOutcome}
 use Rattle.model.proofs.Tests.{or-no, neither, lt-or-le}
 use Rattle.model.proofs.Counting.{any-no, none-any, greatest-cong, getD-list}
-use Rattle.model.proofs.Verdicts.{no-fault, fault-free, updated-accepted, gave-accepted}
+use Rattle.model.proofs.Promises.{was-accepted}
+use Rattle.model.proofs.Verdicts.{no-fault, fault-free}
+use Rattle.model.specs.contracts.EntryPoints.{clearing, explaining}
 use Rattle.model.proofs.market.Acceptance.{equal, not-unequal, known, is-known, accepted-iff-within-limits}
 use Rattle.model.proofs.market.Reasons.{code-tells, loss-most, loss-is, lost-unassigned, highest-least}
 use Rattle.model.proofs.sheet.Joined.{getD-joined}
@@ -215,18 +216,17 @@ explaining-accepted-iff-within-limits rule t codes outcomes =
 -- ---- over calls
 
 module _ (rule : ℕ) (t : Tables) (e : ExplainedCall rule t) where
-  no-fault-here : explainingVerdict rule t (e .entry) ≡ accepted tt
-  no-fault-here = sym (e .call .answered) ∙ e .explained
-
   here : Accepted t
-  unfolding explainingVerdict
-  here = explaining-within rule t _ _ no-fault-here .market-accepted
+  unfolding explaining
+  here = explaining-within rule t _ _ (was-accepted (e .call) (e .explained) .0) .market-accepted
 
   codes-here : e .exit .codes ≡ codes (ruleOf rule) t
-  codes-here = e .call .codes-left ∙ updated-accepted _ _ no-fault-here
+  unfolding explaining shown
+  codes-here = ap (λ s. s .codes) (was-accepted (e .call) (e .explained) .2)
 
   outcomes-here : told (e .exit .outcomes) ≡ guestOutcomes (ruleOf rule) t
-  outcomes-here = e .call .outcomes-left ∙ updated-accepted _ _ no-fault-here
+  unfolding explaining shown
+  outcomes-here = ap (λ s. s .outcomes) (was-accepted (e .call) (e .explained) .2)
 
   code-here :
       (i j : ℕ) → i < length (t .amounts) → j < length (t .asks)
@@ -277,7 +277,8 @@ module _ {S C L G : ℕ} (lost : S ≡ 0 → (L ≡ G) × (1 ≤ L)) where
 module _ (rule : ℕ) (t : Tables) (e : ExplainedCall rule t) (k : ClearedCall rule t) (i : ℕ)
     (li : i < length (t .amounts)) where
   left : k .exit ≡ (outcome (ruleOf rule) t) .results
-  left = k .call .left ∙ updated-accepted _ _ (gave-accepted _ _ _ (sym (k .call .answered) ∙ k .cleared) .0)
+  unfolding clearing
+  left = was-accepted (k .call) (k .cleared) .2
 
   station-same : getD (k .exit .stations) i 0 ≡ stationOf (outcomeIn (e .exit) i)
   unfolding guestOutcomes

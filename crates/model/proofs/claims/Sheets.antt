@@ -6,26 +6,29 @@ use lib.ListN.{length}
 use Rattle.model.specs.Verdicts.{accepted, firstFault, giving}
 use Rattle.model.specs.market.Market.{Tables}
 use Rattle.model.specs.sheet.Content.{tablesOf, sheetFaults, readSheet}
-use Rattle.model.specs.contracts.Reads.{LentTables, readVerdict, tableLengths, Reads}
+use Rattle.model.specs.sheet.Lent.{LentTables, readingFaults, tableLengths}
+use Rattle.model.specs.contracts.EntryPoints.{reading, Reads}
 use Rattle.model.specs.claims.Sheets.{RightSizes, ReadAs, StatedIsRead, ReadIsStated}
 use Rattle.model.specs.declared.answers.Reading.{Reading}
 use Rattle.model.proofs.Counting.{length-list}
 use Rattle.model.proofs.Verdicts.{fault-later, no-fault, giving-accepted, gave-accepted, updated-accepted}
+use Rattle.model.proofs.Promises.{was-accepted}
 use Rattle.model.proofs.contracts.Reads.{lent-good}
 use Rattle.model.proofs.sheet.Truth.{reads-exactly-what-is-stated, states-read}
 
 module _ (s : List ℕ) (entry exit : LentTables) (answer : Reading) (c : Reads s entry answer exit)
-    (v : readVerdict entry s ≡ accepted tt) where
+    (v : firstFault (readingFaults entry s) ≡ accepted tt) where
   read-as : ReadAs (tablesOf s) entry answer exit
-  unfolding tablesOf
+  unfolding reading tablesOf
   read-as = record {
     answered = c .answered ∙ giving-accepted _ v
         ∙ ap accepted (ap₂ {C = ℕ × ℕ} (λ n m. (n, m)) (sym (length-list _ _)) (sym (length-list _ _)));
     left = c .left ∙ updated-accepted _ _ v;
   }
 
-sheet-verdict : (s : List ℕ) (l : LentTables) → RightSizes l → readVerdict l s ≡ firstFault (sheetFaults s)
-unfolding readVerdict tableLengths
+sheet-verdict :
+    (s : List ℕ) (l : LentTables) → RightSizes l → firstFault (readingFaults l s) ≡ firstFault (sheetFaults s)
+unfolding readingFaults tableLengths
 sheet-verdict s l z =
     fault-later 10 (sheetFaults s)
     (lent-good _ _ _ _ _ (z .amounts-long) (z .tickets-long) (z .asks-long) (z .bays-long) (z .bids-long))
@@ -37,9 +40,9 @@ stated-is-read s t entry exit answer z c w =
     rw (← same) (read-as s entry exit answer c (sheet-verdict s entry z ∙ v))
 
 pub read-is-stated : ReadIsStated
-unfolding readSheet readVerdict tableLengths
+unfolding reading readSheet readingFaults tableLengths
 read-is-stated s entry exit answer n m y c e =
-    let v = gave-accepted _ _ _ (sym (c .answered) ∙ e) .0 in (
+    let v = was-accepted c e .0 in (
       tablesOf s,
       reads-exactly-what-is-stated s (tablesOf s) y .0 (giving-accepted _ (no-fault _ _ _ v .1)),
       read-as s entry exit answer c v,

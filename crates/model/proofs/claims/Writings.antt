@@ -10,14 +10,14 @@ use Rattle.model.specs.market.Market.{Tables}
 use Rattle.model.specs.market.Faults.{Accepted, marketFaults, verdict}
 use Rattle.model.specs.sheet.Content.{tablesOf, readSheet}
 use Rattle.model.specs.sheet.Layout.{States}
-use Rattle.model.specs.sheet.Shortest.{shortest, writingFaults}
-use Rattle.model.specs.contracts.Reads.{LentTables, readVerdict, tableLengths, filled}
-use Rattle.model.specs.contracts.Writes.{writeVerdict, written}
+use Rattle.model.specs.sheet.Shortest.{shortest, writingFaults, written}
+use Rattle.model.specs.sheet.Lent.{LentTables, readingFaults, tableLengths, filled}
+use Rattle.model.specs.contracts.EntryPoints.{reading, writing}
 use Rattle.model.specs.claims.Writings.{WritingAcceptedIffWithinLimits, Gave, marketIn, Took, WrittenIsRead}
 use Rattle.model.specs.claims.Writings.{WritingIsNoLonger, SecondAltersNothing}
 use Rattle.model.proofs.Tests.{lt-no, not-lt}
 use Rattle.model.proofs.Verdicts.{fault-none, no-fault, no-faults, fault-second, fault-free, giving-accepted}
-use Rattle.model.proofs.Verdicts.{gave-accepted, updated-accepted}
+use Rattle.model.proofs.Promises.{was-accepted}
 use Rattle.model.proofs.claims.Sheets.{stated-is-read}
 use Rattle.model.proofs.sheet.Shortest.{shortest-states, shortest-is-read, shortest-is-least}
 use Rattle.model.proofs.sheet.Truth.{tables-are, reads-exactly-what-is-stated}
@@ -38,12 +38,11 @@ first-places xs l n e =
 -- ---- what a call of `write` gave
 
 gave : (t : Tables) (s : List ℕ) → Gave t s → Accepted t × (s ≡ shortest t)
-unfolding writeVerdict written
+unfolding writing written
 gave t s g =
-    let (v, long) = gave-accepted _ _ _ (sym (g .called .answered) ∙ g .answered) in (
+    let (v, long, full) = was-accepted (g .called) (g .answered) in (
       writing-accepted-iff-within-limits t _ .0 v .0,
-      g .is ∙ ap (take (length s)) (g .called .left ∙ updated-accepted _ _ v)
-          ∙ first-places (shortest t) (g .entry) (length s) (sym long),
+      g .is ∙ ap (take (length s)) full ∙ first-places (shortest t) (g .entry) (length s) (sym long),
     )
 
 -- ---- what a call of `read` took
@@ -64,11 +63,10 @@ market-filled t l n m e f tickets bays bids width = λ i. record {
 }
 
 took : (s : List ℕ) (t : Tables) → Took s t → readSheet s ≡ accepted t
-unfolding readSheet readVerdict tableLengths
+unfolding reading readSheet readingFaults tableLengths
 took s t c =
-    let (v, counts) = gave-accepted _ _ _ (sym (c .called .answered) ∙ c .answered) in
+    let (v, counts, filled-in) = was-accepted (c .called) (c .answered) in
     let are = tables-are s in
-    let filled-in : c .exit ≡ filled (tablesOf s) (c .entry) = c .called .left ∙ updated-accepted _ _ v in
     giving-accepted _ (no-fault _ _ _ v .1)
     ∙ ap accepted (sym (c .is ∙ ap (λ l. marketIn l (c .n) (c .m)) filled-in
     ∙ market-filled (tablesOf s) (c .entry) (c .n) (c .m) (ap (λ p. p .0) (sym counts) ∙ sym (are .n-is))

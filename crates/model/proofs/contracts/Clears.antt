@@ -7,8 +7,8 @@ use lib.ListN.{length, take, replicate}
 use Rattle.model.specs.Limits.{maxGuests, maxStations}
 use Rattle.model.specs.Counting.{_=?_}
 use Rattle.model.specs.Numbers.{number, answerOfClearing}
-use Rattle.model.specs.Verdicts.{Row, _gives_, accepted, refused, firstFault, giving, updated}
-use Rattle.model.proofs.Verdicts.{updated-accepted, gave-accepted, gave-refused}
+use Rattle.model.specs.Verdicts.{Row, _gives_, accepted, refused, firstFault}
+use Rattle.model.proofs.Promises.{was-accepted, was-refused}
 use Rattle.model.specs.declared.refusal.Refusal.{Refusal}
 use Rattle.model.specs.declared.money.UnitPrice.{UnitPrice}
 use Rattle.model.specs.declared.money.Mills.{Mills}
@@ -18,7 +18,7 @@ use Rattle.model.specs.market.Faults.{listLengths, marketFaults, verdict
 use Rattle.model.specs.claims.Meaning.{RightLengths}
 use Rattle.model.proofs.Tests.{neither, is-eq}
 use Rattle.model.proofs.Loops.{zeros-long}
-use Rattle.model.specs.contracts.Clears.{ClearsUnder}
+use Rattle.model.specs.contracts.EntryPoints.{clearingUnder, ClearsUnder}
 use Rattle.model.specs.declared.answers.Clearing.{Clearing}
 use Rattle.model.specs.declared.answers.Clearing.the-variants.{Cleared, Refused}
 
@@ -58,25 +58,19 @@ pub record ClearedAs (made : Tables → Outcome) (t : Tables) (k m : ℕ) (exit 
   pub margin-is : m ≡ (made t) .margin
   pub results-are : exit ≡ (made t) .results
 
-module _ {made : Tables → Outcome} (t : Tables) (entry exit : Results) (answer : Clearing)
+module _ (made : Tables → Outcome) (t : Tables) (entry exit : Results) (answer : Clearing)
     (c : ClearsUnder made t entry answer exit) (l : RightLengths t entry) where
-  said : answerOfClearing answer ≡ giving (verdict t) ((made t) .cut, (made t) .margin)
-  said = rw (← same-verdict t entry l) (c .answered)
-
-  left : exit ≡ updated (verdict t) ((made t) .results) entry
-  left = rw (← same-verdict t entry l) (c .left)
-
   pub clear-refused : (x : Refusal) → answer ≡ Refused x → verdict t ≡ refused (number x)
-  unfolding answerOfClearing
-  clear-refused x q = gave-refused _ _ _ (sym said ∙ ap answerOfClearing q)
+  unfolding answerOfClearing clearingUnder
+  clear-refused x q = sym (same-verdict t entry l) ∙ was-refused c (ap answerOfClearing q) .0
 
   pub clear-cleared : (k : UnitPrice) (m : Mills) → answer ≡ Cleared k m → ClearedAs made t (k .0) (m .0) exit
-  unfolding answerOfClearing
+  unfolding answerOfClearing clearingUnder
   clear-cleared k m q =
-      let (v, e) = gave-accepted (verdict t) _ (k .0, m .0) (sym said ∙ ap answerOfClearing q) in
+      let (v, e, left) = was-accepted c (ap answerOfClearing q) in
       record {
-        is-accepted = v;
+        is-accepted = sym (same-verdict t entry l) ∙ v;
         cut-is = sym (ap (λ p. p .0) e);
         margin-is = sym (ap (λ p. p .1) e);
-        results-are = left ∙ updated-accepted _ _ v;
+        results-are = left;
       }

@@ -10,20 +10,21 @@ use lib.Seq.{paste, take-at, take-length, length-take-le}
 use Rattle.model.specs.Limits.{maxGuests, maxStations, maxBids}
 use Rattle.model.specs.Counting.{_=?_, _or_}
 use Rattle.model.specs.market.Shape.{Shaped}
-use Rattle.model.specs.Numbers.{number}
+use Rattle.model.specs.Numbers.{number, answerOfReading}
 use Rattle.model.specs.Verdicts.{accepted, refused}
 use Rattle.model.specs.declared.refusal.Refusal.{Refusal}
 use Rattle.model.proofs.Counting.{length-list}
 use Rattle.model.proofs.Tests.{is-eq, neither}
-use Rattle.model.proofs.Verdicts.{fault-later, no-fault, giving-accepted, giving-refused, updated-accepted}
+use Rattle.model.proofs.Verdicts.{fault-later, no-fault, giving-accepted, giving-refused}
 use Rattle.model.specs.sheet.Rows.{bidOf}
 use Rattle.model.proofs.sheet.Joined.{joined-length}
-use Rattle.model.specs.sheet.Content.{stations, tablesOf, sheetFaults, readSheet}
+use Rattle.model.specs.sheet.Content.{guests, stations, tablesOf, sheetFaults, readSheet}
 use Rattle.model.specs.declared.answers.Reading.the-variants.{Read, Refused}
 use Rattle.model.specs.declared.answers.Reading.{Reading}
 use Rattle.model.proofs.sheet.Faults.{sheet-sound}
-use Rattle.model.proofs.sheet.Answers.{told-read, told-refused}
-use Rattle.model.specs.contracts.Reads.{LentTables, tableLengths, readVerdict, filled, Reads}
+use Rattle.model.proofs.Promises.{was-accepted, was-refused}
+use Rattle.model.specs.sheet.Lent.{LentTables, tableLengths, readingFaults, filled}
+use Rattle.model.specs.contracts.EntryPoints.{reading, Reads}
 use Rattle.model.proofs.market.Acceptance.{product-fits}
 
 -- an accepted sheet: the first places of the tables at exit are the market that it states
@@ -67,9 +68,11 @@ lent-good a k b c d la lk lb lc ld =
 
 module _ (s : List ℕ) (entry exit : LentTables) (r : Reading) (k : Reads s entry r exit) where
   pub read-tables : (n m : ℕ) → r ≡ Read n m → ReadTables s n m exit
-  unfolding readVerdict tableLengths readSheet filled tablesOf
+  unfolding answerOfReading reading readingFaults tableLengths readSheet filled tablesOf
   read-tables n m e =
-      let (v, f, g) = told-read _ _ _ n m r (k .answered) e in
+      let (v, p, full) = was-accepted k (ap answerOfReading e) in
+      let f : n ≡ guests s = sym (ap (λ p. p .0) p) in
+      let g : m ≡ stations s = sym (ap (λ p. p .1) p) in
       let (l, z) = no-fault _ _ _ v in
       let t = sheet-sound s z in
       let few : n ≤ maxGuests = omega (arith, t .few) in
@@ -79,7 +82,6 @@ module _ (s : List ℕ) (entry exit : LentTables) (r : Reading) (k : Reads s ent
       let b-long : length (tablesOf s .asks) ≡ m = length-list _ _ ∙ sym g in
       let c-long : length (tablesOf s .bays) ≡ m = length-list _ _ ∙ sym g in
       let d-long : length (tablesOf s .bids) ≡ n * m = joined-length _ _ (bidOf s (stations s)) ∙ sym (ap₂ _*_ f g) in
-      let full : exit ≡ filled (tablesOf s) entry = k .left ∙ updated-accepted _ _ v in
       record {
         reads = giving-accepted _ z;
         shape = record {
@@ -106,8 +108,8 @@ module _ (s : List ℕ) (entry exit : LentTables) (r : Reading) (k : Reads s ent
       → length (entry .asks) ≡ maxStations → length (entry .bays) ≡ maxStations → length (entry .bids) ≡ maxBids
       → r ≡ Refused x
       → readSheet s ≡ refused (number x)
-  unfolding readVerdict readSheet tableLengths
+  unfolding answerOfReading reading readingFaults readSheet tableLengths
   read-fault x la lk lb lc ld e =
       let l = lent-good _ _ _ _ _ la lk lb lc ld in
-      let w = told-refused _ _ x r (k .answered) e in
+      let w = was-refused k (ap answerOfReading e) .0 in
       giving-refused _ _ (sym (fault-later 10 (sheetFaults s) l) ∙ w)

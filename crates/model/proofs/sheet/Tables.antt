@@ -11,8 +11,8 @@ use Rattle.model.specs.Counting.{_=?_, _or_, list, joined}
 use Rattle.model.specs.Verdicts.{_gives_, accepted, refused, firstFault}
 use Rattle.model.proofs.market.Acceptance.{product-fits}
 use Rattle.model.proofs.Tests.{eq-yes, or-no}
-use Rattle.model.proofs.Verdicts.{fault-here, fault-later, giving-accepted, giving-refused, updated-accepted}
-use Rattle.model.proofs.Verdicts.{updated-refused}
+use Rattle.model.proofs.Promises.{keeps-accepted, keeps-refused}
+use Rattle.model.proofs.Verdicts.{fault-here, fault-later}
 use Rattle.model.specs.Numbers.{number, answerOfReading}
 use Rattle.model.specs.declared.refusal.Refusal.{Refusal}
 use Rattle.model.specs.declared.refusal.Refusal.the-variants.{LentLengths}
@@ -22,7 +22,8 @@ use Rattle.model.specs.declared.answers.Reading.the-variants.{Read, Refu
 use Rattle.model.specs.declared.answers.Reading.{Reading}
 use Rattle.model.proofs.sheet.Faults.{Sound}
 use Rattle.model.proofs.sheet.Answers.{Checked, told-refused}
-use Rattle.model.specs.contracts.Reads.{LentTables, lentTables, tableLengths, readVerdict, filled, Reads}
+use Rattle.model.specs.sheet.Lent.{LentTables, lentTables, tableLengths, readingFaults, filled}
+use Rattle.model.specs.contracts.EntryPoints.{reading, Reads}
 
 -- xs over the first places of l
 abbrev pub first-places : (xs l : List ℕ) → List ℕ
@@ -60,19 +61,19 @@ module _ (s a k b c d : List ℕ) where
   abbrev entry : LentTables
   entry = lentTables a k b c d
 
-  refused-by : (x : Refusal) → readVerdict entry s ≡ refused (number x) → Reads s entry (Refused x) entry
-  unfolding answerOfReading
-  refused-by x e = record { answered = sym (giving-refused _ _ e); left = sym (updated-refused _ _ _ e) }
+  refused-by : (x : Refusal) → firstFault (readingFaults entry s) ≡ refused (number x) → Reads s entry (Refused x) entry
+  unfolding answerOfReading reading
+  refused-by x e = keeps-refused e
 
   pub refused-lent :
       tableLengths (length a) (length k) (length b) (length c) (length d) ≡ (true gives 10)
       → Reads s entry (Refused LentLengths) entry
-  unfolding readVerdict
+  unfolding readingFaults
   refused-lent e = refused-by LentLengths (rw e (fault-here _ refl))
 
   module _ (l : tableLengths (length a) (length k) (length b) (length c) (length d) ≡ (false gives 10)) where
-    as-sheet : readVerdict entry s ≡ firstFault (sheetFaults s)
-    unfolding readVerdict
+    as-sheet : firstFault (readingFaults entry s) ≡ firstFault (sheetFaults s)
+    unfolding readingFaults
     as-sheet = rw l (fault-later _ _ refl)
 
     pub refused-sheet : (x : Refusal) (r : Reading) → Checked s r → r ≡ Refused x → Reads s entry (Refused x) entry
@@ -84,10 +85,6 @@ module _ (s a k b c d : List ℕ) where
         → b′ ≡ first-places (list m (askOf s)) b → c′ ≡ first-places (list m (baysOf s)) c
         → d′ ≡ first-places (joined n (λ i. list m (bidOf s m i))) d
         → Reads s entry (Read n m) (lentTables a′ k′ b′ c′ d′)
-    unfolding answerOfReading filled tablesOf
+    unfolding answerOfReading reading filled tablesOf
     read-all n m a′ k′ b′ c′ d′ e f g i ti j q l =
-        let h : readVerdict entry s ≡ accepted tt = as-sheet ∙ e in
-        record {
-          answered = rw (f, g) (sym (giving-accepted _ h));
-          left = rw (i, ti, j, q, l, f, g) (sym (updated-accepted (filled (tablesOf s) entry) entry h));
-        }
+        keeps-accepted (as-sheet ∙ e) (rw (f, g) refl) (rw (i, ti, j, q, l, f, g) refl)

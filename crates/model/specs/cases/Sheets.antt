@@ -10,7 +10,7 @@ use Rattle.model.specs.cases.Cases.{tableI, pair, caseE, single}
 use Rattle.model.specs.Verdicts.{Row, accepted, refused, firstFault}
 use Rattle.model.specs.sheet.Content.{readSheet}
 use Rattle.model.specs.sheet.Shortest.{shortest, writingFaults}
-use Rattle.model.specs.contracts.Reads.{lentTables, tableLengths, readVerdict}
+use Rattle.model.specs.sheet.Lent.{lentTables, tableLengths, readingFaults}
 
 -- Table I
 unfoldable pub sheetA : List ℕ
@@ -73,7 +73,7 @@ FaultsRefused = map readSheet (
 
 -- no lent table at all, and no sheet; then each table in turn, too short or too long
 abbrev pub LengthsRefused : Type 0
-LengthsRefused = (readVerdict (lentTables [] [] [] [] []) [] ≡ refused 10)
+LengthsRefused = (firstFault (readingFaults (lentTables [] [] [] [] []) []) ≡ refused 10)
     × (map (λ (r : Row). firstFault (r ∷ [])) (
     tableLengths 200 200 40 40 8000 ∷ tableLengths 199 200 40 40 8000 ∷ tableLengths 200 201 40 40 8000
     ∷ tableLengths 200 200 41 40 8000 ∷ tableLengths 200 200 40 39 8000 ∷ tableLengths 200 200 40 40 8001 ∷ [])

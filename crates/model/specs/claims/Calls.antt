@@ -1,5 +1,5 @@
--- Demand 3, first two sentences, and of demand 1 that a refusal writes nothing, over calls of `clear`, and what of it
--- holds of `clear_efficient`: from the tables, the answer and the result lists at exit alone.
+-- Demand 3, first two sentences, over calls of `clear`, and what of it holds of `clear_efficient`: from the tables, the
+-- answer and the result lists at exit alone.
 -- Each statement is a type; its proof is a term of proofs/.
 use Prim.Native.Nat.{ℕ, suc, _+_, _*_, _≤_, _<_}
 use mathlib.Core.Path.{_≡_}
@@ -11,17 +11,11 @@ use Rattle.model.specs.market.Market.{Tables, bidAt}
 use Rattle.model.specs.market.Mechanism.{at}
 use Rattle.model.specs.market.Outcome.{Results, Outcome, outcome, efficientOutcome}
 use Rattle.model.specs.claims.Truth.{AlikeButForGuest, AlikeButForStation}
-use Rattle.model.specs.contracts.Clears.{ClearsBy}
+use Rattle.model.specs.contracts.EntryPoints.{ClearsBy}
 use Rattle.model.specs.Numbers.{answerOfClearing}
-use Rattle.model.specs.Verdicts.{accepted, refused}
+use Rattle.model.specs.Verdicts.{accepted}
 use Rattle.model.specs.declared.rule.Rule.{Rule}
 use Rattle.model.specs.declared.answers.Clearing.{Clearing}
-
--- a refused call leaves the result lists as they were, by whichever mechanism and rule it would clear
-abbrev pub RefusedLeaves : Type 0
-RefusedLeaves =
-    (made : Rule → Tables → Outcome) (rule : ℕ) (t : Tables) (entry exit : Results) (answer : Clearing) (k : ℕ)
-    → answerOfClearing answer ≡ refused k → ClearsBy made rule t entry answer exit → exit ≡ entry
 
 -- a call under the rule of this number that was answered as cleared, whatever its result lists held before
 pub record ClearedCallBy (made : Rule → Tables → Outcome) (rule : ℕ) (t : Tables) : Type 0 where

@@ -14,7 +14,7 @@ use Rattle.model.specs.market.Faults.{Accepted}
 use Rattle.model.specs.places.Bids.{squaredDistance, walk, bidBetween, Places, guestsPlaced, stationsPlaced}
 use Rattle.model.specs.places.Bids.{guestCell, stationCell, placedBid}
 use Rattle.model.specs.places.Faults.{placingFaults}
-use Rattle.model.specs.contracts.PlacesBids.{PlacesBids}
+use Rattle.model.specs.contracts.EntryPoints.{PlacesBids}
 use Rattle.model.specs.declared.answers.Verdict.{Verdict}
 use Rattle.model.specs.declared.cell.Cell.{Cell}
 

@@ -1,6 +1,7 @@
 -- Demand 3's claim about every list of postings.
 use Prim.Native.Nat.{ℕ, _+_, _<_}
 use mathlib.Core.List.{List, [], _∷_}
+use mathlib.Core.Logic.{_↔_}
 use mathlib.Core.Path.{_≡_}
 use lib.ListN.{getD, length}
 use Rattle.model.specs.Verdicts.{Verdict, accepted, refused}
@@ -8,8 +9,14 @@ use Rattle.model.specs.claims.Meaning.{AccountsWithin}
 use Rattle.model.specs.cases.Cases.{caseE, sixFirst}
 use Rattle.model.specs.book.Book.{account, accountAt, paidOf, Book, book, emptyBook, plain}
 use Rattle.model.specs.book.Posting.{Posting, posting, toGuest, toSold, toPaid, toHouse}
-use Rattle.model.specs.book.PlainBook.{emptyPlain, answers, final, postedRounds, sumOver, sumAll}
-use Rattle.model.specs.contracts.Posts.{Posts}
+use Rattle.model.specs.book.PlainBook.{answer, after, emptyPlain, answers, final, postedRounds, sumOver, sumAll}
+use Rattle.model.specs.contracts.EntryPoints.{Posts}
+
+-- a call of `post` is a step of the plain book
+abbrev pub PostIsPlainStep : Type 0
+PostIsPlainStep =
+    (B C : Book) (p : Posting) (v : Verdict)
+    → Posts B p v C ↔ ((v ≡ answer (plain B) p) × (plain C ≡ after (plain B) p))
 
 -- a list of calls, each made to the book as the last left it
 pub data PostedInTurn : Book → List Posting → List Verdict → Book → Type 0 where

@@ -13,11 +13,11 @@ use Rattle.model.specs.market.Market.{Tables, bidAt, market, cut, opens,
 use Rattle.model.specs.market.Mechanism.{charge}
 use Rattle.model.specs.market.Outcome.{Results, screened, decision}
 use Rattle.model.specs.market.Faults.{Accepted, explainingFaults}
-use Rattle.model.specs.market.Reasons.{codes, highestCode, told, guestOutcomes}
+use Rattle.model.specs.market.Reasons.{codes, highestCode, told, guestOutcomes, Explanation}
 use Rattle.model.specs.market.Rules.{ruleOf}
 use Rattle.model.specs.claims.Calls.{ClearedCall}
 use Rattle.model.specs.claims.Meaning.{NamesRule}
-use Rattle.model.specs.contracts.Explains.{Explanation, Explains}
+use Rattle.model.specs.contracts.EntryPoints.{Explains}
 use Rattle.model.specs.declared.rule.Rule.{Rule}
 use Rattle.model.specs.declared.money.Mills.{Mills}
 use Rattle.model.specs.declared.answers.Verdict.{Verdict}

@@ -9,7 +9,8 @@ use Rattle.model.specs.Numbers.{answerOfReading}
 use Rattle.model.specs.Verdicts.{accepted}
 use Rattle.model.specs.market.Market.{Tables}
 use Rattle.model.specs.sheet.Layout.{States, Bytes}
-use Rattle.model.specs.contracts.Reads.{LentTables, filled, Reads}
+use Rattle.model.specs.sheet.Lent.{LentTables, filled}
+use Rattle.model.specs.contracts.EntryPoints.{Reads}
 use Rattle.model.specs.declared.answers.Reading.{Reading}
 
 -- the sizes that document 01 names

@@ -10,8 +10,8 @@ use Rattle.model.specs.market.Market.{Tables, tables}
 use Rattle.model.specs.market.Faults.{Accepted}
 use Rattle.model.specs.sheet.Layout.{Bytes, Words}
 use Rattle.model.specs.sheet.Shortest.{shortest, writingFaults}
-use Rattle.model.specs.contracts.Reads.{LentTables, Reads}
-use Rattle.model.specs.contracts.Writes.{Writes}
+use Rattle.model.specs.sheet.Lent.{LentTables}
+use Rattle.model.specs.contracts.EntryPoints.{Reads, Writes}
 use Rattle.model.specs.claims.Sheets.{RightSizes, ReadAs}
 use Rattle.model.specs.declared.answers.Reading.{Reading}
 use Rattle.model.specs.declared.answers.Writing.{Writing}

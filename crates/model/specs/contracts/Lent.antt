@@ -7,10 +7,9 @@ use denote.Triple.Both.{Both}
 use Rattle.model.specs.market.Market.{Tables, tables, regular}
 use Rattle.model.specs.market.Outcome.{Results, results}
 use Rattle.model.specs.book.Book.{Book, book}
-use Rattle.model.specs.contracts.Explains.{Explanation, explanation}
-use Rattle.model.specs.contracts.Reads.{LentTables, lentTables}
+use Rattle.model.specs.market.Reasons.{Explanation, explanation, Told, tellings, Shown, shownAs}
+use Rattle.model.specs.sheet.Lent.{LentTables, lentTables}
 use Rattle.model.specs.places.Bids.{Places, places}
-use Rattle.model.specs.market.Reasons.{Told, tellings}
 use Rattle.model.specs.declared.account.StationAccount.{StationAccount}
 use Rattle.model.specs.declared.reason.GuestOutcome.{GuestOutcome}
 
@@ -82,3 +81,9 @@ tellingsIn stations charges losses = tellings (now (stations .entry)) (now (char
 
 abbrev pub tellingsOut : (stations charges losses : Lent (List ℕ)) → Told
 tellingsOut stations charges losses = tellings (now (stations .exit)) (now (charges .exit)) (now (losses .exit))
+
+abbrev pub shownIn : (codes stations charges losses : Lent (List ℕ)) → Shown
+shownIn codes stations charges losses = shownAs (now (codes .entry)) (tellingsIn stations charges losses)
+
+abbrev pub shownOut : (codes stations charges losses : Lent (List ℕ)) → Shown
+shownOut codes stations charges losses = shownAs (now (codes .exit)) (tellingsOut stations charges losses)

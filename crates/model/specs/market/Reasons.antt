@@ -47,6 +47,25 @@ told l =
     tellings (map (λ (o : GuestOutcome). stationOf (o .result)) l)
     (map (λ (o : GuestOutcome). chargeOf (o .result)) l) (map (λ (o : GuestOutcome). lossOf (o .result)) l)
 
+-- the code table and the outcome table that a call is lent
+pub record Explanation : Type 0 where
+  pub codes : List ℕ
+  pub outcomes : List GuestOutcome
+
+abbrev pub explanation : (codes : List ℕ) (outcomes : List GuestOutcome) → Explanation
+explanation codes outcomes = record { codes = codes; outcomes = outcomes }
+
+-- and both as numbers
+pub record Shown : Type 0 where
+  pub codes : List ℕ
+  pub outcomes : Told
+
+abbrev pub shownAs : (codes : List ℕ) (outcomes : Told) → Shown
+shownAs codes outcomes = record { codes = codes; outcomes = outcomes }
+
+unfoldable pub shown : Explanation → Shown
+shown e = shownAs (e .codes) (told (e .outcomes))
+
 -- guest i's loss: its highest code, 0 where it is assigned
 unfoldable pub loss : Rule → Tables → (i : ℕ) → ℕ
 loss rule t i = only ((decision rule t) .assigned i =? 0) (highestCode rule t i)

@@ -4,6 +4,7 @@ use mathlib.Core.Bool.{Bool}
 use mathlib.Core.List.{List, [], _∷_, _++_}
 use mathlib.Core.Path.{_≡_}
 use lib.ListN.{length}
+use lib.Seq.{paste}
 use Rattle.model.specs.Limits.{maxSheet}
 use Rattle.model.specs.Counting.{_<?_}
 use Rattle.model.specs.market.Market.{Tables, bidAt}
@@ -18,6 +19,10 @@ bidden t i j = 0 <? bidAt t i j
 
 unfoldable pub shortest : Tables → List ℕ
 shortest t = layout t (bidden t)
+
+-- an output with the sheet over its first places; what is beyond is not touched
+unfoldable pub written : Tables → (output : List ℕ) → List ℕ
+written t output = paste output 0 (shortest t) (length (shortest t))
 
 -- '14 where the lent output is too short for the sheet, after the clearing's own checks'
 unfoldable pub writingFaults : Tables → (room : ℕ) → List Row

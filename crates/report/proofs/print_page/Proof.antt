@@ -1,7 +1,7 @@
 use mathlib.Core.Path.{refl}
 use native.Mathlib.Omega.{arith}
 use borrow.Author.Needs.{needs}
-use Rattle.model.specs.contracts.Reads.{lentTables}
+use Rattle.model.specs.sheet.Lent.{lentTables}
 use Rattle.model.proofs.contracts.Reads.{ReadTables, read-tables, read-fault, tickets-long, bays-long, bids-long}
 use Rattle.model.proofs.contracts.Reads.{room}
 use Rattle.report.proofs.Sheets.{read-part-long, part-fits, same-tables, prints-fault, prints-sheet}

@@ -7,7 +7,7 @@ use native.Mathlib.Omega.{arith}
 use lib.ListN.{length, length-append}
 use lib.Seq.{paste}
 use Rattle.model.specs.Limits.{maxGuests, maxStations}
-use Rattle.model.specs.Verdicts.{refused, firstFault}
+use Rattle.model.specs.Verdicts.{refused}
 use Rattle.model.specs.market.Market.{Tables, market, marketBy, screen}
 use Rattle.model.specs.market.Outcome.{Results, Outcome, outcomeBy, screened, outcome, efficientOutcome, outcomeIn}
 use Rattle.model.specs.market.Outcome.{outcomeOf}
@@ -31,9 +31,8 @@ use Rattle.model.specs.Numbers.{number}
 use Rattle.model.specs.declared.refusal.Refusal.{Refusal}
 use Rattle.model.specs.declared.answers.Writing.{Writing}
 use Rattle.model.specs.declared.answers.Writing.the-variants as writing
-use Rattle.model.specs.sheet.Shortest.{shortest, writingFaults}
-use Rattle.model.specs.contracts.Writes.{writeVerdict, written, Writes}
-use Rattle.model.proofs.Verdicts.{updated-accepted, updated-refused}
+use Rattle.model.specs.sheet.Shortest.{shortest, written}
+use Rattle.model.specs.contracts.EntryPoints.{Writes}
 use Rattle.model.proofs.claims.Writings.{writing-accepted-iff-within-limits}
 use Rattle.model.proofs.contracts.Writes.{told-refused, told-written}
 use Rattle.model.proofs.sheet.Shortest.{shortest-fits}
@@ -97,19 +96,17 @@ module _ (t : Tables) (l l₁ : List ℕ) (answer : Writing) (c : Writes t l ans
   pub prints-unwritten :
       {l′ : List ℕ} {q : ℕ} (x : Refusal) → answer ≡ writing.Refused x → Wrote l₁ 0 (refusalText (number x)) l′ q
       → Prints (sheetPageOf (length l) t) l q l′
-  unfolding sheetPageOf sheetPage writeVerdict
+  unfolding sheetPageOf sheetPage
   prints-unwritten {l′} {q} x e w =
-      let v : firstFault (writingFaults t (length l)) ≡ refused (number x) = told-refused t l l₁ answer c x e in
-      let same : l₁ ≡ l = c .left ∙ updated-refused _ _ _ v in
+      let (v, same) = told-refused t l l₁ answer c x e in
       rw v (prints (rw same at w) (length-refusal (number x)))
 
   pub prints-written :
       (n : ℕ) → answer ≡ writing.Written n → Prints (sheetPageOf (length l) t) l n l₁
-  unfolding sheetPageOf sheetPage writeVerdict written
+  unfolding sheetPageOf sheetPage written
   prints-written n e =
-      let (v, long) = told-written t l l₁ answer c n e in
+      let (v, long, is) = told-written t l l₁ answer c n e in
       let (a, room) = writing-accepted-iff-within-limits t (length l) .0 v in
-      let is : l₁ ≡ written t l = c .left ∙ updated-accepted _ _ v in
       rw v (record {
         buffer-is = is ∙ ap (paste l 0 (shortest t)) (sym (min-eq-left room));
         length-is = sym long;

@@ -8,7 +8,7 @@ use Rattle.model.specs.Verdicts.{_gives_, accepted, firstFault}
 use Rattle.model.specs.sheet.Content.{guests, stations, sheetFaults}
 use Rattle.model.proofs.sheet.Faults.{sheet-sound}
 use Rattle.model.proofs.sheet.Answers.{told-read}
-use Rattle.model.specs.contracts.Reads.{tableLengths}
+use Rattle.model.specs.sheet.Lent.{tableLengths}
 use Rattle.model.proofs.sheet.Tables.{lent-lengths, rows-good, room-for, refused-lent, refused-sheet, read-all}
 use Rattle.sheet.proofs.filling.Filled.{over-pastes}
 use Rattle.sheet.proofs.read.Statement.{statement}

@@ -1,7 +1,7 @@
 -- The test is that of `tableLengths`.
 use mathlib.Core.Path.{refl}
 use Rattle.model.specs.Counting.{_=?_, _or_}
-use Rattle.model.specs.contracts.Reads.{tableLengths}
+use Rattle.model.specs.sheet.Lent.{tableLengths}
 use Rattle.sheet.proofs.table_lengths_differ.Statement.{statement}
 use Rattle.sheet.proofs.table_lengths_differ.Tie as tie
 

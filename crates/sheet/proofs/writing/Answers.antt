@@ -11,25 +11,19 @@ use Rattle.model.specs.Verdicts.{accepted, refused}
 use Rattle.model.specs.market.Market.{Tables, tables, regular}
 use Rattle.model.specs.market.Faults.{marketFaults, verdict}
 use Rattle.model.specs.market.Shape.{Shaped}
-use Rattle.model.specs.sheet.Shortest.{shortest, writingFaults}
-use Rattle.model.specs.contracts.Writes.{writeVerdict, written, Writes}
+use Rattle.model.specs.sheet.Shortest.{shortest, writingFaults, written}
+use Rattle.model.specs.contracts.EntryPoints.{writing, Writes}
 use Rattle.model.proofs.Tests.{is-lt, not-lt}
-use Rattle.model.proofs.Verdicts.{fault-none, fault-here, fault-first, fault-second, fault-free, giving-accepted}
-use Rattle.model.proofs.Verdicts.{giving-refused, updated-accepted, updated-refused}
+use Rattle.model.proofs.Promises.{keeps-accepted, keeps-refused}
+use Rattle.model.proofs.Verdicts.{fault-none, fault-here, fault-first, fault-second, fault-free}
 use Rattle.model.proofs.market.Acceptance.{accepted-iff-within-limits}
 use Rattle.sheet.specs.Wrote.{Wrote}
 use Rattle.sheet.proofs.Wrote.{wrote-whole}
 
-refuses :
-    (t : Tables) (out : List ℕ) (x : Refusal) → writeVerdict t out ≡ refused (number x)
-    → Writes t out (Refused x) out
-unfolding answerOfWriting
-refuses t out x e = record { answered = sym (giving-refused _ _ e); left = sym (updated-refused _ _ _ e) }
-
 pub refuses-market :
     (t : Tables) (out : List ℕ) (x : Refusal) → verdict t ≡ refused (number x) → Writes t out (Refused x) out
-unfolding writeVerdict writingFaults verdict
-refuses-market t out x e = refuses t out x (fault-first (marketFaults t) _ e)
+unfolding answerOfWriting writing writingFaults verdict
+refuses-market t out x e = keeps-refused (fault-first (marketFaults t) _ e)
 
 -- an accepted market's rows are as wide as there are stations
 module _ (asks bays amounts tickets bids : List ℕ) (width : ℕ) (out : List ℕ)
@@ -58,21 +52,17 @@ module _ (asks bays amounts tickets bids : List ℕ) (width : ℕ) (out : List �
   same-sheet = ap (λ w. shortest (tables asks bays amounts tickets bids w)) (sym (shape .width-is))
 
   pub refuses-short : {k : ℕ} → k ≡ length (shortest r) → length out < k → Writes t out (Refused OutputTooShort) out
-  unfolding writeVerdict writingFaults verdict
+  unfolding answerOfWriting writing writingFaults verdict
   refuses-short e h =
-      refuses t out OutputTooShort (fault-second (marketFaults t) _ a
+      keeps-refused (fault-second (marketFaults t) _ a
       ∙ fault-here _ (is-lt _ _ (rw (e ∙ ap length same-sheet) at h)))
 
   pub writes :
       {k q : ℕ} {out′ : List ℕ} → k ≡ length (shortest r) → k ≤ length out → Wrote out 0 (shortest r) out′ q
       → Writes t out (Written k) out′
-  unfolding writeVerdict writingFaults verdict answerOfWriting written
+  unfolding answerOfWriting writing writingFaults verdict written
   writes {k} {q} {out′} e h w =
       let long = e ∙ ap length same-sheet in
       let room : length (shortest t) ≤ length out = rw long at h in
-      let v : writeVerdict t out ≡ accepted tt = fault-second (marketFaults t) _ a
-      ∙ fault-free _ _ (not-lt _ _ room) fault-none in
-      record {
-        answered = ap accepted long ∙ sym (giving-accepted _ v);
-        left = wrote-whole out (shortest t) out′ q (rw same-sheet at w) room ∙ sym (updated-accepted _ _ v);
-      }
+      keeps-accepted (fault-second (marketFaults t) _ a ∙ fault-free _ _ (not-lt _ _ room) fault-none) long
+      (wrote-whole out (shortest t) out′ q (rw same-sheet at w) room)

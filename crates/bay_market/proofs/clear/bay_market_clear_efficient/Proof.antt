@@ -9,7 +9,7 @@ clear-before-tell p = p .before .before .before .before .before .before .before 
 returns : tie.Need-returns
 returns c =
     let at-clear = clear-before-tell (c .before) in
-    told _ _ _ _ _ (at-clear .clear-efficient .ensures) (c .tell .ensures)
+    told (at-clear .clear-efficient .ensures) (c .tell .ensures)
 
 pub bay-market-clear-efficient-spec : {M : Type 1} → statement M
 bay-market-clear-efficient-spec =

@@ -1,11 +1,10 @@
 use borrow.Author.Needs.{needs}
-use Rattle.model.proofs.contracts.PlacesBids.{places-bids-out}
+use Rattle.bay_market.proofs.Told.{replied}
 use Rattle.bay_market.proofs.places.bay_market_place_bids.Statement.{statement}
 use Rattle.bay_market.proofs.places.bay_market_place_bids.Tie as tie
 
 returns : tie.Need-returns
-returns c =
-    places-bids-out _ _ _ _ _ (c .before .before .before .place-bids .ensures) (c .reply-number .ensures)
+returns c = replied (c .before .before .before .place-bids .ensures) (c .reply-number .ensures)
 
 pub bay-market-place-bids-spec : {M : Type 1} → statement M
 bay-market-place-bids-spec =

@@ -2,7 +2,7 @@
 -- `post::bay_market_post` meets its contract: every `&mut` goes to `post` at its own lifetime, share and name, for
 -- good; its reply goes to `reply_number`.
 use Prim.Native.Nat.{ℕ, _<_, _^_}
-use mathlib.Core.Path.{_≡_, refl, ap, _∙_}
+use mathlib.Core.Path.{_≡_, refl}
 use mathlib.Core.List.{List, [], _∷_}
 use lib.ListN.{length}
 use mir.Syntax.{named, w8, w32, w64}
@@ -43,7 +43,6 @@ use base.Fml.{Lft, Share, Fml, ftrue, fsep, flft, fres}
 use ghost.Atoms.{Atoms, sem}
 use sound.WpLaws.{FmC, fmOf, WpFn-mono}
 use Rattle.model.specs.Verdicts.{numberOf}
-use Rattle.model.specs.Verdicts as answers
 use Rattle.model.specs.market.Market.{tables}
 use Rattle.model.specs.Numbers.{answerOfVerdict}
 use Rattle.model.specs.declared.answers.Verdict.{Verdict}
@@ -51,10 +50,10 @@ use Rattle.model.proofs.answers.Verdict as S
 use Rattle.model.proofs.answers.Verdict.Laws as S′
 use Rattle.model.specs.declared.account.StationAccount.{StationAccount}
 use Rattle.model.proofs.account.StationAccount as T
-use Rattle.model.specs.book.Posting.{Posting, posting}
-use Rattle.model.specs.book.Book.{Book, book}
-use Rattle.model.specs.contracts.Posts.{Posts}
-use Rattle.model.specs.contracts.PostsOut.{PostsOut}
+use Rattle.model.specs.book.Posting.{posting}
+use Rattle.model.specs.book.Book.{book}
+use Rattle.model.specs.contracts.EntryPoints.{Posts}
+use Rattle.bay_market.proofs.Told.{replied}
 use Rattle.ledger.proofs.post as post
 use Rattle.ledger.proofs.post.Symbol as post-def
 use Rattle.ledger.proofs.post.Met as post-thm
@@ -67,11 +66,6 @@ use Rattle.bay_market.proofs.post.bay_market_post as f
 use Rattle.bay_market.proofs.post.bay_market_post.Statement as stated
 use Rattle.bay_market.proofs.post.bay_market_post.Code as code
 use Rattle.bay_market.proofs.post.bay_market_post.Key.{name as #bay-market·post·bay-market-post}
-
-posted-out :
-    {entry exit : Book} {p : Posting} {v : answers.Verdict} {k : ℕ} → Posts entry p v exit → k ≡ numberOf v
-    → PostsOut entry p exit k
-posted-out said e = record { number-is = e ∙ ap numberOf (said .answered); left = said .left }
 
 abbrev Nums : Type 0
 Nums = RefT (List ℕ)
@@ -282,7 +276,7 @@ module _ {M : Type 1} (𝓤 : URA M) (H : Heap 𝓤) (A : Atoms 𝓤) (W : Given
       suffices ! _ (ends-at 𝓤 H A f.ended stayed (f.clauses 𝓤 H A mem run) W bound v k
       (tt, (tt, (tt, (tt, (tt, (tt, (tt, (tt, (guests′, (stations′, (house′, (last′, tt))))))))))))
       (tt, (tt, (tt, (tt, (tt, (tt, (tt, (tt, (l-guests, (l-stations, (tt, (tt, tt))))))))))))) $
-      says ! (posted-out said e) $ frame ! $ fsplit ! $ move ! (1 ∷ []) $ fsplit ! $ move ! (1 ∷ []) $ fsplit ! $
+      says ! (replied said e) $ frame ! $ fsplit ! $ move ! (1 ∷ []) $ fsplit ! $ move ! (1 ∷ []) $ fsplit ! $
       move ! (1 ∷ []) $ fsplit ! $ move ! (1 ∷ []) $ nothing ! $ move ! (9 ∷ 0 ∷ []) $ fjoin ! $ move ! (8 ∷ 0 ∷ []) $
       fjoin ! $ move ! (7 ∷ 0 ∷ []) $ fjoin ! $ move ! (6 ∷ 0 ∷ []) $ fjoin ! $
       owned ! u32 (Is u32) (uint-makes 𝓤 H A W w32) round _ (refl, round-fits) $ fjoin ! $

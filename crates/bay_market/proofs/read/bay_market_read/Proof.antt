@@ -1,7 +1,9 @@
+use mathlib.Core.Path.{ap}
 use native.Mathlib.Omega.{arith}
 use borrow.Author.Needs.{needs}
+use Rattle.model.specs.Numbers.{answerOfReading}
 use Rattle.model.proofs.contracts.Reads.{read-tables}
-use Rattle.model.proofs.contracts.ReadsOut.{reads-refused, reads-market}
+use Rattle.bay_market.proofs.Told.{told, tells-refused, tells-accepted}
 use Rattle.bay_market.proofs.read.bay_market_read.Statement.{statement}
 use Rattle.bay_market.proofs.read.bay_market_read.Tie as tie
 
@@ -21,15 +23,17 @@ cast-m c =
     omega (arith, t .shape .stations-most, t .m-is)
 
 returns : tie.Need-returns
+unfolding answerOfReading
 returns c =
     let at-read = read-before-match (c .before .before .before .before) in
-    reads-refused _ _ _ _ (at-read .read .ensures) _ _ _ _
-    (c .before .before .reading .given .1) (c .number .ensures)
+    told (at-read .read .ensures)
+    (tells-refused (ap answerOfReading (c .before .before .reading .given .1)) (c .number .ensures))
 
 returns-2 : tie.Need-returns-2
+unfolding answerOfReading
 returns-2 c =
     let at-read = read-before-match (c .before .before .before) in
-    reads-market _ _ _ _ (at-read .read .ensures) _ _ _ _ (c .before .reading2 .given .1)
+    told (at-read .read .ensures) (tells-accepted (ap answerOfReading (c .before .reading2 .given .1)))
 
 pub bay-market-read-spec : {M : Type 1} → statement M
 bay-market-read-spec =

@@ -53,7 +53,7 @@ use Rattle.model.specs.market.Market.{tables}
 use Rattle.clearing.specs.declared.views.BidTable.{BidTable}
 use Rattle.clearing.proofs.views.BidTable as T
 use Rattle.clearing.proofs.views.BidTable.Laws as T′
-use Rattle.model.specs.contracts.Clears.{Clears}
+use Rattle.model.specs.contracts.EntryPoints.{Clears}
 use Rattle.model.specs.declared.answers.Clearing.{Clearing}
 use Rattle.model.proofs.answers.Clearing as S
 use Rattle.model.proofs.answers.Clearing.Laws as S′

@@ -49,7 +49,7 @@ use Rattle.model.specs.market.Market.{tables}
 use Rattle.clearing.specs.declared.views.BidTable.{BidTable}
 use Rattle.clearing.proofs.views.BidTable as T
 use Rattle.clearing.proofs.views.BidTable.Laws as T′
-use Rattle.model.specs.contracts.Clears.{Clears}
+use Rattle.model.specs.contracts.EntryPoints.{Clears}
 use Rattle.model.specs.declared.answers.Clearing.{Clearing}
 use Rattle.model.proofs.answers.Clearing as S
 use Rattle.model.proofs.answers.Clearing.Laws as S′
@@ -335,9 +335,9 @@ module _ {M : Type 1} (𝓤 : URA M) (H : Heap 𝓤) (A : Atoms 𝓤) (W : Given
       (results (now stations) (now charges) (now sold) (now paid)) a′ (results stations′ charges′ sold′ paid′)
 
   of-view :
-      (r : BidTable) → Made r → {a′ : Clearing} {stations′ charges′ sold′ paid′ : List ℕ}
+      (r : BidTable) → Made r → (a′ : Clearing) {stations′ charges′ sold′ paid′ : List ℕ}
       → Said (r .bids) (r .width) a′ stations′ charges′ sold′ paid′ → Said bids width a′ stations′ charges′ sold′ paid′
-  of-view r (e, q) {a′} {stations′} {charges′} {sold′} {paid′} said =
+  of-view r (e, q) a′ {stations′} {charges′} {sold′} {paid′} said =
       subst (λ w. Said bids w a′ stations′ charges′ sold′ paid′) q
       (subst (λ x. Said x (r .width) a′ stations′ charges′ sold′ paid′) e said)
 
@@ -472,7 +472,7 @@ module _ {M : Type 1} (𝓤 : URA M) (H : Heap 𝓤) (A : Atoms 𝓤) (W : Given
         move ! (13 ∷ 14 ∷ []) $ free1 ! $ move ! (11 ∷ 12 ∷ []) $ free1 ! $ move ! (9 ∷ 10 ∷ []) $ free1 ! $
         move ! (7 ∷ 8 ∷ []) $ free1 ! $ free0 ! $ keep ! (1 ∷ 5 ∷ 4 ∷ 3 ∷ 2 ∷ 0 ∷ 6 ∷ []) $
         by ! (exits fits a′ u (ls .1 .1 .1 .1 .1 .1 .0) (ls .1 .1 .1 .1 .1 .1 .1 .0) (ls .1 .1 .1 .1 .1 .1 .1 .1 .0)
-        (ls .1 .1 .1 .1 .1 .1 .1 .1 .1 .0) (of-view r e said) l-stations l-charges l-sold
+        (ls .1 .1 .1 .1 .1 .1 .1 .1 .1 .0) (of-view r e a′ said) l-stations l-charges l-sold
         l-paid)))))))))))))))))))))))))))))))))))
 
 module _ {M : Type 1} (𝓤 : URA M) (H : Heap 𝓤) (A : Atoms 𝓤) (W : Given 𝓤 H A) (mem : Memory → SProp 𝓤)

@@ -23,7 +23,7 @@ returns c =
     let at-clear = clear-before-match (at-refused .before .before) in
     let entry = entry-before-clear at-clear in
     let l = entry .pre .1 in
-    prints-refused _ _ _ (clear-refused _ _ _ _ (at-clear .clear-under .ensures)
+    prints-refused _ _ _ (clear-refused _ _ _ _ _ (at-clear .clear-under .ensures)
     (record { stations-long = l .0; charges-long = l .1; sold-long = l .2; paid-long = l .3 }) _
     (at-refused .answer .given .1)) (at-text .refusal-text .ensures)
 
@@ -46,7 +46,7 @@ returns-2 c =
     let at-clear = clear-before-match (at-cleared .before .before) in
     let entry = entry-before-clear at-clear in
     let l = entry .pre .1 in
-    prints-cleared _ _ _ _ _ _ (clear-cleared _ _ _ _ (at-clear .clear-under .ensures)
+    prints-cleared _ _ _ _ _ _ (clear-cleared _ _ _ _ _ (at-clear .clear-under .ensures)
     (record { stations-long = l .0; charges-long = l .1; sold-long = l .2; paid-long = l .3 }) _ _
     (at-cleared .answer2 .given .1)) (entry .pre .0 .0) (entry .pre .0 .1)
     (at-text .clearing-text .ensures)

@@ -1,19 +1,15 @@
--- What reading a sheet into lent tables gives.
+-- The tables that a market is read into: their lengths, and what stands there when it is read.
 use Prim.Native.Nat.{ℕ}
 use mathlib.Core.Bool.{not}
 use mathlib.Core.List.{List, _∷_}
-use mathlib.Core.Path.{_≡_}
 use lib.ListN.{length}
 use lib.Seq.{paste}
 use Rattle.model.specs.Limits.{maxGuests, maxStations, maxBids}
 use Rattle.model.specs.Counting.{_=?_, _or_}
-use Rattle.model.specs.Numbers.{answerOfReading}
-use Rattle.model.specs.Verdicts.{Row, _gives_, Verdict, firstFault, giving, updated}
+use Rattle.model.specs.Verdicts.{Row, _gives_}
 use Rattle.model.specs.market.Market.{Tables}
-use Rattle.model.specs.sheet.Content.{guests, stations, sheetFaults, tablesOf}
-use Rattle.model.specs.declared.answers.Reading.{Reading}
+use Rattle.model.specs.sheet.Content.{sheetFaults}
 
--- the tables that the reader is lent
 pub record LentTables : Type 0 where
   pub amounts : List ℕ
   pub tickets : List ℕ
@@ -31,11 +27,11 @@ tableLengths amounts tickets asks bays bids =
     (not (amounts =? maxGuests) or not (tickets =? maxGuests) or not (asks =? maxStations)
     or not (bays =? maxStations) or not (bids =? maxBids)) gives 10
 
--- what a call of the reader finds: it looks at the lent tables first
-unfoldable pub readVerdict : LentTables → (sheet : List ℕ) → Verdict
-readVerdict l s = firstFault
-    (tableLengths (length (l .amounts)) (length (l .tickets)) (length (l .asks)) (length (l .bays)) (length (l .bids))
-    ∷ sheetFaults s)
+-- a call of the reader looks at the lent tables first
+unfoldable pub readingFaults : LentTables → (sheet : List ℕ) → List Row
+readingFaults l s =
+    tableLengths (length (l .amounts)) (length (l .tickets)) (length (l .asks)) (length (l .bays)) (length (l .bids))
+    ∷ sheetFaults s
 
 -- the lent tables with a market over their first places
 unfoldable pub filled : Tables → LentTables → LentTables
@@ -46,8 +42,3 @@ filled t l = record {
   bays = paste (l .bays) 0 (t .bays) (length (t .bays));
   bids = paste (l .bids) 0 (t .bids) (length (t .bids));
 }
-
--- a call of `read`: the lent tables at entry, the answer, the tables at exit
-pub record Reads (sheet : List ℕ) (entry : LentTables) (answer : Reading) (exit : LentTables) : Type 0 where
-  pub answered : answerOfReading answer ≡ giving (readVerdict entry sheet) (guests sheet, stations sheet)
-  pub left : exit ≡ updated (readVerdict entry sheet) (filled (tablesOf sheet) entry) entry

@@ -1,0 +1,112 @@
+-- What each entry point promises: faults, value, what it leaves, by what it is lent at entry (`Promise`). Its contract
+-- says that it keeps that, and the contract of its export is `KeepsOut` or `RepliesOut` of the same promise.
+use Prim.Native.Nat.{ℕ}
+use mathlib.Core.List.{List, [], _∷_}
+use lib.ListN.{length}
+use Rattle.model.specs.Numbers.{answerOfReading, answerOfWriting, answerOfClearing, answerOfVerdict}
+use Rattle.model.specs.Promises.{Promise, Keeps}
+use Rattle.model.specs.Verdicts.{Verdict}
+use Rattle.model.specs.market.Market.{Tables}
+use Rattle.model.specs.market.Faults.{tableFaults, clearingFaults, explainingFaults}
+use Rattle.model.specs.market.Outcome.{Results, Outcome, outcome, efficientOutcome}
+use Rattle.model.specs.market.Reasons.{codes, guestOutcomes, Explanation, Shown, shownAs, shown}
+use Rattle.model.specs.market.Rules.{ruleOf}
+use Rattle.model.specs.sheet.Content.{guests, stations, tablesOf}
+use Rattle.model.specs.sheet.Lent.{LentTables, readingFaults, filled}
+use Rattle.model.specs.sheet.Shortest.{shortest, writingFaults, written}
+use Rattle.model.specs.places.Bids.{Places, placedBids}
+use Rattle.model.specs.places.Faults.{placingFaults}
+use Rattle.model.specs.book.Book.{Book, plain}
+use Rattle.model.specs.book.PlainBook.{PlainBook, postingFaults, enteredOf}
+use Rattle.model.specs.book.Posting.{Posting}
+use Rattle.model.specs.declared.answers.Reading.{Reading}
+use Rattle.model.specs.declared.answers.Writing.{Writing}
+use Rattle.model.specs.declared.answers.Clearing.{Clearing}
+use Rattle.model.specs.declared.answers.Verdict.{Verdict as Coded}
+use Rattle.model.specs.declared.rule.Rule.{Rule}
+
+-- ---- clearing, under the rule of this number, whose outcome is `made` by it: the cut and the margin
+
+unfoldable pub clearing :
+    (made : Rule → Tables → Outcome) (rule : ℕ) (t : Tables) (entry : Results) → Promise (ℕ × ℕ) Results
+clearing made rule t entry = record {
+  faults = clearingFaults rule t entry;
+  value = ((made (ruleOf rule) t) .cut, (made (ruleOf rule) t) .margin);
+  leaves = (made (ruleOf rule) t) .results;
+}
+
+abbrev pub ClearsBy : (made : Rule → Tables → Outcome) (rule : ℕ) (t : Tables) (entry : Results) (answer : Clearing)
+    (exit : Results) → Type 0
+ClearsBy made rule t entry answer exit = Keeps (clearing made rule t) entry (answerOfClearing answer) exit
+
+-- of `clear`
+abbrev pub Clears : (rule : ℕ) (t : Tables) (entry : Results) (answer : Clearing) (exit : Results) → Type 0
+Clears = ClearsBy outcome
+
+-- of `clear_efficient`
+abbrev pub ClearsEfficient : (rule : ℕ) (t : Tables) (entry : Results) (answer : Clearing) (exit : Results) → Type 0
+ClearsEfficient = ClearsBy efficientOutcome
+
+-- of `clear_under`: the rule is known, so that the tables decide
+unfoldable pub clearingUnder : (made : Tables → Outcome) (t : Tables) (entry : Results) → Promise (ℕ × ℕ) Results
+clearingUnder made t entry =
+    record { faults = tableFaults t entry; value = ((made t) .cut, (made t) .margin); leaves = (made t) .results }
+
+abbrev pub ClearsUnder :
+    (made : Tables → Outcome) (t : Tables) (entry : Results) (answer : Clearing) (exit : Results) → Type 0
+ClearsUnder made t entry answer exit = Keeps (clearingUnder made t) entry (answerOfClearing answer) exit
+
+-- ---- `read`: n and m
+
+unfoldable pub reading : (sheet : List ℕ) (entry : LentTables) → Promise (ℕ × ℕ) LentTables
+reading sheet entry = record {
+  faults = readingFaults entry sheet;
+  value = (guests sheet, stations sheet);
+  leaves = filled (tablesOf sheet) entry;
+}
+
+abbrev pub Reads : (sheet : List ℕ) (entry : LentTables) (answer : Reading) (exit : LentTables) → Type 0
+Reads sheet entry answer exit = Keeps (reading sheet) entry (answerOfReading answer) exit
+
+-- ---- `write`: the sheet's length
+
+unfoldable pub writing : (t : Tables) (entry : List ℕ) → Promise ℕ (List ℕ)
+writing t entry =
+    record { faults = writingFaults t (length entry); value = length (shortest t); leaves = written t entry }
+
+abbrev pub Writes : (t : Tables) (entry : List ℕ) (answer : Writing) (exit : List ℕ) → Type 0
+Writes t entry answer exit = Keeps (writing t) entry (answerOfWriting answer) exit
+
+-- ---- `place_bids`: no value
+
+unfoldable pub placing : (p : Places) (entry : List ℕ) → Promise Unit (List ℕ)
+placing p entry = record { faults = placingFaults p (length entry); value = tt; leaves = placedBids p }
+
+abbrev pub PlacesBids : (p : Places) (entry : List ℕ) (answer : Coded) (exit : List ℕ) → Type 0
+PlacesBids p entry answer exit = Keeps (placing p) entry (answerOfVerdict answer) exit
+
+-- ---- `explain`, with an outcome table, or several lists for one, of these lengths: no value
+
+unfoldable pub explaining : (rule : ℕ) (t : Tables) (outcomes : List ℕ) (entry : Shown) → Promise Unit Shown
+explaining rule t outcomes entry = record {
+  faults = explainingFaults rule t (length (entry .codes)) outcomes;
+  value = tt;
+  leaves = shownAs (codes (ruleOf rule) t) (guestOutcomes (ruleOf rule) t);
+}
+
+-- of `explain`, whose outcome table is a row of records: `shown` are their numbers
+abbrev pub Explains : (rule : ℕ) (t : Tables) (entry : Explanation) (answer : Coded) (exit : Explanation) → Type 0
+Explains rule t entry answer exit =
+    Keeps (explaining rule t (length (entry .outcomes) ∷ [])) (shown entry) (answerOfVerdict answer) (shown exit)
+
+-- ---- `post`: no value; its book is held to the plain one
+
+unfoldable pub entering : (p : Posting) (entry : PlainBook) → Promise Unit PlainBook
+entering p entry = record {
+  faults = postingFaults (p .rule) (p .tables) (p .round) entry;
+  value = tt;
+  leaves = enteredOf p entry;
+}
+
+abbrev pub Posts : (entry : Book) (p : Posting) (answer : Verdict) (exit : Book) → Type 0
+Posts entry p answer exit = Keeps (entering p) (plain entry) answer (plain exit)

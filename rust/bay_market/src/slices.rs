@@ -1,0 +1,210 @@
+//! Each function of [`c`](crate::c) over slices.
+// scripts/exports writes this file from crates/bay_market/src.
+#![allow(clippy::too_many_arguments)]
+
+use crate::c;
+use crate::StationAccount;
+
+pub(crate) fn clear(
+    rule: u8,
+    asks: &[u32],
+    bays: &[u16],
+    amounts: &[u16],
+    tickets: &[u32],
+    bids: &[u32],
+    width: usize,
+    stations: &mut [u16],
+    charges: &mut [u32],
+    sold: &mut [u32],
+    paid: &mut [u64],
+    cut: &mut u32, margin: &mut u64,
+) -> u8 {
+    // SAFETY: every pointer and length is that of a live slice or number, and borrows keep
+    // the written ones apart.
+    unsafe {
+        c::bay_market_clear(
+            rule,
+            asks.as_ptr(), asks.len(),
+            bays.as_ptr(), bays.len(),
+            amounts.as_ptr(), amounts.len(),
+            tickets.as_ptr(), tickets.len(),
+            bids.as_ptr(), bids.len(),
+            width,
+            stations.as_mut_ptr(), stations.len(),
+            charges.as_mut_ptr(), charges.len(),
+            sold.as_mut_ptr(), sold.len(),
+            paid.as_mut_ptr(), paid.len(),
+            cut, margin,
+        )
+    }
+}
+
+pub(crate) fn clear_efficient(
+    rule: u8,
+    asks: &[u32],
+    bays: &[u16],
+    amounts: &[u16],
+    tickets: &[u32],
+    bids: &[u32],
+    width: usize,
+    stations: &mut [u16],
+    charges: &mut [u32],
+    sold: &mut [u32],
+    paid: &mut [u64],
+    cut: &mut u32, margin: &mut u64,
+) -> u8 {
+    // SAFETY: every pointer and length is that of a live slice or number, and borrows keep
+    // the written ones apart.
+    unsafe {
+        c::bay_market_clear_efficient(
+            rule,
+            asks.as_ptr(), asks.len(),
+            bays.as_ptr(), bays.len(),
+            amounts.as_ptr(), amounts.len(),
+            tickets.as_ptr(), tickets.len(),
+            bids.as_ptr(), bids.len(),
+            width,
+            stations.as_mut_ptr(), stations.len(),
+            charges.as_mut_ptr(), charges.len(),
+            sold.as_mut_ptr(), sold.len(),
+            paid.as_mut_ptr(), paid.len(),
+            cut, margin,
+        )
+    }
+}
+
+pub(crate) fn explain(
+    rule: u8,
+    asks: &[u32],
+    bays: &[u16],
+    amounts: &[u16],
+    tickets: &[u32],
+    bids: &[u32],
+    width: usize,
+    codes: &mut [u8],
+    stations: &mut [u16],
+    charges: &mut [u32],
+    reasons: &mut [u8],
+) -> u8 {
+    // SAFETY: every pointer and length is that of a live slice or number, and borrows keep
+    // the written ones apart.
+    unsafe {
+        c::bay_market_explain(
+            rule,
+            asks.as_ptr(), asks.len(),
+            bays.as_ptr(), bays.len(),
+            amounts.as_ptr(), amounts.len(),
+            tickets.as_ptr(), tickets.len(),
+            bids.as_ptr(), bids.len(),
+            width,
+            codes.as_mut_ptr(), codes.len(),
+            stations.as_mut_ptr(), stations.len(),
+            charges.as_mut_ptr(), charges.len(),
+            reasons.as_mut_ptr(), reasons.len(),
+        )
+    }
+}
+
+pub(crate) fn place_bids(
+    prices: &[u32],
+    falls: &[u32],
+    guest_first: &[u16],
+    guest_second: &[u16],
+    station_first: &[u16],
+    station_second: &[u16],
+    bids: &mut [u32],
+) -> u8 {
+    // SAFETY: every pointer and length is that of a live slice or number, and borrows keep
+    // the written ones apart.
+    unsafe {
+        c::bay_market_place_bids(
+            prices.as_ptr(), prices.len(),
+            falls.as_ptr(), falls.len(),
+            guest_first.as_ptr(), guest_first.len(),
+            guest_second.as_ptr(), guest_second.len(),
+            station_first.as_ptr(), station_first.len(),
+            station_second.as_ptr(), station_second.len(),
+            bids.as_mut_ptr(), bids.len(),
+        )
+    }
+}
+
+pub(crate) fn post(
+    rule: u8,
+    asks: &[u32],
+    bays: &[u16],
+    amounts: &[u16],
+    tickets: &[u32],
+    bids: &[u32],
+    width: usize, round: u32,
+    guests: &mut [u64],
+    stations: &mut [StationAccount],
+    house: &mut u64, last: &mut u32,
+) -> u8 {
+    // SAFETY: every pointer and length is that of a live slice or number, and borrows keep
+    // the written ones apart.
+    unsafe {
+        c::bay_market_post(
+            rule,
+            asks.as_ptr(), asks.len(),
+            bays.as_ptr(), bays.len(),
+            amounts.as_ptr(), amounts.len(),
+            tickets.as_ptr(), tickets.len(),
+            bids.as_ptr(), bids.len(),
+            width, round,
+            guests.as_mut_ptr(), guests.len(),
+            stations.as_mut_ptr(), stations.len(),
+            house, last,
+        )
+    }
+}
+
+pub(crate) fn read(
+    sheet: &[u8],
+    amounts: &mut [u16],
+    tickets: &mut [u32],
+    asks: &mut [u32],
+    bays: &mut [u16],
+    bids: &mut [u32],
+    n: &mut u16, m: &mut u16,
+) -> u8 {
+    // SAFETY: every pointer and length is that of a live slice or number, and borrows keep
+    // the written ones apart.
+    unsafe {
+        c::bay_market_read(
+            sheet.as_ptr(), sheet.len(),
+            amounts.as_mut_ptr(), amounts.len(),
+            tickets.as_mut_ptr(), tickets.len(),
+            asks.as_mut_ptr(), asks.len(),
+            bays.as_mut_ptr(), bays.len(),
+            bids.as_mut_ptr(), bids.len(),
+            n, m,
+        )
+    }
+}
+
+pub(crate) fn write(
+    asks: &[u32],
+    bays: &[u16],
+    amounts: &[u16],
+    tickets: &[u32],
+    bids: &[u32],
+    width: usize,
+    sheet: &mut [u8],
+    length: &mut usize,
+) -> u8 {
+    // SAFETY: every pointer and length is that of a live slice or number, and borrows keep
+    // the written ones apart.
+    unsafe {
+        c::bay_market_write(
+            asks.as_ptr(), asks.len(),
+            bays.as_ptr(), bays.len(),
+            amounts.as_ptr(), amounts.len(),
+            tickets.as_ptr(), tickets.len(),
+            bids.as_ptr(), bids.len(),
+            width,
+            sheet.as_mut_ptr(), sheet.len(),
+            length,
+        )
+    }
+}
