@@ -1,12 +1,12 @@
 #!/usr/bin/env python3
 """Looks at the text of the crates: no line over 120 columns in src/, specs/ and proofs/ but in a file that a generator
-made, no chain of more than four `.before` there but in a function that only names the way back, and at most 141
+made, no chain of more than four `.before` there but in a function that only names the way back, and at most 113
 must-fail edits. Prints what is believed, file by file, with its lines (comments and blanks aside)."""
 import glob
 import re
 import sys
 
-WIDTH, CHAIN, EDITS = 120, 4, 141
+WIDTH, CHAIN, EDITS = 120, 4, 113
 owed = []
 
 
