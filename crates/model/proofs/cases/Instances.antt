@@ -7,7 +7,8 @@ use lib.ListN.{getD}
 use lib.Signed.{_≤ℤ_}
 use Rattle.model.specs.Counting.{sum}
 use Rattle.model.specs.market.Market.{bidAt, market}
-use Rattle.model.specs.declared.rule.Rule.the-variants.{Median}
+use Rattle.model.specs.declared.rule.Rule.{Rule}
+use Rattle.model.specs.declared.rule.Rule.the-variants.{Median, TwoThirds}
 use Rattle.model.specs.market.Mechanism.{charged, paid, margin}
 use Rattle.model.specs.market.Outcome.{screened, decision, efficientDecision}
 use Rattle.model.specs.market.Faults.{Accepted}
@@ -144,9 +145,16 @@ withheld-alike =
     row (suc zero) (suc (suc (suc zero))) lk lj n = refl
     row (suc zero) (suc (suc (suc (suc j)))) lk lj n = absurd (omega arith)
 
-pub efficient-guest-instance : EfficientGuestInstance
+pub efficient-guest-instance : (rule : Rule) → EfficientGuestInstance rule
 unfolding efficient-computes contested withheld two
-efficient-guest-instance = record {
+efficient-guest-instance Median = record {
+  accepted = refl;
+  accepted′ = refl;
+  alike = withheld-alike;
+  truth-gains = refl;
+  withheld-gains = refl;
+}
+efficient-guest-instance TwoThirds = record {
   accepted = refl;
   accepted′ = refl;
   alike = withheld-alike;
@@ -156,8 +164,8 @@ efficient-guest-instance = record {
 
 pub efficient-not-guest-truthful : EfficientNotGuestTruthful
 unfolding screened efficientDecision market contested two
-efficient-not-guest-truthful truth =
-    let I = efficient-guest-instance in
+efficient-not-guest-truthful rule truth =
+    let I = efficient-guest-instance rule in
     let no-more : pos 1 ≤ℤ pos 0 = rw (I .truth-gains, I .withheld-gains)
     at (truth contested withheld 0 (I .accepted) (I .accepted′) (omega arith) (I .alike)) in
     no-more .le

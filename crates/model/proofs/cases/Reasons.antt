@@ -1,16 +1,21 @@
 -- The codes and outcomes of cases, by computation.
 use mathlib.Core.Path.{refl}
 use Rattle.model.specs.Verdicts.{numberOf}
-use Rattle.model.specs.cases.Cases.{tableI, pair, caseE}
+use Rattle.model.specs.cases.Cases.{tableI, pair, caseE, single, tied}
 use Rattle.model.specs.cases.Sheets.{sheetE}
-use Rattle.model.specs.cases.Reasons.{reasonsE, ReasonsHold}
+use Rattle.model.specs.cases.Reasons.{reasonsE, ReasonsHold, ExplainingsJudged}
+use Rattle.model.specs.market.Faults.{explainedLengths, explainedFaults, explainingFaults}
 use Rattle.model.specs.market.Reasons.{reasons, code, codes, highestCode, loss, guestOutcomes}
 use Rattle.model.specs.text.ReasonsText.{reasonWord, winLine, lossLine, outcomeLine, outcomeLines, reasonsText}
 use Rattle.model.specs.text.MarketText.{reasonsPage, reasonsPageOf}
-use Rattle.model.proofs.cases.Computing.{printing-computes}
+use Rattle.model.proofs.cases.Computing.{clearing-computes, printing-computes}
 
 pub reasons-hold : ReasonsHold
 unfolding printing-computes tableI pair caseE sheetE reasonsE numberOf reasons code codes highestCode loss guestOutcomes
     reasonWord winLine lossLine outcomeLine outcomeLines reasonsText reasonsPage reasonsPageOf
 reasons-hold =
     record { codes-1 = refl; outcomes-1 = refl; codes-e = refl; outcomes-e = refl; page-e = refl }
+
+pub explainings-judged : ExplainingsJudged
+unfolding clearing-computes caseE pair single tied explainedLengths explainedFaults explainingFaults
+explainings-judged = refl

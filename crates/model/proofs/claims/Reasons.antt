@@ -1,6 +1,6 @@
 -- Request 7, proved: of tables, and of calls of `explain` and `clear`.
 use Prim.Native.Nat.{ℕ, zero, suc, _+_, _*_, _≤_, _<_}
-use mathlib.Core.Bool.{false, not}
+use mathlib.Core.Bool.{Bool, true, false, not}
 use mathlib.Core.List.{List, [], _∷_}
 use mathlib.Core.Logic.{_↔_, ⊎-elim}
 use mathlib.Core.Path.{_≡_, refl, sym, ap, subst, _∙_}
@@ -9,18 +9,19 @@ use lib.ListN.{getD, length, length-map, List·getD-map}
 use lib.Seq.{ext-getD}
 use Rattle.model.specs.Counting.{_=?_, greatest}
 use Rattle.model.specs.Numbers.{codeOf, stationOf, chargeOf, lossOf}
-use Rattle.model.specs.Verdicts.{accepted, firstFault}
+use Rattle.model.specs.Verdicts.{Row, _gives_, accepted, firstFault, numberOf}
 use Rattle.model.specs.market.Market.{Tables, marketBy, market, screen}
 use Rattle.model.specs.market.Mechanism.{at, charge, charged}
 use Rattle.model.specs.market.Outcome.{outcomeBy, screened, decision, outcome}
-use Rattle.model.specs.market.Faults.{Accepted, unknownRule, verdict, marketFaults, counts, lengths}
+use Rattle.model.specs.market.Faults.{Accepted, unknownRule, verdict, marketFaults, counts, lengths, values}
 use Rattle.model.specs.market.Faults.{explainedLengths, explainedFaults, explainingFaults}
-use Rattle.model.specs.market.Reasons.{code, codes, highestCode, told, loss, guestOutcomes, shown}
+use Rattle.model.specs.market.Reasons.{code, codes, highestCode, Told, told, loss, guestOutcomes, shown}
 use Rattle.model.specs.market.Rules.{ruleOf}
 use Rattle.model.specs.claims.Calls.{ClearedCall}
 use Rattle.model.specs.claims.Reasons.{CodeTells, CodesTellFacts, OutcomesTellWinsAndLosses, ToldDetermines}
 use Rattle.model.specs.claims.Reasons.{ExplainingWithinLimits, ExplainingAcceptedIffWithinLimits, ExplainedCall}
-use Rattle.model.specs.claims.Reasons.{codeIn, outcomeIn, CodesTellFactsCalls, ExplainTellsClear}
+use Rattle.model.specs.claims.Reasons.{codeIn, outcomeIn, CodesTellFactsCalls, ExplainTellsClear, OutcomeTells}
+use Rattle.model.specs.claims.Reasons.{outcomeLengths, ToldCallTells}
 use Rattle.model.specs.declared.money.Mills.{Mills}
 use Rattle.model.specs.declared.rule.Rule.{Rule}
 use Rattle.model.specs.declared.reason.Reason.{Reason}
@@ -31,7 +32,7 @@ use Rattle.model.specs.declared.reason.GuestOutcome.{GuestOutcome}
 use Rattle.model.proofs.Tests.{or-no, neither, lt-or-le}
 use Rattle.model.proofs.Counting.{any-no, none-any, greatest-cong, getD-list}
 use Rattle.model.proofs.Promises.{was-accepted}
-use Rattle.model.proofs.Verdicts.{no-fault, fault-free}
+use Rattle.model.proofs.Verdicts.{no-fault, fault-free, fault-none, updated-accepted}
 use Rattle.model.specs.contracts.EntryPoints.{clearing, explaining}
 use Rattle.model.proofs.market.Acceptance.{equal, not-unequal, known, is-known, accepted-iff-within-limits}
 use Rattle.model.proofs.market.Reasons.{code-tells, loss-most, loss-is, lost-unassigned, highest-least}
@@ -323,3 +324,48 @@ explain-tells-clear rule t e k i li =
       wins = wins-as (lost-as rule t e k i li) o x y z;
       loses = loses-as (lost-as rule t e k i li) o x y z;
     }
+
+-- ---- over calls of the exported `explain`: 0 is no fault's number
+
+zero-is-accepted :
+    (b : Bool) (k : ℕ) (rows : List Row) → (numberOf (firstFault rows) ≡ 0 → firstFault rows ≡ accepted tt)
+    → numberOf (firstFault ((b gives suc k) ∷ rows)) ≡ 0 → firstFault ((b gives suc k) ∷ rows) ≡ accepted tt
+unfolding firstFault numberOf
+zero-is-accepted true k rows h e = absurd (omega (arith, e))
+zero-is-accepted false k rows h e = h e
+
+told-accepted :
+    (rule : ℕ) (t : Tables) (codes : ℕ) (outcomes : List ℕ)
+    → numberOf (firstFault (explainingFaults rule t codes outcomes)) ≡ 0
+    → firstFault (explainingFaults rule t codes outcomes) ≡ accepted tt
+unfolding explainingFaults explainedFaults unknownRule counts lengths explainedLengths values
+told-accepted rule t codes outcomes e =
+    zero-is-accepted _ 17 _ (zero-is-accepted _ 1 _ (zero-is-accepted _ 4 _ (zero-is-accepted _ 9 _
+    (zero-is-accepted _ 5 _ (zero-is-accepted _ 6 _ (zero-is-accepted _ 7 _ (zero-is-accepted _ 8 _
+    (zero-is-accepted _ 14 _ (λ _. fault-none))))))))) e
+
+told-market :
+    (rule : ℕ) (t : Tables) (codes : ℕ) (outcomes : List ℕ)
+    → firstFault (explainingFaults rule t codes outcomes) ≡ accepted tt → Accepted t
+unfolding explainingFaults explainedFaults unknownRule counts lengths explainedLengths verdict marketFaults
+told-market rule t codes outcomes e =
+    let (n, e0) = no-fault _ _ _ e in
+    let (c, e1) = no-fault _ _ _ e0 in
+    let (l, e2) = no-fault _ _ _ e1 in
+    let (k, e3) = no-fault _ _ _ e2 in
+    fault-free _ _ c (fault-free _ _ l e3)
+
+pub told-call-tells : ToldCallTells
+unfolding explaining
+told-call-tells rule t e i li =
+    let v = told-accepted rule t (length (e .entry .codes)) (outcomeLengths (e .entry)) (sym (e .call .number-is)) in
+    let are = e .call .left ∙ updated-accepted _ _ v in
+    let codes-are : e .exit .codes ≡ codes (ruleOf rule) t = ap (λ s. s .codes) are in
+    let outcomes-are : e .exit .outcomes ≡ guestOutcomes (ruleOf rule) t = ap (λ s. s .outcomes) are in (
+      λ j lj. subst (λ (l : List ℕ). CodeTells (ruleOf rule) t i j (getD l (i * length (t .asks) + j) 0))
+          (sym codes-are) (codes-tell-facts (ruleOf rule) t i j li lj),
+      subst (λ (o : Told). OutcomeTells (ruleOf rule) t i (getD (o .stations) i 0) (getD (o .charges) i 0)
+          (getD (o .losses) i 0)) (sym outcomes-are)
+          (outcomes-tell-wins-and-losses (ruleOf rule) t
+          (told-market rule t (length (e .entry .codes)) (outcomeLengths (e .entry)) v) i li),
+    )

@@ -1,9 +1,10 @@
 -- Request 1 over calls, proved: what was written is the shortest sheet, what was taken is what the sheet is read as.
 use Prim.Native.Nat.{ℕ, _+_, _*_}
 use mathlib.Core.List.{List}
-use mathlib.Core.Path.{_≡_, sym, ap, ap₂, _∙_, subst}
+use mathlib.Core.Path.{_≡_, refl, sym, ap, ap₂, _∙_, subst}
 use native.Mathlib.Omega.{arith}
-use lib.ListN.{length, take}
+use lib.ListN.{length, take, replicate, length-replicate}
+use native.Mathlib.Nat.{le-refl}
 use lib.Seq.{paste, take-paste, take-all}
 use Rattle.model.specs.Verdicts.{accepted}
 use Rattle.model.specs.market.Market.{Tables}
@@ -11,13 +12,22 @@ use Rattle.model.specs.market.Faults.{Accepted, marketFaults, verdict}
 use Rattle.model.specs.sheet.Content.{tablesOf, readSheet}
 use Rattle.model.specs.sheet.Layout.{States}
 use Rattle.model.specs.sheet.Shortest.{shortest, writingFaults, written}
-use Rattle.model.specs.sheet.Lent.{LentTables, readingFaults, tableLengths, filled}
+use Rattle.model.specs.sheet.Lent.{LentTables, lentTables, readingFaults, tableLengths, filled}
 use Rattle.model.specs.contracts.EntryPoints.{reading, writing}
 use Rattle.model.specs.claims.Writings.{WritingAcceptedIffWithinLimits, Gave, marketIn, Took, WrittenIsRead}
-use Rattle.model.specs.claims.Writings.{WritingIsNoLonger, SecondAltersNothing}
+use Rattle.model.specs.claims.Writings.{WritingIsNoLonger, SecondAltersNothing, GaveExists, TookExists}
+use Rattle.model.specs.Limits.{maxGuests, maxStations, maxBids}
+use Rattle.model.specs.Numbers.{answerOfReading, answerOfWriting}
+use Rattle.model.specs.sheet.Content.{guests, stations, sheetFaults}
+use Rattle.model.specs.Verdicts.{firstFault}
+use Rattle.model.specs.declared.answers.Writing.the-variants.{Written}
+use Rattle.model.specs.declared.answers.Reading.the-variants.{Read}
+use Rattle.model.proofs.contracts.Reads.{lent-good}
+use Rattle.model.proofs.sheet.Truth.{states-read}
 use Rattle.model.proofs.Tests.{lt-no, not-lt}
 use Rattle.model.proofs.Verdicts.{fault-none, no-fault, no-faults, fault-second, fault-free, giving-accepted}
-use Rattle.model.proofs.Promises.{was-accepted}
+use Rattle.model.proofs.Verdicts.{gave-accepted}
+use Rattle.model.proofs.Promises.{keeps-accepted, was-accepted}
 use Rattle.model.proofs.claims.Sheets.{stated-is-read}
 use Rattle.model.proofs.sheet.Shortest.{shortest-states, shortest-is-read, shortest-is-least}
 use Rattle.model.proofs.sheet.Truth.{tables-are, reads-exactly-what-is-stated}
@@ -93,3 +103,44 @@ second-alters-nothing t u s s′ g c h =
     ∙ shortest-is-read t a (g .tickets-are) in
     let is : u ≡ t = cc in
     (is, gave u s′ h .1 ∙ ap shortest is ∙ sym e)
+
+-- ---- there are such calls
+
+pub gave-exists : GaveExists
+unfolding writing written answerOfWriting
+gave-exists t a w =
+    let v = writing-accepted-iff-within-limits t (length (shortest t)) .1 (a, le-refl _) in
+    record {
+      tickets-are = w;
+      entry = shortest t;
+      exit = written t (shortest t);
+      answer = Written (length (shortest t));
+      called = keeps-accepted v refl refl;
+      answered = refl;
+      is = sym (first-places (shortest t) (shortest t) (length (shortest t)) refl);
+    }
+
+zeros : LentTables
+zeros = lentTables (replicate maxGuests 0) (replicate maxGuests 0) (replicate maxStations 0) (replicate maxStations 0)
+    (replicate maxBids 0)
+
+pub took-exists : TookExists
+unfolding reading readingFaults tableLengths readSheet answerOfReading zeros
+took-exists s t h =
+    let (z, b) = gave-accepted (firstFault (sheetFaults s)) (tablesOf s) t (states-read s t h) in
+    let are = tables-are s in
+    let v : firstFault (readingFaults zeros s) ≡ accepted tt =
+    fault-free _ _ (lent-good _ _ _ _ _ (length-replicate {A = ℕ} maxGuests 0)
+    (length-replicate {A = ℕ} maxGuests 0) (length-replicate {A = ℕ} maxStations 0)
+    (length-replicate {A = ℕ} maxStations 0) (length-replicate {A = ℕ} maxBids 0)) z in
+    record {
+      entry = zeros;
+      exit = filled (tablesOf s) zeros;
+      answer = Read (guests s) (stations s);
+      n = guests s;
+      m = stations s;
+      called = keeps-accepted v refl refl;
+      answered = refl;
+      is = sym b ∙ sym (market-filled (tablesOf s) zeros (guests s) (stations s) (sym (are .n-is)) (sym (are .m-is))
+          (are .tickets-long) (are .bays-long) (are .bids-long) (are .width-is));
+    }

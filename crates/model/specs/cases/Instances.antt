@@ -11,6 +11,7 @@ use Rattle.model.specs.market.Outcome.{screened, decision, efficientDeci
 use Rattle.model.specs.market.Faults.{Accepted}
 use Rattle.model.specs.market.Gains.{guestGain, stationGain}
 use Rattle.model.specs.claims.Truth.{AlikeButForGuest, AlikeButForStation, Menu, MenuOf, ClearsWithin}
+use Rattle.model.specs.declared.rule.Rule.{Rule}
 use Rattle.model.specs.declared.rule.Rule.the-variants.{Median}
 use Rattle.model.specs.cases.Cases.{numbered, pair, caseE, caseG, two}
 
@@ -67,11 +68,11 @@ contested = two (2 ∷ 2 ∷ 0 ∷ 0 ∷ 2 ∷ 0 ∷ 0 ∷ 0 ∷ [])
 unfoldable pub withheld : Tables
 withheld = two (0 ∷ 2 ∷ 0 ∷ 0 ∷ 2 ∷ 0 ∷ 0 ∷ 0 ∷ [])
 
-pub record EfficientGuestInstance : Type 0 where
+pub record EfficientGuestInstance (rule : Rule) : Type 0 where
   pub accepted : Accepted contested
   pub accepted′ : Accepted withheld
   pub alike : AlikeButForGuest contested withheld 0
   pub truth-gains :
-      guestGain (screened Median contested) (efficientDecision Median contested) (bidAt contested 0) 0 ≡ pos 0
+      guestGain (screened rule contested) (efficientDecision rule contested) (bidAt contested 0) 0 ≡ pos 0
   pub withheld-gains :
-      guestGain (screened Median withheld) (efficientDecision Median withheld) (bidAt contested 0) 0 ≡ pos 1
+      guestGain (screened rule withheld) (efficientDecision rule withheld) (bidAt contested 0) 0 ≡ pos 1

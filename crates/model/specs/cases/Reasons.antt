@@ -1,8 +1,10 @@
 -- The codes and outcomes of Table I and of case E under rule 1, and the page of case E, byte by byte.
 use Prim.Native.Nat.{ℕ}
-use mathlib.Core.List.{List, [], _∷_}
+use mathlib.Core.List.{List, [], _∷_, map}
 use mathlib.Core.Path.{_≡_}
-use Rattle.model.specs.cases.Cases.{tableI, caseE}
+use Rattle.model.specs.cases.Cases.{tableI, caseE, pair, numbered, single, tied}
+use Rattle.model.specs.Verdicts.{accepted, refused, firstFault}
+use Rattle.model.specs.market.Faults.{explainingFaults}
 use Rattle.model.specs.cases.Sheets.{sheetE}
 use Rattle.model.specs.market.Reasons.{codes, tellings, guestOutcomes}
 use Rattle.model.specs.text.Printed.{printed}
@@ -33,3 +35,18 @@ pub record ReasonsHold : Type 0 where
   pub codes-e : codes Median caseE ≡ 0 ∷ 1 ∷ 4 ∷ 1 ∷ []
   pub outcomes-e : guestOutcomes Median caseE ≡ tellings (1 ∷ 0 ∷ []) (24 ∷ 0 ∷ []) (0 ∷ 4 ∷ [])
   pub page-e : printed (Reasons Median) 38 sheetE ≡ reasonsE
+
+-- a code table of 4 places and outcome tables of 2; each too short or too long; 18, 2 and 5 before 10, and 10 before 6
+-- and 15
+abbrev pub ExplainingsJudged : Type 0
+ExplainingsJudged =
+    map firstFault (
+    explainingFaults 1 caseE 4 (2 ∷ []) ∷ explainingFaults 2 caseE 4 (2 ∷ 2 ∷ 2 ∷ [])
+    ∷ explainingFaults 1 caseE 3 (2 ∷ []) ∷ explainingFaults 1 caseE 5 (2 ∷ []) ∷ explainingFaults 1 caseE 4 (1 ∷ [])
+    ∷ explainingFaults 1 caseE 4 (2 ∷ 2 ∷ 3 ∷ []) ∷ explainingFaults 3 (numbered [] [] [] []) 9 (9 ∷ [])
+    ∷ explainingFaults 1 (numbered [] [] [] []) 9 (9 ∷ []) ∷ explainingFaults 1 (pair (1 ∷ []) (8 ∷ [])) 9 (9 ∷ [])
+    ∷ explainingFaults 1 (single 1_000_001 1 1 1) 0 (1 ∷ []) ∷ explainingFaults 1 (single 1_000_001 1 1 1) 1 (1 ∷ [])
+    ∷ explainingFaults 1 (tied (9 ∷ 7 ∷ 5 ∷ 9 ∷ [])) 8 (5 ∷ [])
+    ∷ explainingFaults 1 (tied (9 ∷ 7 ∷ 5 ∷ 9 ∷ [])) 8 (4 ∷ []) ∷ [])
+    ≡ (accepted tt ∷ accepted tt ∷ refused 10 ∷ refused 10 ∷ refused 10 ∷ refused 10 ∷ refused 18 ∷ refused 2
+    ∷ refused 5 ∷ refused 10 ∷ refused 6 ∷ refused 10 ∷ refused 15 ∷ [])

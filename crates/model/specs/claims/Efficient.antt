@@ -14,7 +14,6 @@ use Rattle.model.specs.market.Outcome.{outcomeBy, screened, decision, ef
 use Rattle.model.specs.market.Faults.{Accepted}
 use Rattle.model.specs.market.Rules.{position}
 use Rattle.model.specs.declared.rule.Rule.{Rule}
-use Rattle.model.specs.declared.rule.Rule.the-variants.{Median}
 use Rattle.model.specs.claims.Truth.{GuestTruthfulBy, StationTruthfulBy, ClearsWithin}
 
 -- the p-th candidacy, from 0
@@ -131,7 +130,7 @@ EfficientAssignsNoFewer =
 -- 'Here bidders lose the guarantee that truth pays best; stations keep it, as do the limits on charges, payments and
 -- bays.'
 abbrev pub EfficientNotGuestTruthful : Type 0
-EfficientNotGuestTruthful = GuestTruthfulBy efficient (position Median) → ⊥
+EfficientNotGuestTruthful = (rule : Rule) → GuestTruthfulBy efficient (position rule) → ⊥
 
 abbrev pub EfficientStationTruthful : Type 0
 EfficientStationTruthful = (rule : ℕ → ℕ) → StationTruthfulBy efficient rule

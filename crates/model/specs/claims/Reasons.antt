@@ -13,11 +13,12 @@ use Rattle.model.specs.market.Market.{Tables, bidAt, market, cut, opens,
 use Rattle.model.specs.market.Mechanism.{charge}
 use Rattle.model.specs.market.Outcome.{Results, screened, decision}
 use Rattle.model.specs.market.Faults.{Accepted, explainingFaults}
-use Rattle.model.specs.market.Reasons.{codes, highestCode, told, guestOutcomes, Explanation}
+use Rattle.model.specs.market.Reasons.{codes, highestCode, told, guestOutcomes, Explanation, Shown}
 use Rattle.model.specs.market.Rules.{ruleOf}
 use Rattle.model.specs.claims.Calls.{ClearedCall}
 use Rattle.model.specs.claims.Meaning.{NamesRule}
-use Rattle.model.specs.contracts.EntryPoints.{Explains}
+use Rattle.model.specs.Promises.{RepliesOut}
+use Rattle.model.specs.contracts.EntryPoints.{Explains, explaining}
 use Rattle.model.specs.declared.rule.Rule.{Rule}
 use Rattle.model.specs.declared.money.Mills.{Mills}
 use Rattle.model.specs.declared.answers.Verdict.{Verdict}
@@ -131,3 +132,24 @@ abbrev pub ExplainTellsClear : Type 0
 ExplainTellsClear =
     (rule : ℕ) (t : Tables) (e : ExplainedCall rule t) (k : ClearedCall rule t) (i : ℕ) → i < length (t .amounts)
     → TellsClearing t (e .exit) (k .exit) i
+
+-- ---- over calls of the exported `explain`
+
+-- one that answered 0, whatever its lists held before
+abbrev pub outcomeLengths : Shown → List ℕ
+outcomeLengths e =
+    length (e .outcomes .stations) ∷ length (e .outcomes .charges) ∷ length (e .outcomes .losses) ∷ []
+
+pub record ToldCall (rule : ℕ) (t : Tables) : Type 0 where
+  pub entry : Shown
+  pub exit : Shown
+  pub call : RepliesOut (explaining rule t (outcomeLengths entry)) entry 0 exit
+
+-- every code of the table is given exactly where its fact is true, and every outcome is the win or the loss
+abbrev pub ToldCallTells : Type 0
+ToldCallTells =
+    (rule : ℕ) (t : Tables) (e : ToldCall rule t) (i : ℕ) → i < length (t .amounts)
+    → ((j : ℕ) → j < length (t .asks)
+    → CodeTells (ruleOf rule) t i j (getD (e .exit .codes) (i * length (t .asks) + j) 0))
+    × OutcomeTells (ruleOf rule) t i (getD (e .exit .outcomes .stations) i 0) (getD (e .exit .outcomes .charges) i 0)
+    (getD (e .exit .outcomes .losses) i 0)

@@ -8,7 +8,7 @@ use Rattle.model.specs.Numbers.{answerOfReading, answerOfWriting}
 use Rattle.model.specs.Verdicts.{accepted, firstFault}
 use Rattle.model.specs.market.Market.{Tables, tables}
 use Rattle.model.specs.market.Faults.{Accepted}
-use Rattle.model.specs.sheet.Layout.{Bytes, Words}
+use Rattle.model.specs.sheet.Layout.{States, Bytes, Words}
 use Rattle.model.specs.sheet.Shortest.{shortest, writingFaults}
 use Rattle.model.specs.sheet.Lent.{LentTables}
 use Rattle.model.specs.contracts.EntryPoints.{Reads, Writes}
@@ -64,3 +64,10 @@ WritingIsNoLonger =
 abbrev pub SecondAltersNothing : Type 0
 SecondAltersNothing =
     (t u : Tables) (s s′ : List ℕ) → Gave t s → Took s u → Gave u s′ → (u ≡ t) × (s′ ≡ s)
+
+-- there are such calls: for every accepted market, and for every sheet that states a market
+abbrev pub GaveExists : Type 0
+GaveExists = (t : Tables) → Accepted t → Words (t .tickets) → Gave t (shortest t)
+
+abbrev pub TookExists : Type 0
+TookExists = (s : List ℕ) (t : Tables) → States s t → Took s t
