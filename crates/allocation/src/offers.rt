@@ -50,7 +50,7 @@ fn pick(old: Mills, new: Mills, a: u32, b: u32) -> u32
 
 // One station's offers to every guest: where an offer gains more than the best so far, it is chosen. What it requires
 // of its lists holds in an accepted market.
-pub fn offer(
+fn offer_below(
     totals: &[u32],
     tickets: &[u32],
     least: &[u32],
@@ -74,5 +74,37 @@ pub fn offer(
         chosen[i] = pick(old, gain, station, chosen[i]);
         gains[i] = signed::larger_small(old, gain).narrow();
         i += 1;
+    }
+}
+
+// The same. With a bound of 0, which is the common case, no ticket is looked at.
+pub fn offer(
+    totals: &[u32],
+    tickets: &[u32],
+    least: &[u32],
+    critical: Mills,
+    bound: u32,
+    station: u32,
+    chosen: &mut [u32],
+    gains: &mut [u32],
+)
+    requires { ⌜ Offerable (now totals) (now tickets) (now least) (critical .0) bound (now chosen)
+        (now gains) ⌝ }
+    ensures { λ _. ⌜ Offered (now (totals .entry)) (now (tickets .entry)) (now (least .entry)) (critical .0) bound
+        station (now (chosen .entry)) (now (gains .entry)) (now (chosen .exit)) (now (gains .exit)) ⌝ }
+{
+    if bound == 0 {
+        offer_below(totals, tickets, least, critical, 0, station, chosen, gains);
+    } else {
+        offer_below(
+            totals,
+            tickets,
+            least,
+            critical,
+            bound,
+            station,
+            chosen,
+            gains,
+        );
     }
 }

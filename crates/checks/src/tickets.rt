@@ -77,12 +77,31 @@ fn some_repeat(tickets: &[u32]) -> bool
     found
 }
 
+// The same, each against those before it.
+fn some_repeat_of_few(tickets: &[u32]) -> bool
+    ensures { λ r. ⌜ r ≡ repeats (now (tickets .entry)) ⌝ }
+{
+    let mut found = false;
+    let mut k = 0;
+    while k < tickets.len() {
+        found = found | stands_before(tickets, k);
+        k += 1;
+    }
+    found
+}
+
+// Of so few tickets each is held against all before it: the table would cost more.
+const FEW: usize = 24;
+
 // Whether two are the same. Most car parks number their guests as they come.
 pub fn any_repeats(tickets: &[u32]) -> bool
     ensures { λ r. ⌜ r ≡ repeats (now (tickets .entry)) ⌝ }
 {
     if rising(tickets) {
         return false;
+    }
+    if tickets.len() <= FEW {
+        return some_repeat_of_few(tickets);
     }
     some_repeat(tickets)
 }

@@ -2,6 +2,7 @@
 use crate::walk_table;
 use model::cell::Cell;
 use model::limits::MAX_SQUARED_DISTANCE;
+use model::limits::MAX_STATIONS;
 use model::money::UnitPrice;
 ghost use Prim.Native.Nat.{_*_, _-_, _^_, _<_};
 ghost use mathlib.Core.Path.{_≡_};
@@ -10,7 +11,7 @@ ghost use lib.Seq.{paste};
 ghost use Rattle.model.specs.places.Bids.{difference as differenceOf, squaredDistance, placedBids};
 ghost use Rattle.model.specs.claims.Places.{OnGrid, PlacesWithinLimits};
 ghost use Rattle.model.specs.contracts.Lent.{placesOf, placesIn};
-ghost use Rattle.grid.specs.Rows.{rowBids, RowReady};
+ghost use Rattle.grid.specs.Rows.{rowBids, rowSquares, RowReady, SquaresReady};
 
 // How fast a unit price falls: mills per kWh for each tenth of a cell.
 struct Fall(u32);
@@ -49,7 +50,67 @@ fn bid(price: UnitPrice, fall: Fall, walk: u16) -> UnitPrice
     }
 }
 
-// A guest's bids at all stations, to the places from base on.
+// The squared distances of a cell from all stations. No one waits for another: several of them a step.
+fn square_row(from: Cell, firsts: &[u16], seconds: &[u16], squares: &mut [u16])
+    requires { ⌜ SquaresReady from (now firsts) (now seconds) (now squares) ⌝ }
+    ensures { λ _. ⌜ now (squares .exit) ≡ rowSquares from (now (firsts .entry)) (now (seconds .entry)) ⌝ }
+{
+    let mut j = 0;
+    while j < firsts.len() {
+        let station = Cell {
+            first: firsts[j],
+            second: seconds[j],
+        };
+        squares[j] = squared_distance(from, station) as u16;
+        j += 1;
+    }
+}
+
+// A guest's bids at all stations, to the places from base on, by their squared distances. The stations' cells are given
+// for the contract alone.
+fn bid_row(
+    walks: &[u16; MAX_SQUARED_DISTANCE + 1],
+    guest: Guest,
+    firsts: &[u16],
+    seconds: &[u16],
+    squares: &[u16],
+    base: usize,
+    bids: &mut [u32],
+)
+    requires { ⌜ RowReady (now walks) guest (now firsts) (now seconds) base (now bids)
+        × (now squares ≡ rowSquares (guest .cell) (now firsts) (now seconds)) ⌝ }
+    ensures { λ _. ⌜ now (bids .exit) ≡ paste (now (bids .entry)) base
+        (rowBids guest (now (firsts .entry)) (now (seconds .entry))) (length (now (firsts .entry))) ⌝ }
+{
+    let mut j = 0;
+    while j < firsts.len() {
+        let q = squares[j] as usize;
+        let bid = bid(guest.price, guest.fall, walks[q]);
+        bids[base + j] = bid.0;
+        j += 1;
+    }
+}
+
+// The same, with room for the squared distances.
+fn place_row_with(
+    walks: &[u16; MAX_SQUARED_DISTANCE + 1],
+    guest: Guest,
+    firsts: &[u16],
+    seconds: &[u16],
+    squares: &mut [u16],
+    base: usize,
+    bids: &mut [u32],
+)
+    requires { ⌜ RowReady (now walks) guest (now firsts) (now seconds) base (now bids)
+        × (length (now squares) ≡ length (now firsts)) ⌝ }
+    ensures { λ _. ⌜ (now (bids .exit) ≡ paste (now (bids .entry)) base
+        (rowBids guest (now (firsts .entry)) (now (seconds .entry))) (length (now (firsts .entry)))) ⌝ }
+{
+    square_row(guest.cell, firsts, seconds, squares);
+    bid_row(walks, guest, firsts, seconds, squares, base, bids);
+}
+
+// The same, with its own room.
 fn place_row(
     walks: &[u16; MAX_SQUARED_DISTANCE + 1],
     guest: Guest,
@@ -62,17 +123,9 @@ fn place_row(
     ensures { λ _. ⌜ now (bids .exit) ≡ paste (now (bids .entry)) base
         (rowBids guest (now (firsts .entry)) (now (seconds .entry))) (length (now (firsts .entry))) ⌝ }
 {
-    let mut j = 0;
-    while j < firsts.len() {
-        let station = Cell {
-            first: firsts[j],
-            second: seconds[j],
-        };
-        let q = squared_distance(guest.cell, station);
-        let bid = bid(guest.price, guest.fall, walks[q]);
-        bids[base + j] = bid.0;
-        j += 1;
-    }
+    let mut squares = [0u16; MAX_STATIONS];
+    let m = firsts.len();
+    place_row_with(walks, guest, firsts, seconds, &mut squares[..m], base, bids);
 }
 
 // All rows.

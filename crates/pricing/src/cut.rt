@@ -9,10 +9,11 @@ ghost use Rattle.model.specs.market.Rules.{position as positionOf};
 ghost use Rattle.pricing.specs.CutAsk.{under, eligible, cutAsk};
 
 // How many asks lie below x.
-fn count_below(asks: &[u32], x: UnitPrice) -> usize
+fn count_below(asks: &[u32], x: UnitPrice) -> u32
+    requires { ⌜ length (now asks) ≤ maxStations ⌝ }
     ensures { λ r. ⌜ r ≡ under (now (asks .entry)) (x .0) ⌝ }
 {
-    let mut n: usize = 0;
+    let mut n: u32 = 0;
     let mut i = 0;
     while i < asks.len() {
         if UnitPrice(asks[i]).below(x) {
@@ -25,9 +26,11 @@ fn count_below(asks: &[u32], x: UnitPrice) -> usize
 
 // x where it is greater than r and fewer than `position` asks lie below it, else r.
 fn raised(asks: &[u32], r: UnitPrice, x: UnitPrice, position: usize) -> UnitPrice
+    requires { ⌜ length (now asks) ≤ maxStations ⌝ }
     ensures { λ s. ⌜ s .0 ≡ max (r .0) (eligible (now (asks .entry)) position (x .0)) ⌝ }
 {
-    if count_below(asks, x) < position {
+    let below = count_below(asks, x) as usize;
+    if below < position {
         if r.below(x) { x } else { r }
     } else {
         r

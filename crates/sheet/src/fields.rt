@@ -56,6 +56,29 @@ fn number(s: &[u8], at: usize, k: usize) -> u64
     x
 }
 
+// The number that the 5 bytes from at hold: they are taken at once.
+fn five(s: &[u8], at: usize) -> u64
+    requires { ⌜ at + 5 ≤ length (now s) ⌝ }
+    ensures { λ r. ⌜ r ≡ littleEndian (now (s .entry)) at 5 ⌝ }
+{
+    wide(s[at])
+        + 256 * wide(s[at + 1])
+        + 65_536 * wide(s[at + 2])
+        + 16_777_216 * wide(s[at + 3])
+        + 4_294_967_296 * wide(s[at + 4])
+}
+
+// The number that the k bytes of a map hold. The widest maps are those of large markets.
+fn map_number(s: &[u8], at: usize, k: usize) -> u64
+    requires { ⌜ (k ≤ 5) × (at + k ≤ length (now s)) ⌝ }
+    ensures { λ r. ⌜ r ≡ littleEndian (now (s .entry)) at k ⌝ }
+{
+    if k == 5 {
+        return five(s, at);
+    }
+    number(s, at, k)
+}
+
 impl Cursor {
     pub fn start() -> Cursor
         ensures { λ r. ⌜ r .at ≡ 0 ⌝ }
@@ -128,7 +151,7 @@ impl Cursor {
         let at = self.at;
         let k = map_width(stations);
         Map {
-            bits: number(s, at, k),
+            bits: map_number(s, at, k),
             next: self.skip(k),
         }
     }

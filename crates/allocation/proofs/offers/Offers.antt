@@ -118,3 +118,10 @@ pub offers-end : {totals tickets least : List ℕ} {t e s : ℕ} {chosen₀ gain
     → Offering totals tickets least t e s chosen₀ gains₀ i chosen gains → length totals ≤ i
     → Offered totals tickets least t e s chosen₀ gains₀ chosen gains
 offers-end h b = record { chosen-are = filling-end (h .chosen-are) b; gains-are = filling-end (h .gains-are) b }
+
+-- offers with no bound are those with a bound of 0
+pub at-bound :
+    (totals tickets least : List ℕ) (t e s : ℕ) (chosen₀ gains₀ chosen gains : List ℕ) → e ≡ 0
+    → Offered totals tickets least t 0 s chosen₀ gains₀ chosen gains
+    → Offered totals tickets least t e s chosen₀ gains₀ chosen gains
+at-bound totals tickets least t e s chosen₀ gains₀ chosen gains z h = rw z h

@@ -17,8 +17,24 @@ use Rattle.model.proofs.market.Acceptance.{product-fits}
 use Rattle.model.proofs.sheet.Joined.{joined-length, paste-next}
 use Rattle.model.proofs.places.Cells.{grid-distances}
 use Rattle.model.proofs.places.Walks.{walk-most}
-use Rattle.grid.specs.Rows.{rowBids, RowReady}
+use Rattle.model.specs.declared.cell.Cell.{Cell}
+use Rattle.grid.specs.Rows.{squareAt, rowSquares, rowBids, RowReady}
 use Rattle.grid.specs.declared.rows.Guest.{Guest}
+
+-- ---- the squared distances of a row
+
+pub squares-long :
+    (a : Cell) (firsts seconds : List ℕ) {squares : List ℕ} → squares ≡ rowSquares a firsts seconds
+    → length squares ≡ length firsts
+unfolding rowSquares
+squares-long a firsts seconds e = ap length e ∙ length-list (length firsts) _
+
+pub square-is :
+    (a : Cell) (firsts seconds : List ℕ) {squares : List ℕ} → squares ≡ rowSquares a firsts seconds
+    → (j : ℕ) → j < length firsts
+    → getD squares j 0 ≡ squaredDistance a (cell (getD firsts j 0) (getD seconds j 0))
+unfolding rowSquares squareAt
+square-is a firsts seconds e j l = element (length firsts) (squareAt a firsts seconds) e j l
 
 -- ---- one bid: the walk is read from the table
 

@@ -8,4 +8,4 @@ pub any-repeats-spec : {M : Type 1} → statement M
 any-repeats-spec =
     tie.close (tie.spec (λ c κs. search needs)
     (λ c. rising-no-repeat _ (sym (c .before .rising .ensures) ∙ c .if1 .taken)) (λ c κs. search needs)
-    (λ c. c .some-repeat .ensures))
+    (λ c. c .some-repeat-of-few .ensures) (λ c κs. search needs) (λ c. c .some-repeat .ensures))

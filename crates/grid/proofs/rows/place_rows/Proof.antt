@@ -41,6 +41,7 @@ place-row-requires c κs =
     let at-test = test-before-guest (c .before .before) in
     let within = entry-before-test at-test .pre in
     record {
+      few = within .stations-most;
       walks-are = at-test .before .before .walks .ensures;
       fall-most = within .fall-most _ (at-test .loop-test .taken);
       guest-on-grid = within .guest-on-grid _ (at-test .loop-test .taken);

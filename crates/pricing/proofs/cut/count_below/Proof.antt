@@ -20,7 +20,11 @@ loop-holds : tie.Need-loop-holds Inv-loop μ-loop
 loop-holds c = counted-none
 
 add-n : tie.Need-add-n Inv-loop μ-loop
-add-n c = omega (arith, count-low (c .before .before .before .before .loop .inv))
+add-n c =
+    let at-loop-test = c .before .before .before in
+    let at-loop = at-loop-test .before in
+    let entry = at-loop .before .before in
+    omega (arith, count-low (at-loop .loop .inv), at-loop-test .loop-test .taken, entry .pre)
 
 loop-again : tie.Need-loop-again Inv-loop μ-loop
 loop-again c =

@@ -23,4 +23,6 @@ returns-3 : tie.Need-returns-3
 returns-3 c = omega (arith, eligible-no _ _ _ _ (c .before .count-below .ensures) (c .if1 .left))
 
 pub raised-spec : {M : Type 1} → statement M
-raised-spec = tie.close (tie.spec (λ c κs. search needs) (λ c κs. search needs) returns returns-2 returns-3)
+raised-spec =
+    tie.close
+    (tie.spec (λ c κs. search needs) (λ c. search needs) (λ c κs. search needs) returns returns-2 returns-3)
