@@ -6,7 +6,7 @@ WIDTH = 120
 # Where each name that a walk may use comes from. A file imports those that it uses.
 MODULES = '''
 Prim.Native.Nat: ℕ _+_ _*_ _-_ _<_ _≤_ _^_ zero-le min
-mathlib.Core.Path: _≡_ refl sym ap subst _∙_
+mathlib.Core.Path: _≡_ refl sym ap ap₂ subst _∙_
 mathlib.Core.Bool: Bool true false _&&_
 mathlib.Core.List: List [] _∷_
 mathlib.Core.WellFounded: WellFounded InvImage·wf

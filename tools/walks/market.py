@@ -1,5 +1,4 @@
 """What a market, its results and a book are lent as, at the lifetimes of a function that takes all nine slices."""
-import view
 from frame import Cell, each, Lent, Number, projection, Shared
 from layout import pairs
 
@@ -7,31 +6,8 @@ RULE = Number('rule', 'u8')
 ASKS = [Shared('asks', 'u32', 0), Shared('bays', 'u16', 1), Shared('amounts', 'u16', 2), Shared('tickets', 'u32', 3)]
 BIDS, WIDTH = Shared('bids', 'u32', 4), Number('width', 'usize')
 SLICES = [*ASKS, BIDS]
-RESULTS = [Lent('stations', 'u16', 5), Lent('charges', 'u32', 6), Lent('sold', 'u32', 7), Lent('paid', 'u64', 8)]
-# the results at exit, that their lengths are as they were, and what is had then, where the answer is r
-LASTS = ' '.join(f'{p.name}′' for p in RESULTS)
-LENGTHS = ' '.join(f'l-{p.name}' for p in RESULTS)
-KEEPS = [f'→ length {p.name}′ ≡ length (now {p.name})' for p in RESULTS]
-
-
-def had(r):
-    left = ' ∷ '.join(f'‵ (finally {p.type} ({p.name} .name) {p.name}′)' for p in RESULTS)
-    return f'tokens ∷ {left} ∷ ‵ (S.the-row .own {r} (u ∷ [])) ∷ ‵ Kept ∷ []'
-
-
 ROUND, GUESTS = Number('round', 'u32'), Lent('guests', 'u64', 5)
 HOUSE, LAST = Cell('house', 'u64', 7), Cell('last', 'u32', 8)
-
-# what the contract of a clearing through the view cites
-CLEARS = f'''\
-Rattle.model.specs.market.Outcome: results
-Rattle.model.specs.market.Market: tables
-{view.USES}\
-Rattle.model.specs.contracts.EntryPoints: Clears
-Rattle.model.specs.declared.answers.Clearing: Clearing
-Rattle.model.proofs.answers.Clearing as S
-Rattle.model.proofs.answers.Clearing.Laws as S′
-'''
 
 # the lifetimes, their shares, and what a posting is passed before the row of stations
 POSTED = ('(κ₀ κ₁ κ₂ κ₃ κ₄ κ₅ κ₆ κ₇ κ₈ : Lft) (q₀ q₁ q₂ q₃ q₄ q₅ q₆ q₇ q₈ : Share) '

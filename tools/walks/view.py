@@ -1,8 +1,8 @@
 """The view of the bid table, a Copy struct of a slice and a number: what walks over it share."""
 USES = '''\
-Rattle.clearing.specs.declared.views.BidTable: BidTable
-Rattle.clearing.proofs.views.BidTable as T
-Rattle.clearing.proofs.views.BidTable.Laws as T′
+Rattle.views.specs.declared.BidTable: BidTable
+Rattle.views.proofs.BidTable as T
+Rattle.views.proofs.BidTable.Laws as T′
 '''
 
 

@@ -1,5 +1,4 @@
 // The clearing for other languages: include/bay_market.h.
-use clearing::view_clearing;
 use model::answers::Clearing;
 ghost use Rattle.model.specs.Promises.{KeepsOut};
 ghost use Rattle.model.specs.market.Outcome.{outcome, efficientOutcome};
@@ -46,7 +45,7 @@ pub extern "C" fn bay_market_clear(
         (resultsIn stations charges sold paid) (now (cut .entry), now (margin .entry)) r
         (resultsOut stations charges sold paid) (now (cut .exit), now (margin .exit)) ⌝ }
 {
-    let answer = view_clearing::clear_through_view(
+    let answer = clearing::clear(
         rule,
         asks,
         bays,

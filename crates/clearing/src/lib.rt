@@ -1,7 +1,5 @@
 // The clearing of a market: one call checks the lent tables, clears them and answers, or refuses and writes nothing.
 mod accepted;
-pub mod view_clearing;
-pub mod views;
 
 use checks::faults;
 use model::answers::Clearing;
@@ -46,19 +44,22 @@ pub fn clear_under(
     );
     match verdict {
         Verdict::Refused(refusal) => Clearing::Refused(refusal),
-        Verdict::Accepted => accepted::clear_accepted(
-            mechanism,
-            rule,
-            asks,
-            bays,
-            amounts,
-            tickets,
-            bids,
-            stations,
-            charges,
-            sold,
-            paid,
-        ),
+        Verdict::Accepted => {
+            let table = views::bids_through_view(bids, width, asks.len());
+            accepted::clear_accepted(
+                mechanism,
+                rule,
+                asks,
+                bays,
+                amounts,
+                tickets,
+                table,
+                stations,
+                charges,
+                sold,
+                paid,
+            )
+        }
     }
 }
 

@@ -1,4 +1,4 @@
-"""`views::bid_table` meets its contract: a `BidTable` is made of the slice and the width passed, in the result's local.
+"""`bid_table` meets its contract: a `BidTable` is made of the slice and the width passed, in the result's local.
 A `&[u32]` is Copy, so what it owns is had twice: once for bids at exit, and once inside the result, beside the facts of
 width."""
 from context import Walk
@@ -6,7 +6,7 @@ from frame import alone, Function, Number, Shared
 from view import USES
 
 BIDS, WIDTH = Shared('s', 'u32', 0, value='v'), Number('m', 'usize', 'fits')
-FUNCTION = Function('clearing', 'views.bid_table', 1, [BIDS, WIDTH], naming=alone, uses=USES)
+FUNCTION = Function('views', 'bid_table', 1, [BIDS, WIDTH], naming=alone, uses=USES)
 TYPED = 'shr-slice-lawful 𝓤 H A W (named 0) κ u32 .typed s (v ∷ []) p .0'
 
 

@@ -1,15 +1,15 @@
 -- The rows of an accepted market's bid table.
 use Prim.Native.Nat.{ℕ, _+_, _*_, _-_, _≤_, _<_}
-use mathlib.Core.List.{List}
+use mathlib.Core.List.{List, []}
 use mathlib.Core.Path.{_≡_, sym, ap, _∙_}
 use native.Mathlib.Nat.{mul-le-mul-right}
 use native.Mathlib.Omega.{arith}
 use lib.ListN.{getD, length, take, drop, length-take, length-drop}
 use lib.Seq.{getD-take, getD-drop}
 use Rattle.model.specs.market.Market.{bidAt}
-use Rattle.model.proofs.Tests.{both, is-le}
+use Rattle.model.proofs.Tests.{both, is-le, is-eq, not-eq}
 use Rattle.model.proofs.market.Acceptance.{accepted-iff-within-limits}
-use Rattle.model.specs.contracts.Rows.{shown, rowOf, RowsShowBids}
+use Rattle.model.specs.contracts.Rows.{shown, rowOf, bidsOf, RowsShowBids, ViewShowsBids}
 
 -- a row that lies in the table
 pub row-in : (xs : List ℕ) (m i : ℕ) → 1 ≤ i → i * m ≤ length xs → take m (drop ((i - 1) * m) xs) ≡ rowOf xs m i
@@ -36,3 +36,15 @@ rows-show-bids t a i l =
     = omega (arith, w .shape .bids-length, mul-le-mul-right (length (t .asks)) l) in
     rw (w .shape .width-is)
     (row-long (t .bids) (length (t .asks)) i whole, λ j h. row-shows (t .bids) (length (t .asks)) i j whole h)
+
+-- the bids of a view that is as wide as there are stations, and of another one
+pub bids-shown : (xs : List ℕ) (w m : ℕ) → w ≡ m → bidsOf xs w m ≡ xs
+unfolding bidsOf shown
+bids-shown xs w m e = ap (λ b. shown b xs) (is-eq w m e)
+
+pub bids-hidden : (xs : List ℕ) (w m : ℕ) → (w ≡ m → ⊥) → [] ≡ bidsOf xs w m
+unfolding bidsOf shown
+bids-hidden xs w m n = sym (ap (λ b. shown b xs) (not-eq w m n))
+
+pub view-shows-bids : ViewShowsBids
+view-shows-bids t a = bids-shown _ _ _ (accepted-iff-within-limits t .0 a .shape .width-is)

@@ -3,13 +3,13 @@ use Rattle.bay_market.proofs.Told.{told}
 use Rattle.bay_market.proofs.clear.bay_market_clear.Statement.{statement}
 use Rattle.bay_market.proofs.clear.bay_market_clear.Tie as tie
 
-abbrev clear-before-tell : tie.After-tell-arg2 → tie.After-clear-through-view
+abbrev clear-before-tell : tie.After-tell-arg2 → tie.After-clear
 clear-before-tell p = p .before .before .before .before .before .before .before .before .before .before
 
 returns : tie.Need-returns
 returns c =
     let at-clear = clear-before-tell (c .before) in
-    told (at-clear .clear-through-view .ensures) (c .tell .ensures)
+    told (at-clear .clear .ensures) (c .tell .ensures)
 
 pub bay-market-clear-spec : {M : Type 1} → statement M
 bay-market-clear-spec =

@@ -2,10 +2,10 @@ use native.Mathlib.Nat.{add-sub-cancel-left}
 use native.Mathlib.Omega.{arith}
 use lib.ListN.{length}
 use borrow.Author.Needs.{needs}
-use Rattle.clearing.proofs.views.Rows.{positive, row-none, row-of-none, row-past, Inside, inside}
+use Rattle.views.proofs.Rows.{positive, row-none, row-of-none, row-past, Inside, inside}
 use Rattle.model.proofs.contracts.Rows.{row-in}
-use Rattle.clearing.proofs.views.row.Statement.{statement}
-use Rattle.clearing.proofs.views.row.Tie as tie
+use Rattle.views.proofs.row.Statement.{statement}
+use Rattle.views.proofs.row.Tie as tie
 
 returns : tie.Need-returns
 returns c = row-none _ _ _ (c .before .if1 .taken)
@@ -19,7 +19,7 @@ returns-3 c = row-past _ _ _ (c .before .before .if2 .left) (c .before .if3 .tak
 -- the row lies in the table
 lies : (c : tie.Else3) →
     let entry = c .before .before .before in
-    Inside (length (entry .args .bids .now)) (entry .args .m) (entry .args .guest)
+    Inside (length (entry .args .bids .now)) (entry .args .width) (entry .args .guest)
 lies c = inside _ _ _ (c .before .before .if1 .left) (c .before .if2 .left) (omega arith)
 
 mul-start : tie.Need-mul-start
