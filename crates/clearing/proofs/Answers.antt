@@ -43,6 +43,8 @@ use Rattle.model.specs.contracts.EntryPoints.{clearing, clearingUnder, ClearsUn
 use Rattle.clearing.specs.ClearsAccepted.{ClearsAccepted}
 use Rattle.model.specs.declared.answers.Clearing.{Clearing}
 use Rattle.model.specs.declared.answers.Clearing.the-variants as clearings
+use Rattle.model.specs.contracts.Rows.{bidsOf}
+use Rattle.model.proofs.contracts.Rows.{bids-shown}
 use Rattle.model.proofs.contracts.Accepts.{Accepts, accepts}
 use Rattle.model.proofs.market.Acceptance.{width-of}
 
@@ -155,12 +157,20 @@ pub refused-clears :
 unfolding answerOfVerdict answerOfClearing clearingUnder
 refused-clears made t r x e = keeps-refused (sym e)
 
-pub clear-accepts : (asks bays amounts tickets bids : List ℕ) (width : ℕ) (r : Results)
-    → Judged (tables asks bays amounts tickets bids width) r verdicts.Accepted
-    → Accepts (regular asks bays amounts tickets bids) r
-clear-accepts asks bays amounts tickets bids width r e =
+-- the bids that the view of an accepted market shows are those lent
+bids-seen : (asks bays amounts tickets bids : List ℕ) (width : ℕ) (r : Results) {seen : List ℕ}
+    → Judged (tables asks bays amounts tickets bids width) r verdicts.Accepted → seen ≡ bidsOf bids width (length asks)
+    → seen ≡ bids
+bids-seen asks bays amounts tickets bids width r e q =
+    q ∙ bids-shown _ _ _ (accepts _ r (is-accepted _ _ e) .within .shape .width-is)
+
+pub clear-accepts : (asks bays amounts tickets bids : List ℕ) (width : ℕ) (r : Results) {seen : List ℕ}
+    → Judged (tables asks bays amounts tickets bids width) r verdicts.Accepted → seen ≡ bidsOf bids width (length asks)
+    → Accepts (regular asks bays amounts tickets seen) r
+clear-accepts asks bays amounts tickets bids width r e q =
     let a = accepts _ r (is-accepted _ _ e) in
-    subst (λ t. Accepts t r) (width-of asks bays amounts tickets bids width (a .within)) a
+    rw (bids-seen asks bays amounts tickets bids width r e q)
+    (subst (λ t. Accepts t r) (width-of asks bays amounts tickets bids width (a .within)) a)
 
 -- what the answer carries
 abbrev figures : Outcome → Answer (ℕ × ℕ)
@@ -168,14 +178,15 @@ figures o = accepted (o .cut, o .margin)
 
 pub clear-accepted-clears :
     (made : Tables → Outcome) (asks bays amounts tickets bids : List ℕ) (width : ℕ) (r : Results) {answer : Clearing}
-    {exit : Results} → let t = tables asks bays amounts tickets bids width in
-    Judged t r verdicts.Accepted → ClearsAccepted (made (regular asks bays amounts tickets bids)) answer exit
-    → ClearsUnder made t r answer exit
+    {exit : Results} {seen : List ℕ} → let t = tables asks bays amounts tickets bids width in
+    Judged t r verdicts.Accepted → seen ≡ bidsOf bids width (length asks)
+    → ClearsAccepted (made (regular asks bays amounts tickets seen)) answer exit → ClearsUnder made t r answer exit
 unfolding clearingUnder
-clear-accepted-clears made asks bays amounts tickets bids width r e s =
+clear-accepted-clears made asks bays amounts tickets bids width r e q s =
     let t = tables asks bays amounts tickets bids width in
     let v = is-accepted t r e in
-    let o = ap made (sym (width-of asks bays amounts tickets bids width (accepts t r v .within))) in
+    let lent = ap (regular asks bays amounts tickets) (bids-seen asks bays amounts tickets bids width r e q) in
+    let o = ap made (lent ∙ sym (width-of asks bays amounts tickets bids width (accepts t r v .within))) in
     record {
       answered = s .answered ∙ ap figures o ∙ sym (giving-accepted _ v);
       left = s .left ∙ ap (λ o. o .results) o ∙ sym (updated-accepted _ _ v);

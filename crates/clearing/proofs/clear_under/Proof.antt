@@ -6,10 +6,12 @@ use Rattle.clearing.proofs.clear_under.Tie as tie
 
 clear-accepted-requires : tie.Need-clear-accepted-requires
 clear-accepted-requires c κs =
-    let at-enum-told = c .before .before .before .before in
+    let at-view = c .before .before .before .before in
+    let at-enum-told = at-view .before in
     let at-clearing-fault = at-enum-told .before .before in
     let a = clear-accepts _ _ _ _ _ _ _
-    (told (at-enum-told .enum-told .given .1) (at-clearing-fault .clearing-fault .ensures)) in
+    (told (at-enum-told .enum-told .given .1) (at-clearing-fault .clearing-fault .ensures))
+    (at-view .bids-through-view .ensures) in
     (a .within, a .fits)
 
 returns : tie.Need-returns
@@ -21,14 +23,15 @@ returns-2 c =
     let at-charges = c .before .before .before .before in
     let at-clear-accepted = at-charges .before .before .before .before in
     let at-call = at-clear-accepted .before in
-    let at-enum-told = at-call .before .before .before .before in
+    let at-view = at-call .before .before .before .before in
+    let at-enum-told = at-view .before in
     let at-clearing-fault = at-enum-told .before .before in
     clear-accepted-clears _ _ _ _ _ _ _ _
     (told (at-enum-told .enum-told .given .1) (at-clearing-fault .clearing-fault .ensures))
-    (at-clear-accepted .clear-accepted .ensures)
+    (at-view .bids-through-view .ensures) (at-clear-accepted .clear-accepted .ensures)
 
 pub clear-under-spec : {M : Type 1} → statement M
 clear-under-spec =
-    tie.close (tie.spec (λ c κs. search needs) (λ c. search needs) (λ c. search needs) clear-accepted-requires
-    (λ c. search needs) (λ c. search needs) (λ c. search needs) (λ c. search needs) returns (λ c. search needs)
-    (λ c. search needs) (λ c. search needs) (λ c. search needs) returns-2)
+    tie.close (tie.spec (λ c κs. search needs) (λ c. search needs) (λ c. search needs) (λ c κs. search needs)
+    clear-accepted-requires (λ c. search needs) (λ c. search needs) (λ c. search needs) (λ c. search needs) returns
+    (λ c. search needs) (λ c. search needs) (λ c. search needs) (λ c. search needs) returns-2)
