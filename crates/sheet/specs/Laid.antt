@@ -13,9 +13,9 @@ stationBytes ask bays = bytesOf 4 ask ++ bytesOf 2 bays
 unfoldable pub stationOf : (asks bays : List ℕ) → ℕ → List ℕ
 stationOf asks bays j = stationBytes (getD asks j 0) (getD bays j 0)
 
--- the bids of a row, from a place of the bid table on
-unfoldable pub bidsFrom : (bids : List ℕ) (base : ℕ) → ℕ → ℕ
-bidsFrom bids base j = getD bids (base + j) 0
+-- a bid of a row
+unfoldable pub bidIn : (row : List ℕ) → ℕ → ℕ
+bidIn row j = getD row j 0
 
 -- a field for a bid that is not 0
 unfoldable pub bidField : ℕ → List ℕ
@@ -32,4 +32,5 @@ rowBytes amount ticket m bid =
     bytesOf 2 amount ++ (bytesOf 4 ticket ++ (bytesOf (mapWidth m) (rowMap m bid) ++ bidFields m bid))
 
 unfoldable pub rowOf : (amounts tickets bids : List ℕ) (m i : ℕ) → List ℕ
-rowOf amounts tickets bids m i = rowBytes (getD amounts i 0) (getD tickets i 0) m (bidsFrom bids (i * m))
+rowOf amounts tickets bids m i =
+    rowBytes (getD amounts i 0) (getD tickets i 0) m (λ j. getD bids (i * m + j) 0)

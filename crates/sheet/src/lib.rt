@@ -86,11 +86,12 @@ pub fn write(
     match faults::market_fault(asks, bays, amounts, tickets, bids, width) {
         Verdict::Refused(refusal) => Writing::Refused(refusal),
         Verdict::Accepted => {
-            let length = writing::sheet_length(asks, bays, amounts, tickets, bids);
+            let table = views::bids_through_view(bids, width, asks.len());
+            let length = writing::sheet_length(asks, bays, amounts, tickets, table);
             if out.len() < length {
                 return Writing::Refused(Refusal::OutputTooShort);
             }
-            writing::put_sheet(asks, bays, amounts, tickets, bids, out);
+            writing::put_sheet(asks, bays, amounts, tickets, table, out);
             Writing::Written { length }
         }
     }

@@ -12,7 +12,7 @@ ghost use Rattle.model.specs.sheet.Layout.{bytesOf};
 ghost use Rattle.model.specs.sheet.Shortest.{shortest};
 ghost use Rattle.model.specs.contracts.Lent.{regularOf, regularIn};
 ghost use Rattle.model.specs.market.Shape.{Shaped};
-ghost use Rattle.sheet.specs.Laid.{stationBytes, stationOf, bidsFrom, bidFields, rowMap, rowBytes, rowOf};
+ghost use Rattle.sheet.specs.Laid.{stationBytes, stationOf, bidIn, bidFields, rowMap, rowBytes, rowOf};
 ghost use Rattle.sheet.specs.Wrote.{Wrote};
 
 // How many bids are not 0.
@@ -78,56 +78,48 @@ fn bit(bid: u32) -> u64
 }
 
 // The map of a row: a bit for each bid that is not 0, the last station's first.
-fn row_map(bids: &[u32], base: usize, stations: usize) -> u64
-    requires { ⌜ (stations ≤ maxStations) × (base + stations ≤ length (now bids)) ⌝ }
-    ensures { λ r. ⌜ r ≡ rowMap stations (bidsFrom (now (bids .entry)) base) ⌝ }
+fn row_map(row: &[u32]) -> u64
+    requires { ⌜ length (now row) ≤ maxStations ⌝ }
+    ensures { λ r. ⌜ r ≡ rowMap (length (now (row .entry))) (bidIn (now (row .entry))) ⌝ }
 {
     let mut map: u64 = 0;
-    let mut left = stations;
+    let mut left = row.len();
     while 0 < left {
         left -= 1;
-        map = 2 * map + bit(bids[base + left]);
+        map = 2 * map + bit(row[left]);
     }
     map
 }
 
 // The bids of a row in which none is 0.
-fn put_all(bids: &[u32], base: usize, stations: usize, out: &mut [u8], at: usize) -> usize
-    requires { ⌜ (base + stations ≤ length (now bids))
-        × (at + length (joined stations (λ j. bytesOf 4 (bidsFrom (now bids) base j))) ≤ length (now out)) ⌝ }
+fn put_all(row: &[u32], out: &mut [u8], at: usize) -> usize
+    requires { ⌜ at + length (joined (length (now row)) (λ j. bytesOf 4 (bidIn (now row) j))) ≤ length (now out) ⌝ }
     ensures { λ r. ⌜ Wrote (now (out .entry)) at
-        (joined stations (λ j. bytesOf 4 (bidsFrom (now (bids .entry)) base j))) (now (out .exit)) r ⌝ }
+        (joined (length (now (row .entry))) (λ j. bytesOf 4 (bidIn (now (row .entry)) j))) (now (out .exit)) r ⌝ }
 {
     let mut p = at;
     let mut j = 0;
-    while j < stations {
-        p = putting::put_four(out, p, bids[base + j]);
+    while j < row.len() {
+        p = putting::put_four(out, p, row[j]);
         j += 1;
     }
     p
 }
 
 // The bids of a row with this map: one for each set bit, the lowest first.
-fn put_some(
-    bids: &[u32],
-    base: usize,
-    map: u64,
-    stations: usize,
-    out: &mut [u8],
-    at: usize,
-) -> usize
-    requires { ⌜ (stations ≤ maxStations) × (base + stations ≤ length (now bids)) ⌝ }
-    requires { ⌜ (map ≡ rowMap stations (bidsFrom (now bids) base))
-        × (at + length (bidFields stations (bidsFrom (now bids) base)) ≤ length (now out)) ⌝ }
-    ensures { λ r. ⌜ Wrote (now (out .entry)) at (bidFields stations (bidsFrom (now (bids .entry)) base))
-        (now (out .exit)) r ⌝ }
+fn put_some(row: &[u32], map: u64, out: &mut [u8], at: usize) -> usize
+    requires { ⌜ length (now row) ≤ maxStations ⌝ }
+    requires { ⌜ (map ≡ rowMap (length (now row)) (bidIn (now row)))
+        × (at + length (bidFields (length (now row)) (bidIn (now row))) ≤ length (now out)) ⌝ }
+    ensures { λ r. ⌜ Wrote (now (out .entry)) at
+        (bidFields (length (now (row .entry))) (bidIn (now (row .entry)))) (now (out .exit)) r ⌝ }
 {
     let mut p = at;
     let mut left = map;
     loop {
         match words::step(left) {
             Step::Place { place, rest } => {
-                p = putting::put_four(out, p, bids[base + place]);
+                p = putting::put_four(out, p, row[place]);
                 left = rest;
             }
             Step::End => {
@@ -137,45 +129,30 @@ fn put_some(
     }
 }
 
-fn put_bids(
-    bids: &[u32],
-    base: usize,
-    map: u64,
-    stations: usize,
-    out: &mut [u8],
-    at: usize,
-) -> usize
-    requires { ⌜ (stations ≤ maxStations) × (base + stations ≤ length (now bids)) ⌝ }
-    requires { ⌜ (map ≡ rowMap stations (bidsFrom (now bids) base))
-        × (at + length (bidFields stations (bidsFrom (now bids) base)) ≤ length (now out)) ⌝ }
-    ensures { λ r. ⌜ Wrote (now (out .entry)) at (bidFields stations (bidsFrom (now (bids .entry)) base))
-        (now (out .exit)) r ⌝ }
+fn put_bids(row: &[u32], map: u64, out: &mut [u8], at: usize) -> usize
+    requires { ⌜ length (now row) ≤ maxStations ⌝ }
+    requires { ⌜ (map ≡ rowMap (length (now row)) (bidIn (now row)))
+        × (at + length (bidFields (length (now row)) (bidIn (now row))) ≤ length (now out)) ⌝ }
+    ensures { λ r. ⌜ Wrote (now (out .entry)) at
+        (bidFields (length (now (row .entry))) (bidIn (now (row .entry)))) (now (out .exit)) r ⌝ }
 {
-    if words::count(map) == stations {
-        return put_all(bids, base, stations, out, at);
+    if words::count(map) == row.len() {
+        return put_all(row, out, at);
     }
-    put_some(bids, base, map, stations, out, at)
+    put_some(row, map, out, at)
 }
 
-fn put_row(
-    amount: u16,
-    ticket: u32,
-    bids: &[u32],
-    base: usize,
-    stations: usize,
-    out: &mut [u8],
-    at: usize,
-) -> usize
-    requires { ⌜ (stations ≤ maxStations) × (base + stations ≤ length (now bids))
-        × (at + length (rowBytes amount ticket stations (bidsFrom (now bids) base)) ≤ length (now out)) ⌝ }
-    ensures { λ r. ⌜ Wrote (now (out .entry)) at (rowBytes amount ticket stations
-        (bidsFrom (now (bids .entry)) base)) (now (out .exit)) r ⌝ }
+fn put_row(amount: u16, ticket: u32, row: &[u32], out: &mut [u8], at: usize) -> usize
+    requires { ⌜ (length (now row) ≤ maxStations)
+        × (at + length (rowBytes amount ticket (length (now row)) (bidIn (now row))) ≤ length (now out)) ⌝ }
+    ensures { λ r. ⌜ Wrote (now (out .entry)) at
+        (rowBytes amount ticket (length (now (row .entry))) (bidIn (now (row .entry)))) (now (out .exit)) r ⌝ }
 {
-    let map = row_map(bids, base, stations);
+    let map = row_map(row);
     let p = putting::put_two(out, at, amount);
     let q = putting::put_four(out, p, ticket);
-    let r = putting::put_bytes(out, q, fields::map_width(stations), map);
-    put_bids(bids, base, map, stations, out, r)
+    let r = putting::put_bytes(out, q, fields::map_width(row.len()), map);
+    put_bids(row, map, out, r)
 }
 
 fn put_rows(
@@ -196,7 +173,8 @@ fn put_rows(
     let mut p = at;
     let mut i = 0;
     while i < amounts.len() {
-        p = put_row(amounts[i], tickets[i], bids, i * stations, stations, out, p);
+        let row = views::row_through_view(bids, stations, i + 1);
+        p = put_row(amounts[i], tickets[i], row, out, p);
         i += 1;
     }
     p

@@ -17,12 +17,12 @@ unfolding rowOf shown
 row-in xs m i h l =
     ap (λ b. shown b (take m (drop ((i - 1) * m) xs))) (sym (both (is-le 1 i h) (is-le (i * m) (length xs) l)))
 
-row-long : (xs : List ℕ) (m i : ℕ) → (i + 1) * m ≤ length xs → length (rowOf xs m (i + 1)) ≡ m
+pub row-long : (xs : List ℕ) (m i : ℕ) → (i + 1) * m ≤ length xs → length (rowOf xs m (i + 1)) ≡ m
 row-long xs m i l =
     let e : i + 1 - 1 ≡ i = omega arith in
     rw (← row-in xs m (i + 1) (omega arith) l, e) (simp (length-take, length-drop) (omega arith))
 
-row-shows :
+pub row-shows :
     (xs : List ℕ) (m i j : ℕ) → (i + 1) * m ≤ length xs → j < m → getD (rowOf xs m (i + 1)) j 0 ≡ getD xs (i * m + j) 0
 row-shows xs m i j l h =
     let e : i + 1 - 1 ≡ i = omega arith in

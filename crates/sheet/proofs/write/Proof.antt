@@ -24,20 +24,23 @@ is-accepted c = sym (told (c .enum-told .given .1) (c .before .before .market-fa
 
 sheet-length-requires : tie.Need-sheet-length-requires
 sheet-length-requires c κs =
-    let entry = entry-before-fault (c .before .before) in
-    shaped _ _ _ _ _ _ (entry .args .out .now) (is-accepted c)
+    let at-told = c .before in
+    let entry = entry-before-fault (at-told .before .before) in
+    shaped _ _ _ _ _ _ (entry .args .out .now) _ (is-accepted at-told) (c .bids-through-view .ensures)
 
 returns : tie.Need-returns
 returns c =
-    let at-accepted = c .before .before in
-    refuses-short _ _ _ _ _ _ _ (is-accepted at-accepted) (c .before .sheet-length .ensures) (c .if1 .taken)
+    let at-view = c .before .before in
+    refuses-short _ _ _ _ _ _ _ _ (is-accepted (at-view .before)) (at-view .bids-through-view .ensures)
+    (c .before .sheet-length .ensures) (c .if1 .taken)
 
 put-sheet-requires : tie.Need-put-sheet-requires
 put-sheet-requires c κs =
     let at-length = c .before .before in
-    let at-accepted = at-length .before in
-    let entry = entry-before-fault (at-accepted .before .before) in (
-      shaped _ _ _ _ _ _ (entry .args .out .now) (is-accepted at-accepted),
+    let at-view = at-length .before in
+    let at-told = at-view .before in
+    let entry = entry-before-fault (at-told .before .before) in (
+      shaped _ _ _ _ _ _ (entry .args .out .now) _ (is-accepted at-told) (at-view .bids-through-view .ensures),
       rw (at-length .sheet-length .ensures) at (c .before .if1 .left),
     )
 
@@ -52,10 +55,11 @@ returns-3 c =
     let at-put-sheet = c .before .before in
     let at-if = at-put-sheet .before .before in
     let at-length = at-if .before in
-    writes _ _ _ _ _ _ _ (is-accepted (at-length .before)) (at-length .sheet-length .ensures) (at-if .if1 .left)
-    (at-put-sheet .put-sheet .ensures)
+    let at-view = at-length .before in
+    writes _ _ _ _ _ _ _ _ (is-accepted (at-view .before)) (at-view .bids-through-view .ensures)
+    (at-length .sheet-length .ensures) (at-if .if1 .left) (at-put-sheet .put-sheet .ensures)
 
 pub write-spec : {M : Type 1} → statement M
 write-spec =
-    tie.close (tie.spec (λ c κs. search needs) (λ c. search needs) (λ c. search needs) sheet-length-requires returns
-    put-sheet-requires returns-2 (λ c. search needs) returns-3)
+    tie.close (tie.spec (λ c κs. search needs) (λ c. search needs) (λ c. search needs) (λ c κs. search needs)
+    sheet-length-requires returns put-sheet-requires returns-2 (λ c. search needs) returns-3)

@@ -1,7 +1,7 @@
 -- The answers of `write`.
 use Prim.Native.Nat.{ℕ, _<_, _≤_}
 use mathlib.Core.List.{List}
-use mathlib.Core.Path.{_≡_, refl, sym, ap, _∙_}
+use mathlib.Core.Path.{_≡_, sym, ap, ap₂, subst, _∙_}
 use lib.ListN.{length}
 use Rattle.model.specs.declared.refusal.Refusal.{Refusal}
 use Rattle.model.specs.declared.refusal.Refusal.the-variants.{OutputTooShort}
@@ -13,6 +13,8 @@ use Rattle.model.specs.market.Faults.{marketFaults, verdict}
 use Rattle.model.specs.market.Shape.{Shaped}
 use Rattle.model.specs.sheet.Shortest.{shortest, writingFaults, written}
 use Rattle.model.specs.contracts.EntryPoints.{writing, Writes}
+use Rattle.model.specs.contracts.Rows.{bidsOf}
+use Rattle.model.proofs.contracts.Rows.{bids-shown}
 use Rattle.model.proofs.Tests.{is-lt, not-lt}
 use Rattle.model.proofs.Promises.{keeps-accepted, keeps-refused}
 use Rattle.model.proofs.Verdicts.{fault-none, fault-here, fault-first, fault-second, fault-free}
@@ -25,31 +27,28 @@ pub refuses-market :
 unfolding answerOfWriting writing writingFaults verdict
 refuses-market t out x e = keeps-refused (fault-first (marketFaults t) _ e)
 
--- an accepted market's rows are as wide as there are stations
-module _ (asks bays amounts tickets bids : List ℕ) (width : ℕ) (out : List ℕ)
-    (a : verdict (tables asks bays amounts tickets bids width) ≡ accepted tt) where
+-- an accepted market's rows are as wide as there are stations, so that the view of its bids shows them all
+module _ (asks bays amounts tickets bids : List ℕ) (width : ℕ) (out seen : List ℕ)
+    (a : verdict (tables asks bays amounts tickets bids width) ≡ accepted tt)
+    (s : seen ≡ bidsOf bids width (length asks)) where
   abbrev t : Tables
   t = tables asks bays amounts tickets bids width
 
   abbrev r : Tables
-  r = regular asks bays amounts tickets bids
+  r = regular asks bays amounts tickets seen
 
   shape : Shaped t
   shape = accepted-iff-within-limits t .0 a .shape
 
+  lent : t ≡ r
+  lent = ap₂ (λ x w. tables asks bays amounts tickets x w) (sym (s ∙ bids-shown _ _ _ (shape .width-is)))
+      (shape .width-is)
+
   pub shaped : Shaped r
-  shaped = record {
-    guests-most = shape .guests-most;
-    stations-least = shape .stations-least;
-    stations-most = shape .stations-most;
-    bays-length = shape .bays-length;
-    tickets-length = shape .tickets-length;
-    bids-length = shape .bids-length;
-    width-is = refl;
-  }
+  shaped = subst Shaped lent shape
 
   same-sheet : shortest r ≡ shortest t
-  same-sheet = ap (λ w. shortest (tables asks bays amounts tickets bids w)) (sym (shape .width-is))
+  same-sheet = ap shortest (sym lent)
 
   pub refuses-short : {k : ℕ} → k ≡ length (shortest r) → length out < k → Writes t out (Refused OutputTooShort) out
   unfolding answerOfWriting writing writingFaults verdict

@@ -1,7 +1,7 @@
 -- The parts of a shortest sheet, and how long they are.
 use Prim.Native.Nat.{ℕ, _+_, _*_, _<_, _≤_}
 use mathlib.Core.List.{List, _++_}
-use mathlib.Core.Path.{_≡_, refl, sym, ap}
+use mathlib.Core.Path.{_≡_, refl, sym, ap, ap₂}
 use native.Mathlib.Nat.{mul-le-mul-right}
 use native.Mathlib.Omega.{arith}
 use lib.ListN.{length, getD}
@@ -12,9 +12,13 @@ use Rattle.model.specs.market.Shape.{Shaped}
 use Rattle.model.specs.sheet.Fields.{mapWidth}
 use Rattle.model.specs.sheet.Layout.{bytesOf, station, row, layout}
 use Rattle.model.specs.sheet.Shortest.{bidden, shortest}
+use Rattle.model.specs.contracts.Rows.{rowOf as viewed}
+use Rattle.model.proofs.contracts.Rows.{row-long, row-shows}
 use Rattle.model.proofs.market.Acceptance.{product-fits}
+use Rattle.model.proofs.sheet.Holds.{pack-cong}
+use Rattle.model.proofs.sheet.Joined.{joined-cong}
 use Rattle.model.proofs.sheet.Lengths.{rowHead, shortest-length}
-use Rattle.sheet.specs.Laid.{stationBytes, stationOf, bidsFrom, bidField, bidFields, rowMap}
+use Rattle.sheet.specs.Laid.{stationBytes, stationOf, bidIn, bidField, bidFields, rowMap}
 use Rattle.sheet.specs.Laid.{rowBytes, rowOf}
 
 -- the parts in their order
@@ -32,9 +36,20 @@ sheetParts asks bays amounts tickets bids =
 pub sheet-parts :
     (asks bays amounts tickets bids : List ℕ)
     → shortest (regular asks bays amounts tickets bids) ≡ sheetParts asks bays amounts tickets bids
-unfolding shortest layout station row bidden bidAt stationOf stationBytes rowOf rowBytes rowMap bidsFrom bidFields
-    bidField
+unfolding shortest layout station row bidden bidAt stationOf stationBytes rowOf rowBytes rowMap bidFields bidField
 sheet-parts asks bays amounts tickets bids = refl
+
+-- the row that the view of the bids shows of guest i, laid out
+pub row-shown :
+    (amounts tickets bids : List ℕ) (m i : ℕ) {row : List ℕ} → (i + 1) * m ≤ length bids → row ≡ viewed bids m (i + 1)
+    → rowBytes (getD amounts i 0) (getD tickets i 0) (length row) (bidIn row) ≡ rowOf amounts tickets bids m i
+unfolding rowOf rowBytes rowMap bidFields bidIn
+row-shown amounts tickets bids m i {row} l e =
+    let shows : (j : ℕ) → j < m → getD row j 0 ≡ getD bids (i * m + j) 0 = λ j h. rw e (row-shows bids m i j l h) in
+    let long : length row ≡ m = rw e (row-long bids m i l) in
+    rw long (ap₂
+    (λ x y. bytesOf 2 (getD amounts i 0) ++ (bytesOf 4 (getD tickets i 0) ++ (bytesOf (mapWidth m) x ++ y)))
+    (pack-cong m _ _ (λ j h. ap (λ x. 0 <? x) (shows j h))) (joined-cong m _ _ (λ j h. ap bidField (shows j h))))
 
 pub room-for-parts :
     (asks bays amounts tickets bids : List ℕ) {n : ℕ} → length (shortest (regular asks bays amounts tickets bids)) ≤ n

@@ -1,7 +1,8 @@
 use mathlib.Core.Path.{_≡_, sym, _∙_}
 use native.Mathlib.Omega.{arith}
+use lib.ListN.{length}
 use borrow.Author.Needs.{needs}
-use Rattle.sheet.specs.Laid.{bidsFrom, bidFields}
+use Rattle.sheet.specs.Laid.{bidIn, bidFields}
 use Rattle.model.specs.Counting.{joined}
 use Rattle.model.specs.sheet.Layout.{bytesOf}
 use Rattle.sheet.proofs.writing.Bids.{all-fields}
@@ -14,17 +15,17 @@ entry-before-count p = p .before .before .before
 -- all bits are set
 full : (c : tie.Then1) →
     let entry = entry-before-count (c .before) in
-    let bid = bidsFrom (entry .args .bids .now) (entry .args .base) in
-    bidFields (entry .args .stations) bid ≡ joined (entry .args .stations) (λ j. bytesOf 4 (bid j))
+    let row = entry .args .row .now in
+    bidFields (length row) (bidIn row) ≡ joined (length row) (λ j. bytesOf 4 (bidIn row j))
 full c =
     let entry = entry-before-count (c .before) in
-    all-fields _ _ (entry .pre .1 .0) (omega (arith, entry .pre .0 .0))
+    all-fields _ _ (entry .pre .1 .0) (omega (arith, entry .pre .0))
     (sym (c .before .count .ensures) ∙ c .if1 .taken)
 
 put-all-requires : tie.Need-put-all-requires
 put-all-requires c κs =
     let entry = entry-before-count (c .before .before) in
-    (entry .pre .0 .1, rw (full (c .before)) at (entry .pre .1 .1))
+    rw (full (c .before)) at (entry .pre .1 .1)
 
 returns : tie.Need-returns
 returns c =

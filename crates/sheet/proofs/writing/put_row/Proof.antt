@@ -1,10 +1,11 @@
 -- The amount, the ticket, the map, then the bids, each after the other.
 use native.Mathlib.Omega.{arith}
+use lib.ListN.{length}
 use borrow.Author.Needs.{needs}
 use Rattle.model.specs.sheet.Fields.{mapWidth}
 use Rattle.model.specs.sheet.Layout.{bytesOf}
 use Rattle.model.proofs.sheet.Holds.{bytes-length}
-use Rattle.sheet.specs.Laid.{bidsFrom, rowMap, rowBytes}
+use Rattle.sheet.specs.Laid.{bidIn, rowMap, rowBytes}
 use Rattle.sheet.proofs.Wrote.{wrote-then, room-for-first, room-for-second}
 use Rattle.sheet.proofs.putting.Bytes.{same-bytes}
 use Rattle.sheet.proofs.writing.put_row.Statement.{statement}
@@ -23,14 +24,14 @@ abbrev ticket-before-width : tie.After-map-width → tie.After-put-four
 ticket-before-width c = c .before .before .before .before
 
 row-map-requires : tie.Need-row-map-requires
-row-map-requires c κs = let entry = c .before .before in (entry .pre .0, entry .pre .1)
+row-map-requires c κs = c .before .before .pre .0
 
 put-two-requires : tie.Need-put-two-requires
 unfolding rowBytes
 put-two-requires c κs =
     let entry = entry-before-map (c .before) in
     let amount = entry .args .amount in
-    omega (arith, room-for-first (bytesOf 2 amount) _ (entry .args .at) (entry .pre .2), bytes-length 2 amount)
+    omega (arith, room-for-first (bytesOf 2 amount) _ (entry .args .at) (entry .pre .1), bytes-length 2 amount)
 
 put-four-requires : tie.Need-put-four-requires
 unfolding rowBytes
@@ -40,7 +41,7 @@ put-four-requires c κs =
     let ticket = entry .args .ticket in
     omega (
       arith,
-      room-for-first (bytesOf 4 ticket) _ _ (room-for-second _ (at-amount .put-two .ensures) (entry .pre .2)),
+      room-for-first (bytesOf 4 ticket) _ _ (room-for-second _ (at-amount .put-two .ensures) (entry .pre .1)),
       bytes-length 4 ticket,
     )
 
@@ -55,12 +56,13 @@ put-bytes-requires c κs =
     let at-ticket = ticket-before-width c in
     let at-amount = amount-before-ticket at-ticket in
     let entry = entry-before-map (map-before-amount at-amount) in
-    let width = mapWidth (entry .args .stations) in
-    let map = rowMap (entry .args .stations) (bidsFrom (entry .args .bids .now) (entry .args .base)) in
+    let row = entry .args .row .now in
+    let width = mapWidth (length row) in
+    let map = rowMap (length row) (bidIn row) in
     omega (
       arith,
       room-for-first (bytesOf width map) _ _ (room-for-second _ (at-ticket .put-four .ensures)
-          (room-for-second _ (at-amount .put-two .ensures) (entry .pre .2))),
+          (room-for-second _ (at-amount .put-two .ensures) (entry .pre .1))),
       bytes-length width map,
       c .map-width .ensures,
     )
@@ -73,13 +75,13 @@ put-bids-requires c κs =
     let at-amount = amount-before-ticket at-ticket in
     let at-map = map-before-amount at-amount in
     let entry = entry-before-map at-map in (
-      (entry .pre .0, entry .pre .1),
+      entry .pre .0,
       (
         at-map .row-map .ensures,
         room-for-second _ (same-bytes (at-put-bytes .before .map-width .ensures) (at-map .row-map .ensures)
             (at-put-bytes .put-bytes .ensures))
             (room-for-second _ (at-ticket .put-four .ensures)
-            (room-for-second _ (at-amount .put-two .ensures) (entry .pre .2))),
+            (room-for-second _ (at-amount .put-two .ensures) (entry .pre .1))),
       ),
     )
 

@@ -2,23 +2,24 @@
 use Prim.Native.Nat.{_<_}
 use mathlib.Core.Path.{_≡_}
 use native.Mathlib.Omega.{arith}
+use lib.ListN.{length}
 use borrow.Author.Needs.{needs}
 use Rattle.model.specs.Counting.{count}
 use Rattle.model.specs.sheet.Fields.{hasBit}
 use Rattle.model.specs.contracts.Steps.{Steps}
 use Rattle.model.specs.declared.word.Step.the-variants.{Place, End}
 use Rattle.model.proofs.sheet.Walk.{walk-bit, step-less}
-use Rattle.sheet.specs.Laid.{bidsFrom, rowMap}
+use Rattle.sheet.specs.Laid.{bidIn, rowMap}
 use Rattle.sheet.proofs.writing.Bids.{Walked, map-narrow, walked-none, walked-room, walked-on, walked-all}
 use Rattle.sheet.proofs.writing.put_some.Statement.{statement}
 use Rattle.sheet.proofs.writing.put_some.Tie as tie
 
 abbrev Inv-loop : tie.InvT-loop
-Inv-loop bids base map stations out₀ at p₀ left₀ out p left =
-    (e : map ≡ rowMap stations (bidsFrom bids base)) × Walked stations (bidsFrom bids base) e out₀ at out p left
+Inv-loop row map out₀ at p₀ left₀ out p left =
+    (e : map ≡ rowMap (length row) (bidIn row)) × Walked (length row) (bidIn row) e out₀ at out p left
 
 abbrev μ-loop : tie.MeasureT-loop
-μ-loop bids base map stations out₀ at p₀ left₀ out p left = count 64 (hasBit left)
+μ-loop row map out₀ at p₀ left₀ out p left = count 64 (hasBit left)
 
 abbrev entry : tie.At-loop Inv-loop μ-loop → tie.Start Inv-loop μ-loop
 entry p = p .before .before .before
@@ -33,7 +34,7 @@ stepped c = rw (c .before .place .given .1) at (c .before .before .before .step 
 
 -- it is a station's
 station : (c : tie.After-known-told Inv-loop μ-loop) →
-    c .before .place .given .0 .0 < entry (at-loop c) .args .stations
+    c .before .place .given .0 .0 < length (entry (at-loop c) .args .row .now)
 station c =
     let (e, t) = at-loop c .loop .inv in
     walk-bit (t .walk) (stepped c) (map-narrow _ _ e)
@@ -44,9 +45,6 @@ ended c = rw (c .enum-told .given .1) at (c .before .before .step .ensures)
 
 loop-holds : tie.Need-loop-holds Inv-loop μ-loop
 loop-holds c = let entry = c .before .before in (entry .pre .1 .0, walked-none _ _ (entry .pre .1 .0) _ _)
-
-add-put-four : tie.Need-add-put-four Inv-loop μ-loop
-add-put-four c = let h = station (c .before) in search needs
 
 mul-put-four : tie.Need-mul-put-four Inv-loop μ-loop
 mul-put-four c = let h = station (c .before) in search needs
@@ -67,7 +65,7 @@ loop-less : tie.Need-loop-less Inv-loop μ-loop
 loop-less c = step-less (stepped (turn c))
 
 loop-again : tie.Need-loop-again Inv-loop μ-loop
-unfolding bidsFrom
+unfolding bidIn
 loop-again c =
     let (e, t) = at-loop (turn c) .loop .inv in
     (e, walked-on _ _ e t (stepped (turn c)) (c .before .before .put-four .ensures))
@@ -82,5 +80,5 @@ returns c =
 
 pub put-some-spec : {M : Type 1} → statement M
 put-some-spec =
-    tie.close (tie.spec Inv-loop μ-loop loop-holds (λ c κs. search needs) (λ c. search needs) add-put-four mul-put-four
+    tie.close (tie.spec Inv-loop μ-loop loop-holds (λ c κs. search needs) (λ c. search needs) mul-put-four
     shared-slice-read-put-four put-four-requires loop-less loop-again (λ c. search needs) same-length returns)
