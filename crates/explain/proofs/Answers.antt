@@ -32,6 +32,8 @@ use Rattle.model.proofs.Counting.{length-list, list-cong}
 use Rattle.model.proofs.Loops.{element}
 use Rattle.model.proofs.Promises.{updated-both, giving-nothing}
 use Rattle.model.proofs.Verdicts.{updated-accepted, updated-refused}
+use Rattle.model.specs.contracts.Rows.{bidsOf}
+use Rattle.model.proofs.contracts.Rows.{bids-shown}
 use Rattle.model.proofs.market.Acceptance.{accepted-iff-within-limits, not-unequal, width-of}
 use Rattle.model.proofs.claims.Reasons.{explained-within, explaining-within, station-told}
 use Rattle.model.proofs.claims.Reasons.{charge-told, loss-told, stations-long, charges-long, losses-long}
@@ -127,16 +129,22 @@ is-accepted :
 unfolding answerOfVerdict
 is-accepted t codes outcomes e = sym e
 
+-- the view of an accepted market's bids shows them all
 module _ (asks bays amounts tickets bids : List ℕ) (width codes outcomes : ℕ)
-    (e : Judged (tables asks bays amounts tickets bids width) codes outcomes verdicts.Accepted) where
+    (e : Judged (tables asks bays amounts tickets bids width) codes outcomes verdicts.Accepted) {seen : List ℕ}
+    (s : seen ≡ bidsOf bids width (length asks)) where
   abbrev t : Tables
   t = tables asks bays amounts tickets bids width
 
   found : WithinLimits t × (codes ≡ length amounts * length asks) × (outcomes ≡ length amounts)
   found = accepted-lengths t codes outcomes (is-accepted t codes outcomes e)
 
-  pub found-within : WithinLimits (regular asks bays amounts tickets bids)
-  found-within = subst WithinLimits (width-of asks bays amounts tickets bids width (found .0)) (found .0)
+  lent : t ≡ regular asks bays amounts tickets seen
+  lent = width-of asks bays amounts tickets bids width (found .0)
+      ∙ ap (regular asks bays amounts tickets) (sym (s ∙ bids-shown _ _ _ (found .0 .shape .width-is)))
+
+  pub found-within : WithinLimits (regular asks bays amounts tickets seen)
+  found-within = subst WithinLimits lent (found .0)
 
   pub found-codes : codes ≡ length amounts * length asks
   found-codes = found .1
@@ -177,21 +185,22 @@ accepted-long {t = t} s =
 
 pub accepted-explained :
     (rule : Rule) (asks bays amounts tickets bids : List ℕ) (width outcomes : ℕ) (entry : List ℕ)
-    {table stations charges losses : List ℕ} {e : Telling}
+    {seen table stations charges losses : List ℕ} {e : Telling}
     → Judged (tables asks bays amounts tickets bids width) (length entry) outcomes verdicts.Accepted
-    → ExplainsAccepted rule (regular asks bays amounts tickets bids) table stations charges losses
+    → seen ≡ bidsOf bids width (length asks)
+    → ExplainsAccepted rule (regular asks bays amounts tickets seen) table stations charges losses
     → e .reply ≡ verdicts.Accepted → e .guests ≡ length amounts
     → e .stations ≡ stations ++ drop (length amounts) (replicate maxGuests 0)
     → e .charges ≡ charges ++ drop (length amounts) (replicate maxGuests 0)
     → e .losses ≡ losses ++ drop (length amounts) (replicate maxGuests 0)
     → ExplainedUnder rule (tables asks bays amounts tickets bids width) outcomes entry e table
 unfolding answerOfVerdict toldBy
-accepted-explained rule asks bays amounts tickets bids width outcomes entry {table} {stations} {charges} {losses} {e}
-    j s er eg es ec el =
+accepted-explained rule asks bays amounts tickets bids width outcomes entry {seen} {table} {stations} {charges} {losses}
+    {e} j q s er eg es ec el =
     let t = tables asks bays amounts tickets bids width in
     let v = is-accepted t (length entry) outcomes j in
     let w = accepted-lengths t (length entry) outcomes v .0 in
-    let same = sym (width-of asks bays amounts tickets bids width w) in
+    let same = sym (lent asks bays amounts tickets bids width (length entry) outcomes j q) in
     let (ls, lc, ll) = accepted-long s in
     record {
       answered = ap answerOfVerdict er ∙ sym v;

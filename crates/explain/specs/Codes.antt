@@ -19,22 +19,22 @@ codeBy bid ask cut won = cond (bid =? 0) 1 (cond (ask <? cut) (cond (bid <? cut)
 unfoldable pub codeAt : Tables → (cut i j : ℕ) → ℕ
 codeAt t c i j = codeBy (bidAt t i j) (getD (t .asks) j 0) c (provisional (queue (screenedAt t c) j) i)
 
--- the same from the station's critical total and tie bound, for a guest whose bids stand from base on
-unfoldable pub rowCode : (asks bids : List ℕ) (amount ticket cut : ℕ) (criticals bounds : List ℕ) (base j : ℕ) → ℕ
-rowCode asks bids amount ticket cut criticals bounds base j =
-    codeBy (getD bids (base + j) 0) (getD asks j 0) cut
-    (wonBy (getD bids (base + j) 0 * amount) (getD criticals (j + 1) 0) ticket (getD bounds (j + 1) 0))
+-- the same from the station's critical total and tie bound, for a guest with this row of bids
+unfoldable pub rowCode : (asks row : List ℕ) (amount ticket cut : ℕ) (criticals bounds : List ℕ) (j : ℕ) → ℕ
+rowCode asks row amount ticket cut criticals bounds j =
+    codeBy (getD row j 0) (getD asks j 0) cut
+    (wonBy (getD row j 0 * amount) (getD criticals (j + 1) 0) ticket (getD bounds (j + 1) 0))
 
--- what a row is written from, and room for it from base on
-pub record RowReady (asks bids : List ℕ) (amount cut : ℕ) (criticals bounds : List ℕ) (base : ℕ)
+-- what a row of codes is written from, and room for it from base on
+pub record RowReady (asks row : List ℕ) (amount : ℕ) (criticals bounds : List ℕ) (base : ℕ)
     (codes : List ℕ) : Type 0 where
   pub few : length asks ≤ maxStations
-  pub bids-low : (q : ℕ) → q < length bids → getD bids q 0 ≤ maxPrice
+  pub row-long : length row ≡ length asks
+  pub bids-low : (j : ℕ) → j < length asks → getD row j 0 ≤ maxPrice
   pub amount-low : amount ≤ maxAmount
   pub criticals-long : length criticals ≡ maxStations + 1
   pub bounds-long : length bounds ≡ maxStations + 1
   pub criticals-low : (j : ℕ) → j < length asks → getD criticals (j + 1) 0 ≤ maxTotal
-  pub bids-room : base + length asks ≤ length bids
   pub codes-room : base + length asks ≤ length codes
 
 -- all codes at a cut, and the losses of guests with these stations

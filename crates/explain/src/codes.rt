@@ -79,10 +79,10 @@ fn higher(a: u8, b: u8) -> u8
     if a < b { b } else { a }
 }
 
-// A guest's codes at all stations, to the places from base on, where its bids stand in their table. Gives the highest.
+// A guest's codes at all stations from its row of bids, to the places from base on. Gives the highest.
 fn explain_row(
     asks: &[u32],
-    bids: &[u32],
+    row: &[u32],
     amount: u16,
     ticket: u32,
     cut: UnitPrice,
@@ -91,9 +91,9 @@ fn explain_row(
     base: usize,
     codes: &mut [u8],
 ) -> u8
-    requires { ⌜ RowReady (now asks) (now bids) amount (cut .0) (now criticals) (now bounds) base (now codes) ⌝ }
-    ensures { λ r. ⌜ (let f = rowCode (now (asks .entry)) (now (bids .entry)) amount ticket (cut .0)
-        (now (criticals .entry)) (now (bounds .entry)) base in
+    requires { ⌜ RowReady (now asks) (now row) amount (now criticals) (now bounds) base (now codes) ⌝ }
+    ensures { λ r. ⌜ (let f = rowCode (now (asks .entry)) (now (row .entry)) amount ticket (cut .0)
+        (now (criticals .entry)) (now (bounds .entry)) in
         (now (codes .exit) ≡ paste (now (codes .entry)) base (list (length (now (asks .entry))) f)
         (length (now (asks .entry)))) × (r ≡ greatest (length (now (asks .entry))) f)) ⌝ }
 {
@@ -101,7 +101,7 @@ fn explain_row(
     let mut j = 0;
     while j < asks.len() {
         let c = code(
-            UnitPrice(bids[base + j]),
+            UnitPrice(row[j]),
             amount,
             ticket,
             UnitPrice(asks[j]),
@@ -147,9 +147,10 @@ pub fn explain_rows(
     let m = asks.len();
     let mut i = 0;
     while i < amounts.len() {
+        let row = views::row_through_view(bids, m, i + 1);
         let highest = explain_row(
             asks,
-            bids,
+            row,
             amounts[i],
             tickets[i],
             cut,

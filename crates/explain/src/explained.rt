@@ -60,6 +60,7 @@ pub fn explained_under(
     ) {
         Verdict::Refused(refusal) => refusing(refusal),
         Verdict::Accepted => {
+            let table = views::bids_through_view(bids, width, asks.len());
             let mut stations = [0u16; MAX_GUESTS];
             let mut charges = [0u32; MAX_GUESTS];
             let mut losses = [0u8; MAX_GUESTS];
@@ -69,7 +70,7 @@ pub fn explained_under(
                 bays,
                 amounts,
                 tickets,
-                bids,
+                table,
                 codes,
                 &mut stations[..n],
                 &mut charges[..n],

@@ -21,6 +21,8 @@ use Rattle.model.proofs.Tests.{eq-or-ne, only-yes, only-no, only-le}
 use Rattle.model.proofs.Counting.{greatest-cong, length-list, getD-list, list-cong}
 use Rattle.model.proofs.Loops.{Filling, filling-none, filling-turn, filling-end}
 use Rattle.model.proofs.market.Acceptance.{product-fits}
+use Rattle.model.specs.contracts.Rows.{rowOf}
+use Rattle.model.proofs.contracts.Rows.{row-long, row-shows}
 use Rattle.model.proofs.sheet.Joined.{joined-length, paste-next}
 use Rattle.allocation.specs.Offers.{wonBy}
 use Rattle.allocation.specs.Screens.{screenedAt}
@@ -106,8 +108,15 @@ code-is rule t i j =
 
 -- ---- a row of codes, from bars
 
-module _ (t : Tables) (c : ℕ) {criticals bounds : List ℕ} (w : WithinLimits t) (b : Bars t c criticals bounds) (i : ℕ)
-    (li : i < length (t .amounts)) where
+module _ (t : Tables) (c : ℕ) {criticals bounds row : List ℕ} (w : WithinLimits t) (b : Bars t c criticals bounds)
+    (i : ℕ) (li : i < length (t .amounts)) (e : row ≡ rowOf (t .bids) (length (t .asks)) (i + 1)) where
+  -- where the row stands in the table
+  whole : (i + 1) * length (t .asks) ≤ length (t .bids)
+  whole = omega (arith, w .shape .bids-length, mul-le-mul-right (length (t .asks)) li)
+
+  shows-bid : (j : ℕ) → j < length (t .asks) → getD row j 0 ≡ getD (t .bids) (i * length (t .asks) + j) 0
+  shows-bid j l = rw e (row-shows (t .bids) (length (t .asks)) i j whole l)
+
   candidate :
       (j : ℕ) → getD (t .asks) j 0 < c → c ≤ bidAt t i j → (screenedAt t c) .candidate i j ≡ true
   unfolding screenedAt
@@ -115,28 +124,25 @@ module _ (t : Tables) (c : ℕ) {criticals bounds : List ℕ} (w : WithinLimits 
 
   pub row-code-is :
       (j : ℕ) → j < length (t .asks)
-      → rowCode (t .asks) (t .bids) (getD (t .amounts) i 0) (getD (t .tickets) i 0) c criticals bounds
-      (i * length (t .asks)) j ≡ codeAt t c i j
+      → rowCode (t .asks) row (getD (t .amounts) i 0) (getD (t .tickets) i 0) c criticals bounds j ≡ codeAt t c i j
   unfolding rowCode codeAt bidAt screenedAt
-  row-code-is j lj =
-      won-matters _ _ c _ _ (λ l h. rw (add-one j, b .criticals-are j lj)
-      (b .bounded .wins i j li lj (candidate j l h)))
+  row-code-is j lj = rw (shows-bid j lj) (won-matters _ _ c _ _ (λ l h. rw (add-one j, b .criticals-are j lj)
+      (b .bounded .wins i j li lj (candidate j l h))))
 
   pub row-ready :
       {codes : List ℕ} → length codes ≡ length (t .amounts) * length (t .asks)
-      → RowReady (t .asks) (t .bids) (getD (t .amounts) i 0) c criticals bounds (i * length (t .asks)) codes
-  unfolding bidAt
-  row-ready {codes} e =
+      → RowReady (t .asks) row (getD (t .amounts) i 0) criticals bounds (i * length (t .asks)) codes
+  row-ready {codes} long =
       let end : i * length (t .asks) + length (t .asks) ≤ length (t .amounts) * length (t .asks)
       = omega (arith, mul-le-mul-right (length (t .asks)) li) in
       record {
         few = w .shape .stations-most;
-        bids-low = w .bid-most;
+        row-long = rw e (row-long (t .bids) (length (t .asks)) i whole);
+        bids-low = λ j l. rw (shows-bid j l) (w .bid-most _ (omega (arith, w .shape .bids-length)));
         amount-low = w .amount-most i li;
         criticals-long = b .criticals-long;
         bounds-long = b .bounded .bounds-long;
         criticals-low = λ j lj. rw (add-one j) (b .criticals-low j lj);
-        bids-room = omega (arith, w .shape .bids-length);
         codes-room = omega arith;
       }
 

@@ -10,11 +10,11 @@ use Rattle.explain.proofs.codes.explain_row.Statement.{statement}
 use Rattle.explain.proofs.codes.explain_row.Tie as tie
 
 abbrev Inv-loop : tie.InvT-loop
-Inv-loop asks bids amount ticket cut criticals bounds base codes₀ top₀ j₀ codes top j =
-    RowSoFar (length asks) (rowCode asks bids amount ticket (cut .0) criticals bounds base) codes₀ codes base top j
+Inv-loop asks row amount ticket cut criticals bounds base codes₀ top₀ j₀ codes top j =
+    RowSoFar (length asks) (rowCode asks row amount ticket (cut .0) criticals bounds) codes₀ codes base top j
 
 abbrev μ-loop : tie.MeasureT-loop
-μ-loop asks bids amount ticket cut criticals bounds base codes₀ top₀ j₀ codes top j = length asks - j
+μ-loop asks row amount ticket cut criticals bounds base codes₀ top₀ j₀ codes top j = length asks - j
 
 abbrev entry-before-test : tie.In-loop Inv-loop μ-loop → tie.Start Inv-loop μ-loop
 entry-before-test p = p .before .before .before .before .before .before .before
@@ -25,12 +25,7 @@ test-before-code p = p .before .before .before .before .before
 abbrev test-after-code : tie.After-code Inv-loop μ-loop → tie.In-loop Inv-loop μ-loop
 test-after-code p = test-before-code (p .before)
 
--- the bid's place is within its table, the code's within its own, and the station's number within the limits
-in-bids : (c : tie.In-loop Inv-loop μ-loop) →
-    let entry = entry-before-test c in
-    entry .args .base + c .before .loop .j < length (entry .args .bids .now)
-in-bids c = omega (arith, entry-before-test c .pre .bids-room, c .loop-test .taken)
-
+-- the code's place is within its table, and the station's number within the limits
 in-codes : (c : tie.In-loop Inv-loop μ-loop) →
     entry-before-test c .args .base + c .before .loop .j < length (c .before .loop .codes)
 in-codes c =
@@ -43,11 +38,10 @@ numbered c = omega (arith, c .loop-test .taken, entry-before-test c .pre .few)
 loop-holds : tie.Need-loop-holds Inv-loop μ-loop
 loop-holds c = let entry = c .before .before .before .before in row-none (entry .before .pre .codes-room)
 
-add-t13 : tie.Need-add-t13 Inv-loop μ-loop
-add-t13 c = let h = in-bids c in search needs
-
-mul-t15 : tie.Need-mul-t15 Inv-loop μ-loop
-mul-t15 c = let h = in-bids c in search needs
+read-bid : tie.Need-shared-slice-read-t16 Inv-loop μ-loop
+read-bid c =
+    let at-test = c .before in
+    omega (arith, at-test .loop-test .taken, entry-before-test at-test .pre .row-long)
 
 add-wide : tie.Need-add-wide Inv-loop μ-loop
 add-wide c = omega (arith, numbered (c .before .before))
@@ -75,7 +69,7 @@ code-requires : tie.Need-code-requires Inv-loop μ-loop
 code-requires c κs =
     let at-test = test-before-code c in
     let ready = entry-before-test at-test .pre in (
-      ready .bids-low _ (in-bids at-test),
+      ready .bids-low _ (at-test .loop-test .taken),
       ready .amount-low,
       omega (arith, c .before .wide .ensures, ready .criticals-low _ (at-test .loop-test .taken)),
     )
@@ -97,28 +91,8 @@ loop-again c =
 
 pub explain-row-spec : {M : Type 1} → statement M
 explain-row-spec =
-    tie.close
-    (tie.spec
-    Inv-loop
-    μ-loop
-    loop-holds
-    add-t13
-    mul-t15
-    (λ c. in-bids (c .before))
-    (λ c. search needs)
-    (λ c. search needs)
-    add-wide
-    mul-wide
-    shared-slice-read-wide
-    (λ c κs. search needs)
-    add-code
-    mul-code
-    shared-slice-read-code
-    code-requires
-    add-codes
-    slice-write-codes
-    (λ c κs. search needs)
-    (λ c. search needs)
-    (λ c. search needs)
-    loop-again
-    (λ c. row-same (c .before .loop .inv)) (λ c. row-end (c .before .loop .inv) (c .loop-test .left)))
+    tie.close (tie.spec Inv-loop μ-loop loop-holds (λ c. search needs) read-bid (λ c. search needs)
+    (λ c. search needs) add-wide mul-wide shared-slice-read-wide (λ c κs. search needs) add-code mul-code
+    shared-slice-read-code code-requires add-codes slice-write-codes (λ c κs. search needs) (λ c. search needs)
+    (λ c. search needs) loop-again (λ c. row-same (c .before .loop .inv))
+    (λ c. row-end (c .before .loop .inv) (c .loop-test .left)))

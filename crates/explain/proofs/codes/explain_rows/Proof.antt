@@ -31,49 +31,53 @@ loop-holds c =
 
 shared-slice-read-explain-row-2 : tie.Need-shared-slice-read-explain-row-2 Inv-loop μ-loop
 shared-slice-read-explain-row-2 c =
-    let at-test = c .before .before in
+    let at-test = c .before .before .before in
     omega (arith, at-test .loop-test .taken, entry-before-test at-test .pre .0 .shape .tickets-length)
 
 mul-explain-row-3 : tie.Need-mul-explain-row-3 Inv-loop μ-loop
 mul-explain-row-3 c =
-    let at-test = c .before .before in
+    let at-test = c .before .before .before in
     let shape = entry-before-test at-test .pre .0 .shape in
     omega (arith, rows-fit (at-test .before .loop .inv) (shape .guests-most) (shape .stations-most))
 
 explain-row-requires : tie.Need-explain-row-requires Inv-loop μ-loop
 explain-row-requires c κs =
-    let at-test = c .before .before .before in
+    let at-view = c .before .before .before in
+    let at-test = at-view .before in
     let entry = entry-before-test at-test in
     let so-far = at-test .before .loop .inv in
     row-ready (regular _ _ _ _ _) _ (entry .pre .0) (entry .pre .1 .0) _ (at-test .loop-test .taken)
-    (rows-same so-far ∙ so-far .long)
+    (at-view .row-through-view .ensures) (rows-same so-far ∙ so-far .long)
+
+abbrev view-before-row : tie.After-explain-row Inv-loop μ-loop → tie.After-row-through-view Inv-loop μ-loop
+view-before-row p = p .before .before .before .before
 
 shared-slice-read-loss : tie.Need-shared-slice-read-loss Inv-loop μ-loop
 shared-slice-read-loss c =
-    let at-row = c .before .before .before in
-    let at-test = at-row .before .before .before .before in
+    let at-test = view-before-row (c .before .before .before) .before in
     omega (arith, at-test .loop-test .taken, entry-before-test at-test .pre .1 .1 .0)
 
 slice-write-losses : tie.Need-slice-write-losses Inv-loop μ-loop
 slice-write-losses c =
-    let at-row = c .before .before .before .before in
-    let at-test = at-row .before .before .before .before in
+    let at-test = view-before-row (c .before .before .before .before) .before in
     let losses = at-test .before .loop .inv .losses-are in
     omega (arith, at-test .loop-test .taken, losses .filled .same, losses .long)
 
 loop-again : tie.Need-loop-again Inv-loop μ-loop
 loop-again c =
     let at-row = c .before .before .before .before in
-    let at-test = at-row .before .before .before .before in
+    let at-view = view-before-row at-row in
+    let at-test = at-view .before in
     let entry = entry-before-test at-test in
     rows-turn (at-test .before .loop .inv) (at-test .loop-test .taken)
-    (row-code-is (regular _ _ _ _ _) _ (entry .pre .0) (entry .pre .1 .0) _ (at-test .loop-test .taken))
+    (row-code-is (regular _ _ _ _ _) _ (entry .pre .0) (entry .pre .1 .0) _ (at-test .loop-test .taken)
+    (at-view .row-through-view .ensures))
     (at-row .explain-row .ensures) (c .loss .ensures)
 
 pub explain-rows-spec : {M : Type 1} → statement M
 explain-rows-spec =
-    tie.close (tie.spec Inv-loop μ-loop loop-holds (λ c. search needs) (λ c. search needs) (λ c. search needs)
-    shared-slice-read-explain-row-2 mul-explain-row-3 explain-row-requires (λ c. search needs) shared-slice-read-loss
-    (λ c κs. search needs) slice-write-losses (λ c. search needs) (λ c. search needs) loop-again
-    (λ c. rows-same (c .before .loop .inv)) (λ c. c .before .loop .inv .losses-are .filled .same)
-    (λ c. rows-end (c .before .loop .inv) (c .loop-test .left)))
+    tie.close (tie.spec Inv-loop μ-loop loop-holds (λ c. search needs) (λ c κs. search needs) (λ c. search needs)
+    (λ c. search needs) (λ c. search needs) shared-slice-read-explain-row-2 mul-explain-row-3 explain-row-requires
+    (λ c. search needs) shared-slice-read-loss (λ c κs. search needs) slice-write-losses (λ c. search needs)
+    (λ c. search needs) loop-again (λ c. rows-same (c .before .loop .inv))
+    (λ c. c .before .loop .inv .losses-are .filled .same) (λ c. rows-end (c .before .loop .inv) (c .loop-test .left)))

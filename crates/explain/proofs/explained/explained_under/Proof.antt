@@ -12,7 +12,7 @@ use Rattle.explain.proofs.explained.explained_under.Statement.{statemen
 use Rattle.explain.proofs.explained.explained_under.Tie as tie
 
 abbrev entry-before-call : tie.After-explain-accepted-arg → tie.Start
-entry-before-call p = p .before .before .before .before .before .before .before .before .before .before
+entry-before-call p = p .before .before .before .before .before .before .before .before .before .before .before
 
 abbrev accepted-before-end : tie.After-losses2 → tie.After-explain-accepted
 accepted-before-end p = p .before .before .before .before .before
@@ -21,12 +21,14 @@ accepted-before-end p = p .before .before .before .before .before
 within : (c : tie.After-explain-accepted-arg) →
     let args = entry-before-call c .args in
     WithinLimits (regular (args .asks .now) (args .bays .now) (args .amounts .now) (args .tickets .now)
-    (args .bids .now))
+    (c .before .bids-through-view .result .now))
     × (length (args .codes .now) ≡ length (args .amounts .now) * length (args .asks .now))
 within c =
-    let at-told = c .before in
+    let at-view = c .before in
+    let at-told = at-view .before in
     let j = told (at-told .enum-told .given .1) (at-told .before .before .explaining-fault .ensures) in
-    (found-within _ _ _ _ _ _ _ _ j, found-codes _ _ _ _ _ _ _ _ j)
+    let s = at-view .bids-through-view .ensures in
+    (found-within _ _ _ _ _ _ _ _ j s, found-codes _ _ _ _ _ _ _ _ j s)
 
 few : (c : tie.After-explain-accepted-arg) → length (entry-before-call c .args .amounts .now) ≤ maxGuests
 few c = within c .0 .shape .guests-most
@@ -63,14 +65,15 @@ returns-2 : tie.Need-returns-2
 returns-2 c =
     let at-accepted = accepted-before-end c in
     let at-call = at-accepted .before .before .before .before in
-    let at-told = at-call .before in
+    let at-view = at-call .before in
+    let at-told = at-view .before in
     accepted-explained _ _ _ _ _ _ _ _ _
     (told (at-told .enum-told .given .1) (at-told .before .before .explaining-fault .ensures))
-    (at-accepted .explain-accepted .ensures) refl refl refl refl refl
+    (at-view .bids-through-view .ensures) (at-accepted .explain-accepted .ensures) refl refl refl refl refl
 
 pub explained-under-spec : {M : Type 1} → statement M
 explained-under-spec =
     tie.close (tie.spec (λ c κs. search needs) (λ c. search needs) (λ c κs. search needs) (λ c. search needs)
-    few slice-aggregate-explain-accepted array-borrow-prefix-charges
+    (λ c κs. search needs) few slice-aggregate-explain-accepted array-borrow-prefix-charges
     slice-aggregate-explain-accepted-2 array-borrow-prefix-losses slice-aggregate-explain-accepted-3
     explain-accepted-requires returns (λ c. search needs) returns-2)
