@@ -1,5 +1,6 @@
 // The clearing for other languages: include/bay_market.h.
 use model::answers::Clearing;
+use model::mechanism::Mechanism;
 ghost use Rattle.model.specs.Promises.{KeepsOut};
 ghost use Rattle.model.specs.market.Outcome.{outcome, efficientOutcome};
 ghost use Rattle.model.specs.contracts.EntryPoints.{clearing};
@@ -46,6 +47,7 @@ pub extern "C" fn bay_market_clear(
         (resultsOut stations charges sold paid) (now (cut .exit), now (margin .exit)) ⌝ }
 {
     let answer = clearing::clear(
+        Mechanism::Truthful,
         rule,
         asks,
         bays,
@@ -81,7 +83,8 @@ pub extern "C" fn bay_market_clear_efficient(
         (resultsIn stations charges sold paid) (now (cut .entry), now (margin .entry)) r
         (resultsOut stations charges sold paid) (now (cut .exit), now (margin .exit)) ⌝ }
 {
-    let answer = clearing::clear_efficient(
+    let answer = clearing::clear(
+        Mechanism::Efficient,
         rule,
         asks,
         bays,

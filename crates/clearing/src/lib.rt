@@ -9,7 +9,7 @@ use model::refusal::Refusal;
 use model::rule::NamedRule;
 use model::rule::Rule;
 ghost use Rattle.model.specs.market.Outcome.{outcomeIn};
-ghost use Rattle.model.specs.contracts.EntryPoints.{ClearsUnder, ClearsBy, Clears, ClearsEfficient};
+ghost use Rattle.model.specs.contracts.EntryPoints.{ClearsUnder, ClearsBy};
 ghost use Rattle.model.specs.contracts.Lent.{tablesIn, resultsIn, resultsOut};
 
 // Clears a market by a mechanism under a rule, or refuses it and writes nothing.
@@ -64,7 +64,7 @@ pub fn clear_under(
 }
 
 // The same under the rule of a number, which is looked at first.
-fn clear_by(
+pub fn clear(
     mechanism: Mechanism,
     rule: u8,
     asks: &[u32],
@@ -98,70 +98,4 @@ fn clear_by(
             paid,
         ),
     }
-}
-
-// Clears a market under the rule of a number, or refuses it and writes nothing.
-pub fn clear(
-    rule: u8,
-    asks: &[u32],
-    bays: &[u16],
-    amounts: &[u16],
-    tickets: &[u32],
-    bids: &[u32],
-    width: usize,
-    stations: &mut [u16],
-    charges: &mut [u32],
-    sold: &mut [u32],
-    paid: &mut [u64],
-) -> Clearing
-    ensures { λ r. ⌜ Clears rule (tablesIn asks bays amounts tickets bids width)
-        (resultsIn stations charges sold paid) r (resultsOut stations charges sold paid) ⌝ }
-{
-    clear_by(
-        Mechanism::Truthful,
-        rule,
-        asks,
-        bays,
-        amounts,
-        tickets,
-        bids,
-        width,
-        stations,
-        charges,
-        sold,
-        paid,
-    )
-}
-
-// Clears a market of a quiet day under the rule of a number, or refuses it and writes nothing.
-pub fn clear_efficient(
-    rule: u8,
-    asks: &[u32],
-    bays: &[u16],
-    amounts: &[u16],
-    tickets: &[u32],
-    bids: &[u32],
-    width: usize,
-    stations: &mut [u16],
-    charges: &mut [u32],
-    sold: &mut [u32],
-    paid: &mut [u64],
-) -> Clearing
-    ensures { λ r. ⌜ ClearsEfficient rule (tablesIn asks bays amounts tickets bids width)
-        (resultsIn stations charges sold paid) r (resultsOut stations charges sold paid) ⌝ }
-{
-    clear_by(
-        Mechanism::Efficient,
-        rule,
-        asks,
-        bays,
-        amounts,
-        tickets,
-        bids,
-        width,
-        stations,
-        charges,
-        sold,
-        paid,
-    )
 }

@@ -1,5 +1,5 @@
--- Demand 3, first two sentences, over calls of `clear`, and what of it holds of `clear_efficient`: from the tables, the
--- answer and the result lists at exit alone.
+-- Demand 3, first two sentences, over truthful calls of `clear`, and what of it holds of efficient ones: from the
+-- tables, the answer and the result lists at exit alone.
 -- Each statement is a type; its proof is a term of proofs/.
 use Prim.Native.Nat.{ℕ, suc, _+_, _*_, _≤_, _<_}
 use mathlib.Core.Path.{_≡_}
@@ -27,7 +27,7 @@ pub record ClearedCallBy (made : Rule → Tables → Outcome) (rule : ℕ) (t : 
   pub call : ClearsBy made rule t entry answer exit
   pub cleared : answerOfClearing answer ≡ accepted (cut, margin)
 
--- a call of `clear`, and one of `clear_efficient`
+-- a truthful one, and an efficient one
 abbrev pub ClearedCall : (rule : ℕ) → Tables → Type 0
 ClearedCall = ClearedCallBy outcome
 

@@ -39,11 +39,11 @@ abbrev pub ClearsBy : (made : Rule → Tables → Outcome) (rule : ℕ) (t : Tab
     (exit : Results) → Type 0
 ClearsBy made rule t entry answer exit = Keeps (clearing made rule t) entry (answerOfClearing answer) exit
 
--- of `clear`
+-- of `clear` with the truthful mechanism
 abbrev pub Clears : (rule : ℕ) (t : Tables) (entry : Results) (answer : Clearing) (exit : Results) → Type 0
 Clears = ClearsBy outcome
 
--- of `clear_efficient`
+-- and with the efficient one
 abbrev pub ClearsEfficient : (rule : ℕ) (t : Tables) (entry : Results) (answer : Clearing) (exit : Results) → Type 0
 ClearsEfficient = ClearsBy efficientOutcome
 

@@ -1,4 +1,5 @@
 use borrow.Author.Needs.{needs}
+use Rattle.model.specs.market.Outcome.{outcomeIn}
 use Rattle.bay_market.proofs.Told.{told}
 use Rattle.bay_market.proofs.clear.bay_market_clear.Statement.{statement}
 use Rattle.bay_market.proofs.clear.bay_market_clear.Tie as tie
@@ -7,6 +8,7 @@ abbrev clear-before-tell : tie.After-tell-arg2 → tie.After-clear
 clear-before-tell p = p .before .before .before .before .before .before .before .before .before .before
 
 returns : tie.Need-returns
+unfolding outcomeIn
 returns c =
     let at-clear = clear-before-tell (c .before) in
     told (at-clear .clear .ensures) (c .tell .ensures)
