@@ -15,7 +15,8 @@ pub fn add(accounts: &mut [u64], charges: &[u32; MAX_GUESTS])
     let mut k = 0;
     while k < accounts.len() {
         let account = Mills(accounts[k]);
-        accounts[k] = account.plus(Mills::wide(charges[k])).0;
+        let raised = account.plus(Mills::wide(charges[k]));
+        accounts[k] = raised.0;
         k += 1;
     }
 }
