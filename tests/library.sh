@@ -1,5 +1,6 @@
 #!/usr/bin/env bash
-# The header and the libraries from C and C++, by gcc and clang, static and shared, and as they are installed.
+# The header and the libraries from C and C++, by gcc and clang, static and shared, and as they are installed; the shared
+# one from Python.
 # Takes the folder that has the libraries.
 set -euo pipefail
 cd -- "$(dirname -- "$(readlink -f -- "$0")")/.."
@@ -29,6 +30,9 @@ read -ra functions <<<"$(scripts/exports --names)"
 [ "$given" = "${functions[*]/#/bay_market_}" ]
 [ "$needed" = 'memcpy memset' ]
 [ "$shared" = "$given" ]
+
+# Python's table of the exports
+tests/exports_test.py "$libraries/libbay_market.so"
 
 # the tests over an installed library: by the archive, and by the shared one through pkg-config where that is
 # shellcheck disable=SC2086  # words

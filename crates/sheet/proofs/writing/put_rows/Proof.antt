@@ -56,8 +56,9 @@ loop-again c =
     let at-view = at-put-row .before .before .before .before in
     let at-loop-test = at-view .before in
     let at-loop = at-loop-test .before in
+    let e = at-view .row-through-view .ensures in
     listing-more (at-loop .loop .inv) (at-loop-test .loop-test .taken)
-    (rw (row-shown _ _ _ _ _ (whole at-loop-test) (at-view .row-through-view .ensures)) at (at-put-row .put-row .ensures))
+    (rw (row-shown _ _ _ _ _ (whole at-loop-test) e) at (at-put-row .put-row .ensures))
 
 same-length : tie.Need-same-length Inv-loop μ-loop
 same-length c = c .before .loop .inv .wrote .same

@@ -1,0 +1,39 @@
+#!/usr/bin/env python3
+"""The shared library through tools/exports_table.py, at the path given: case E read, cleared, explained, posted and
+written, and a call that is refused and leaves what it was lent."""
+import pathlib
+import sys
+
+ROOT = pathlib.Path(__file__).resolve().parent.parent
+sys.path.insert(0, str(ROOT / 'tools'))
+sys.dont_write_bytecode = True
+
+import exports_table  # noqa: E402
+
+LIBRARY = exports_table.load(sys.argv[1])
+SHEET = (ROOT / 'examples/case_e.sheet').read_bytes()
+MARKET = {'asks': [2, 6], 'bays': [1, 1], 'amounts': [3, 3], 'tickets': [1, 2], 'bids': [8, 0, 8, 0], 'width': 2}
+RESULTS = {'stations': [7, 7], 'charges': [7, 7], 'sold': [7, 7], 'paid': [7, 7], 'cut': 7, 'margin': 7}
+
+
+def expect(name, answer, after, **given):
+    got = exports_table.call(LIBRARY, f'bay_market_{name}', **given)
+    assert got == (answer, after), f'{name}: {got}, expected {(answer, after)}'
+
+
+sizes = {'amounts': 200, 'tickets': 200, 'asks': 40, 'bays': 40, 'bids': 8000}
+lent = {name: [9] * size for name, size in sizes.items()}
+expect('read', 0, {**{name: MARKET[name] + lent[name][len(MARKET[name]):] for name in lent}, 'n': 2, 'm': 2},
+       sheet=SHEET, n=0, m=0, **lent)
+cleared = {'stations': [1, 0], 'charges': [24, 0], 'sold': [3, 0], 'paid': [18, 0], 'cut': 6, 'margin': 6}
+expect('clear', 0, cleared, rule=1, **MARKET, **RESULTS)
+expect('clear', 18, RESULTS, rule=3, **MARKET, **RESULTS)
+told = {'codes': [0, 1, 4, 1], 'stations': [1, 0], 'charges': [24, 0], 'reasons': [0, 4]}
+expect('explain', 0, told, rule=1, **MARKET, **{name: [7] * len(held) for name, held in told.items()})
+expect('write', 0, {'sheet': [*SHEET, 5, 5], 'length': len(SHEET)}, **MARKET, sheet=[5] * (len(SHEET) + 2), length=0)
+
+account = exports_table.TYPES['StationAccount']
+answer, book = exports_table.call(LIBRARY, 'bay_market_post', rule=1, **MARKET, round=1, guests=[0, 0],
+                                  stations=[account(0, 0), account(0, 0)], house=0, last=0)
+stations = [(a.sold, a.paid) for a in book.pop('stations')]
+assert (answer, book, stations) == (0, {'guests': [24, 0], 'house': 6, 'last': 1}, [(3, 18), (0, 0)])
