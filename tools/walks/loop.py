@@ -38,10 +38,10 @@ def place(w, types, at, work, to):
     return w.rewrite(to, f"λ (k : ℕ). {cell(types, to, '(vptr b k)')}", '(sym (place-is 16 o (j .0)))')
 
 
-# record j, out of the row; `none` is what stands past its end
-def out(w, share, row, less, none='(account 0 0)'):
+# record j, out of the row
+def out(w, share, row, less):
     w.step(f'elem-out ! T.the-row (Is T.the-row) (shows 𝓤 H A T.the-row) (LL.vals T.the-type T′.the-laws) '
-           f'(LL.tells T.the-type T′.the-laws) {share} {row} (j .0) {none} b o {less}', 1,
+           f'(LL.tells T.the-type T′.the-laws) {share} {row} (j .0) (account 0 0) b o {less}', 1,
            ("the record's cell", 'what it owns', 'the others'), binds='is₀')
     return w.show()
 

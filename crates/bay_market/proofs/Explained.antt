@@ -18,7 +18,7 @@ use Rattle.model.specs.market.Mechanism.{charged}
 use Rattle.model.specs.market.Outcome.{screened, decision}
 use Rattle.model.specs.market.Faults.{unknownRule, counts, lengths, values, explainedLengths, explainedFaults}
 use Rattle.model.specs.market.Faults.{Accepted, explainingFaults}
-use Rattle.model.specs.market.Reasons.{codes, Told, tellings, guestOutcomes, Shown, shownAs}
+use Rattle.model.specs.market.Reasons.{codes, Told, tellings, outcomeLengths, guestOutcomes, Shown, shownAs}
 use Rattle.model.specs.market.Rules.{ruleOf}
 use Rattle.model.specs.contracts.EntryPoints.{explaining}
 use Rattle.model.specs.Promises.{Keeps, RepliesOut}
@@ -168,10 +168,6 @@ charge-fits rule t a i li = rw (charge-at rule t i li) (go ((decision rule t) .a
           product (getD (t .bids) (i * length (t .asks) + j) 0) (getD (t .amounts) i 0) b (w .amount-most i li),
         )
 
--- an outcome table in three lists
-abbrev pub outcomeLengths : Told → List ℕ
-outcomeLengths o = length (o .stations) ∷ length (o .charges) ∷ length (o .losses) ∷ []
-
 module _ (rule : ℕ) (t : Tables) (table : List ℕ) (entry : Told) (x : ℕ)
     (same : any (x ∷ []) (λ k. not (k =? length (t .amounts)))
     ≡ any (outcomeLengths entry) (λ k. not (k =? length (t .amounts)))) where
@@ -192,7 +188,7 @@ module _ (rule : ℕ) (t : Tables) (table : List ℕ) (entry : Told) (x : ℕ)
         → (length (entry .stations) ≡ length (t .amounts)) × (length (entry .charges) ≡ length (t .amounts))
         × (length (entry .losses) ≡ length (t .amounts))
     all-long q =
-        let fits = explaining-within rule t (length table) x q .outcomes-long in
+        let fits = explaining-within rule t (length table) (x ∷ []) q .outcomes-long 0 (omega arith) in
         let none = sym same ∙ one-fits _ x fits in
         let lists = outcomeLengths entry in (
           equal _ _ (any-no lists _ none 0 (omega arith)),
@@ -218,7 +214,7 @@ module _ (rule : ℕ) (t : Tables) (table : List ℕ) (entry : Told) (x : ℕ)
         let guests = s .guests-are ∙ updated-accepted _ _ q in
         let lk : k < length (t .amounts) = omega arith in
         rw (charge-held e (omega (arith, s .few)) guests (s .outcomes-told ∙ updated-accepted _ _ q) k lk)
-        (charge-fits (ruleOf rule) t (explaining-within rule t (length table) x q .market-accepted) k lk)
+        (charge-fits (ruleOf rule) t (explaining-within rule t (length table) (x ∷ []) q .market-accepted) k lk)
     low-by (refused j) q k l = absurd (omega (arith, s .guests-are ∙ updated-refused _ _ j q))
 
     pub charges-low : (k : ℕ) → k < e .guests → getD (e .charges) k 0 < 2 ^ 32
@@ -258,7 +254,7 @@ module _ (rule : ℕ) (t : Tables) (table : List ℕ) (entry : Told) (x : ℕ)
           ∙ updated-both shownAs v (codes (ruleOf rule) t) table (guestOutcomes (ruleOf rule) t) entry
 
       keeps :
-          Keeps (explaining rule t (outcomeLengths entry)) (shownAs table entry) (answerOfVerdict (e .reply))
+          Keeps (explaining rule t) (shownAs table entry) (answerOfVerdict (e .reply))
           (shownAs table′ exit)
       unfolding explaining
       keeps = record {
@@ -268,5 +264,5 @@ module _ (rule : ℕ) (t : Tables) (table : List ℕ) (entry : Told) (x : ℕ)
 
       pub explains-out :
           {r : ℕ} → r ≡ numberOf (answerOfVerdict (e .reply))
-          → RepliesOut (explaining rule t (outcomeLengths entry)) (shownAs table entry) r (shownAs table′ exit)
+          → RepliesOut (explaining rule t) (shownAs table entry) r (shownAs table′ exit)
       explains-out n = replied keeps n

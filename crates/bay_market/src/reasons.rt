@@ -59,8 +59,7 @@ pub extern "C" fn bay_market_explain(
     charges: &mut [u32],
     reasons: &mut [u8],
 ) -> u8
-    ensures { λ r. ⌜ RepliesOut (explaining rule (tablesIn asks bays amounts tickets bids width)
-        (length (now (stations .entry)) ∷ length (now (charges .entry)) ∷ length (now (reasons .entry)) ∷ []))
+    ensures { λ r. ⌜ RepliesOut (explaining rule (tablesIn asks bays amounts tickets bids width))
         (shownIn codes stations charges reasons) r (shownOut codes stations charges reasons) ⌝ }
 {
     let table = table_length(amounts.len(), stations.len(), charges.len(), reasons.len());

@@ -6,10 +6,17 @@ use libc::STDIN_FILENO;
 use libc::STDOUT_FILENO;
 use model::limits::MAX_PAGE;
 use model::limits::MAX_SHEET;
+use model::page::Asked;
 use model::page::Page;
+use model::rule::NamedRule;
 use model::rule::Rule;
-ghost use lib.ListN.{length};
+ghost use Prim.Native.Nat.{_-_};
+ghost use mathlib.Core.List.{[], _∷_};
+ghost use mathlib.Core.Path.{_≡_};
+ghost use lib.ListN.{length, take};
+ghost use Rattle.model.specs.text.Asked.{_spells_, ruleSpelt, ruleAsked, byRule, asked};
 ghost use Rattle.clear.specs.Input.{Within};
+ghost use Rattle.clear.specs.Kinds.{pageOf};
 
 // How many bytes were read, or that a read failed.
 enum Input {
@@ -36,19 +43,6 @@ fn read_input(buffer: &mut [u8]) -> Input
     Input::Bytes(n)
 }
 
-// The page that the arguments ask for, or none.
-enum Asked {
-    For(Page),
-    Unknown,
-}
-
-// Whether an argument is this word. One that does not fit the buffer is given as none.
-fn is_word(at: usize, word: &[u8]) -> bool {
-    let mut given = [0u8; 7];
-    let n = os::arg(at, &mut given);
-    check::same(&given[..n], word)
-}
-
 // The pages of a market that go by a rule.
 enum Kind {
     Clearing,
@@ -56,60 +50,102 @@ enum Kind {
     Reasons,
 }
 
-fn page_by(kind: Kind, rule: Rule) -> Asked {
-    match kind {
-        Kind::Clearing => Asked::For(Page::Clearing(rule)),
-        Kind::Efficient => Asked::For(Page::Efficient(rule)),
-        Kind::Reasons => Asked::For(Page::Reasons(rule)),
+fn page_by(kind: Kind, named: NamedRule) -> Asked
+    ensures { λ r. ⌜ r ≡ byRule (pageOf kind) named ⌝ }
+{
+    match named {
+        NamedRule::Unknown => Asked::Nothing,
+        NamedRule::Known(rule) => match kind {
+            Kind::Clearing => Asked::For(Page::Clearing(rule)),
+            Kind::Efficient => Asked::For(Page::Efficient(rule)),
+            Kind::Reasons => Asked::For(Page::Reasons(rule)),
+        },
     }
 }
 
-// By the rule that two arguments name: `--rule`, and 1 or 2.
-fn page_by_named(kind: Kind, option: usize, number: usize) -> Asked {
-    if !is_word(option, b"--rule") {
-        return Asked::Unknown;
-    }
-    if is_word(number, b"1") {
-        return page_by(kind, Rule::Median);
-    }
-    if is_word(number, b"2") {
-        return page_by(kind, Rule::TwoThirds);
-    }
-    Asked::Unknown
+// Whether an argument is a word.
+fn spells(given: &[u8], word: &[u8]) -> bool
+    ensures { λ r. ⌜ r ≡ now (given .entry) spells now (word .entry) ⌝ }
+{
+    check::same(given, word)
 }
 
-// After the argument that names the kind.
-fn page_after(kind: Kind, count: usize) -> Asked {
-    if count == 2 {
-        return page_by(kind, Rule::Median);
+// The rule that a number names.
+fn rule_spelt(number: &[u8]) -> NamedRule
+    ensures { λ r. ⌜ r ≡ ruleSpelt (now (number .entry)) ⌝ }
+{
+    if spells(number, b"1") {
+        return NamedRule::Known(Rule::Median);
     }
-    if count == 4 {
-        return page_by_named(kind, 2, 3);
+    if spells(number, b"2") {
+        return NamedRule::Known(Rule::TwoThirds);
     }
-    Asked::Unknown
+    NamedRule::Unknown
 }
 
-fn page_asked() -> Asked {
-    let count = os::arg_count();
-    if count < 2 {
-        return page_by(Kind::Clearing, Rule::Median);
+// The rule that the arguments after the page's own ask for: so many, of which these are the first.
+fn rule_asked(count: usize, option: &[u8], number: &[u8]) -> NamedRule
+    ensures { λ r. ⌜ r ≡ ruleAsked (take count (now (option .entry) ∷ now (number .entry) ∷ [] ∷ [])) ⌝ }
+{
+    if count == 0 {
+        return NamedRule::Known(Rule::Median);
     }
-    if count == 3 {
-        return page_by_named(Kind::Clearing, 1, 2);
+    if count != 2 {
+        return NamedRule::Unknown;
     }
-    if is_word(1, b"--quiet") {
-        return page_after(Kind::Efficient, count);
+    if spells(option, b"--rule") {
+        return rule_spelt(number);
     }
-    if is_word(1, b"--why") {
-        return page_after(Kind::Reasons, count);
-    }
-    if (count == 2) & is_word(1, b"--write") {
-        return Asked::For(Page::Sheet);
-    }
-    Asked::Unknown
+    NamedRule::Unknown
 }
 
-// Reads at most one byte more than the largest sheet has, so that every fault is seen.
+// The page that so many arguments ask for, of which these are the first.
+fn page_asked(count: usize, first: &[u8], second: &[u8], third: &[u8]) -> Asked
+    ensures { λ r. ⌜ r
+        ≡ asked (take count (now (first .entry) ∷ now (second .entry) ∷ now (third .entry) ∷ [] ∷ [])) ⌝ }
+{
+    if count == 0 {
+        return page_by(Kind::Clearing, NamedRule::Known(Rule::Median));
+    }
+    if spells(first, b"--quiet") {
+        return page_by(Kind::Efficient, rule_asked(count - 1, second, third));
+    }
+    if spells(first, b"--why") {
+        return page_by(Kind::Reasons, rule_asked(count - 1, second, third));
+    }
+    if spells(first, b"--write") {
+        if count == 1 {
+            return Asked::For(Page::Sheet);
+        }
+        return Asked::Nothing;
+    }
+    page_by(Kind::Clearing, rule_asked(count, first, second))
+}
+
+// How many arguments there are beside the program's name.
+fn after_name(count: usize) -> usize
+    ensures { λ r. ⌜ r ≡ count - 1 ⌝ }
+{
+    if count == 0 {
+        return 0;
+    }
+    count - 1
+}
+
+// By the arguments that the program was started with. One that does not fit its buffer is no word, and given as none.
+fn read_arguments() -> Asked {
+    let mut first = [0u8; 7];
+    let mut second = [0u8; 7];
+    let mut third = [0u8; 7];
+    let n = os::arg(1, &mut first);
+    let k = os::arg(2, &mut second);
+    let l = os::arg(3, &mut third);
+    let count = after_name(os::arg_count());
+    page_asked(count, &first[..n], &second[..k], &third[..l])
+}
+
+// Reads at most one byte more than the largest sheet has, so that every fault is seen. That a page is empty, which that
+// of no guests is, is told too: a program that failed may write nothing.
 fn print(asked: Page) {
     let mut sheet = [0u8; MAX_SHEET + 1];
     match read_input(&mut sheet) {
@@ -122,6 +158,8 @@ fn print(asked: Page) {
             let is_written = io::write_all(STDOUT_FILENO, &out[..k]);
             if !is_written {
                 io::write_all(STDERR_FILENO, b"clear: cannot write standard output\n");
+            } else if k == 0 {
+                io::write_all(STDERR_FILENO, b"clear: no guests\n");
             }
         }
     }
@@ -129,8 +167,8 @@ fn print(asked: Page) {
 
 // What the system reads and writes no contract can say. Where standard error fails too, nobody is left to tell.
 fn main() {
-    match page_asked() {
-        Asked::Unknown => {
+    match read_arguments() {
+        Asked::Nothing => {
             io::write_all(STDERR_FILENO, b"clear: no such argument\n");
         }
         Asked::For(asked) => {

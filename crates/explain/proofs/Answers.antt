@@ -1,15 +1,15 @@
 -- An accepted market at its rule's cut, and what is told of a market by its verdict.
-use Prim.Native.Nat.{ℕ, _*_, _≤_, _<_, zero-le, min}
+use Prim.Native.Nat.{ℕ, _*_, _≤_, _<_, zero-le}
 use mathlib.Core.Bool.{Bool, true, false}
 use mathlib.Core.List.{List, [], _∷_, _++_}
 use mathlib.Core.Path.{_≡_, refl, sym, ap, ap₂, subst, _∙_}
 use native.Mathlib.Omega.{arith}
 use lib.ListN.{getD, length, take, drop, replicate}
-use lib.Seq.{take-at, getD-take, ext-getD}
+use lib.Seq.{take-at, getD-take}
 use Rattle.model.specs.Limits.{maxGuests}
 use Rattle.model.specs.Counting.{_=?_, only, greatest, list, joined, some, any}
 use Rattle.model.specs.Numbers.{number, answerOfVerdict, stationOf, chargeOf, lossOf}
-use Rattle.model.specs.Verdicts.{Row, _gives_, Verdict, accepted, refused, firstFault, updated}
+use Rattle.model.specs.Verdicts.{Row, _gives_, Verdict, accepted, refused, firstFault}
 use Rattle.model.specs.declared.answers.Verdict.{Verdict as Coded}
 use Rattle.model.specs.declared.answers.Verdict.the-variants as verdicts
 use Rattle.model.specs.declared.refusal.Refusal.{Refusal}
@@ -21,23 +21,18 @@ use Rattle.model.specs.market.Mechanism.{at, truthful}
 use Rattle.model.specs.market.Outcome.{outcomeBy, screened, decision, outcome}
 use Rattle.model.specs.market.Faults.{unknownRule, counts, lengths, marketFaults, verdict, explainedLengths}
 use Rattle.model.specs.market.Faults.{explainedFaults, explainingFaults}
-use Rattle.model.specs.market.Reasons.{codes, highestCode, Told, tellings, told, loss, guestOutcomes, explanation}
-use Rattle.model.specs.market.Reasons.{shownAs, shown}
-use Rattle.model.specs.market.Rules.{named, isUnknown, ruleIn, ruleOf}
+use Rattle.model.specs.market.Reasons.{codes, highestCode, Told, tellings, loss, guestOutcomes}
+use Rattle.model.specs.market.Rules.{named, isUnknown, ruleIn}
 use Rattle.model.specs.claims.Meaning.{WithinLimits}
-use Rattle.model.specs.contracts.EntryPoints.{explaining, Explains}
 use Rattle.model.specs.declared.reason.GuestOutcome.{GuestOutcome}
 use Rattle.model.proofs.Tests.{neither}
 use Rattle.model.proofs.Counting.{length-list, list-cong}
 use Rattle.model.proofs.Loops.{element}
-use Rattle.model.proofs.Promises.{updated-both, giving-nothing}
 use Rattle.model.proofs.Verdicts.{updated-accepted, updated-refused}
 use Rattle.model.specs.contracts.Rows.{bidsOf}
 use Rattle.model.proofs.contracts.Rows.{bids-shown}
 use Rattle.model.proofs.market.Acceptance.{accepted-iff-within-limits, not-unequal, width-of}
-use Rattle.model.proofs.claims.Reasons.{explained-within, explaining-within, station-told}
-use Rattle.model.proofs.claims.Reasons.{charge-told, loss-told, stations-long, charges-long, losses-long}
-use Rattle.model.proofs.claims.Reasons.{station-at, charge-at, loss-at, charged-as}
+use Rattle.model.proofs.claims.Reasons.{explained-within, station-at, charge-at, loss-at, charged-as}
 use Rattle.model.proofs.market.Reasons.{loss-most, lost-unassigned}
 use Rattle.pricing.specs.CutAsk.{cutAsk}
 use Rattle.pricing.proofs.cut.CutAsk.{cut-is}
@@ -46,10 +41,9 @@ use Rattle.allocation.specs.Screens.{screenedAt}
 use Rattle.explain.specs.Codes.{CodesAtCut}
 use Rattle.explain.specs.Explained.{ExplainsAccepted, refusing, toldBy, ExplainedAs, ExplainedUnder, ExplainedBy}
 use Rattle.explain.specs.declared.explained.Telling.{Telling}
-use Rattle.explain.specs.Outcomes.{recordOf, mills, recordAt, writtenTo}
+use Rattle.explain.specs.Outcomes.{recordOf, mills, recordAt}
 use Rattle.explain.proofs.codes.Codes.{code-is}
-use Rattle.explain.proofs.outcomes.Outcomes.{station-shown, charge-shown, loss-shown, record-in, recordIn}
-use Rattle.explain.proofs.outcomes.Outcomes.{written-length, written-at}
+use Rattle.explain.proofs.outcomes.Outcomes.{station-shown, charge-shown, loss-shown, record-in}
 
 -- ---- an accepted market at its rule's cut
 
@@ -101,8 +95,8 @@ accepted-lengths :
     (t : Tables) (codes outcomes : ℕ) → firstFault (explainedFaults t codes (outcomes ∷ [])) ≡ accepted tt
     → WithinLimits t × (codes ≡ length (t .amounts) * length (t .asks)) × (outcomes ≡ length (t .amounts))
 accepted-lengths t codes outcomes e =
-    let (market, table, rows) = explained-within t codes outcomes e in
-    (accepted-iff-within-limits t .0 market, table, rows)
+    let (market, table, lists) = explained-within t codes (outcomes ∷ []) e in
+    (accepted-iff-within-limits t .0 market, table, lists 0 (omega arith))
 
 -- with tables of the right lengths the market decides
 skip-row :
@@ -293,39 +287,7 @@ module _ (rule : Rule) (t : Tables) (e : Telling) (few : e .guests ≤ maxGuests
       ap (λ (r : GuestOutcome). lossOf (r .result)) (record-held e (omega arith) guests is i l)
       ∙ loss-shown _ _ _ (sound rule t .low i l)
 
--- the row that is written, of which all is told
-module _ (e : Telling) {o : Told} {n : ℕ} (few : n ≤ maxGuests) (guests : e .guests ≡ n) (is : toldBy e ≡ o)
-    (s : Sound o n) (stations : length (o .stations) ≡ n) (charges : length (o .charges) ≡ n)
-    (losses : length (o .losses) ≡ n) (l : List GuestOutcome) (long : length l ≡ n) where
-  at-row :
-      (i : ℕ) → i < n
-      → recordIn (writtenTo e n l) i
-      ≡ recordOf (getD (o .stations) i 0) (mills (getD (o .charges) i 0)) (getD (o .losses) i 0)
-  at-row i li = written-at e l n i (omega arith) li ∙ record-held e few guests is i li
-
-  whole : length (writtenTo e n l) ≡ n
-  whole = written-length e l n ∙ long
-
-  told-written : told (writtenTo e n l) ≡ o
-  told-written = λ x. tellings
-      (ext-getD 0 ((told (writtenTo e n l)) .stations) (o .stations)
-      (stations-long (writtenTo e n l) ∙ whole ∙ sym stations)
-      (λ i li. let k : i < n = omega (arith, stations-long (writtenTo e n l), whole) in
-      station-told (writtenTo e n l) i ∙ ap (λ (r : GuestOutcome). stationOf (r .result)) (at-row i k)
-      ∙ station-shown _ _ _ (s .station-none i k)) x)
-      (ext-getD 0 ((told (writtenTo e n l)) .charges) (o .charges)
-      (charges-long (writtenTo e n l) ∙ whole ∙ sym charges)
-      (λ i li. let k : i < n = omega (arith, charges-long (writtenTo e n l), whole) in
-      charge-told (writtenTo e n l) i ∙ ap (λ (r : GuestOutcome). chargeOf (r .result)) (at-row i k)
-      ∙ charge-shown _ _ _ (s .charge-none i k)) x)
-      (ext-getD 0 ((told (writtenTo e n l)) .losses) (o .losses)
-      (losses-long (writtenTo e n l) ∙ whole ∙ sym losses)
-      (λ i li. let k : i < n = omega (arith, losses-long (writtenTo e n l), whole) in
-      loss-told (writtenTo e n l) i ∙ ap (λ (r : GuestOutcome). lossOf (r .result)) (at-row i k)
-      ∙ loss-shown _ _ _ (s .low i k)) x)
-
--- ---- `explain`
-
+-- the lists are as long as there are guests
 pub outcomes-long :
     (rule : Rule) (t : Tables)
     → (length ((guestOutcomes rule t) .stations) ≡ length (t .amounts))
@@ -334,32 +296,3 @@ pub outcomes-long :
 unfolding guestOutcomes outcome outcomeBy screened screen market marketBy
 outcomes-long rule t =
     let n = length (t .amounts) in (length-list n _, length-list n _, length-list n _)
-
-pub explains :
-    (rule : ℕ) (t : Tables) (table : List ℕ) (ys : List GuestOutcome) (e : Telling) (table′ : List ℕ)
-    (ys′ : List GuestOutcome) → ExplainedBy rule t (length ys) table e table′
-    → ys′ ≡ writtenTo e (min (length ys) (e .guests)) ys
-    → Explains rule t (explanation table ys) (e .reply) (explanation table′ ys′)
-unfolding explaining shown updated writtenTo
-explains rule t table ys e table′ ys′ s w = record {
-  answered = s .answered ∙ sym (giving-nothing _);
-  left = ap₂ shownAs (s .codes-left) (ap told w ∙ by-verdict _ refl)
-      ∙ updated-both shownAs (firstFault (explainingFaults rule t (length table) (length ys ∷ [])))
-      (codes (ruleOf rule) t) table (guestOutcomes (ruleOf rule) t) (told ys);
-}
-  where
-    by-verdict :
-        (x : Verdict) → firstFault (explainingFaults rule t (length table) (length ys ∷ [])) ≡ x
-        → told (writtenTo e (min (length ys) (e .guests)) ys)
-        ≡ updated x (guestOutcomes (ruleOf rule) t) (told ys)
-    by-verdict (accepted _) q =
-        let w = explaining-within rule t (length table) (length ys) q in
-        let guests = s .guests-are ∙ updated-accepted _ _ q in
-        let all : min (length ys) (e .guests) ≡ length (t .amounts) = omega (arith, w .outcomes-long) in
-        let (ls, lc, ll) = outcomes-long (ruleOf rule) t in
-        rw all (told-written e (omega (arith, s .few)) guests (s .outcomes-told ∙ updated-accepted _ _ q)
-        (sound (ruleOf rule) t) ls lc ll ys (w .outcomes-long))
-    by-verdict (refused k) q =
-        let guests = s .guests-are ∙ updated-refused _ _ k q in
-        let none : min (length ys) (e .guests) ≡ 0 = omega arith in
-        rw none refl

@@ -1,4 +1,4 @@
--- What the functions that write codes promise each other. Nothing that `explain` promises depends on this file.
+-- What the functions that write codes promise each other. Nothing that the export promises depends on this file.
 use Prim.Native.Nat.{ℕ, _+_, _*_, _≤_, _<_}
 use mathlib.Core.Bool.{Bool, cond}
 use mathlib.Core.List.{List}

@@ -1,4 +1,4 @@
--- What is told of a market, by its verdict. Nothing that `explain` promises depends on this file.
+-- What is told of a market, by its verdict. Nothing that the export promises depends on this file.
 use Prim.Native.Nat.{ℕ, _≤_}
 use mathlib.Core.List.{List, [], _∷_}
 use mathlib.Core.Path.{_≡_}

@@ -1,8 +1,7 @@
--- A guest's record, and a row of them. Nothing that `explain` promises depends on this file.
-use Prim.Native.Nat.{ℕ, zero, suc}
+-- A guest's record. Nothing that the export promises depends on this file.
+use Prim.Native.Nat.{ℕ}
 use mathlib.Core.Bool.{cond}
-use mathlib.Core.List.{List}
-use lib.ListN.{getD, set}
+use lib.ListN.{getD}
 use Rattle.model.specs.Limits.{maxGuests}
 use Rattle.model.specs.Counting.{_<?_, _=?_, only}
 use Rattle.model.specs.declared.money.Mills.{Mills}
@@ -28,8 +27,3 @@ unfoldable pub recordAt : Telling → ℕ → GuestOutcome
 recordAt e i =
     recordOf (only (i <? maxGuests) (getD (e .stations) i 0)) (mills (only (i <? maxGuests) (getD (e .charges) i 0)))
     (only (i <? maxGuests) (getD (e .losses) i 0))
-
--- the row with each record below n written
-unfoldable pub writtenTo : Telling → (n : ℕ) → List GuestOutcome → List GuestOutcome
-writtenTo e zero l = l
-writtenTo e (suc n) l = set (writtenTo e n l) n (recordAt e n)

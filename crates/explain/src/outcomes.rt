@@ -1,15 +1,13 @@
-// Guests' outcomes, as records: one by one, and a lent row of them.
+// A guest's outcome, as a record.
 use crate::explained::Telling;
 use model::limits::MAX_GUESTS;
 use model::money::Mills;
 use model::reason::GuestOutcome;
 use model::reason::GuestResult;
 use model::reason::Reason;
-ghost use Prim.Native.Nat.{min};
 ghost use mathlib.Core.Path.{_≡_};
-ghost use lib.ListN.{length};
 ghost use Rattle.model.specs.Numbers.{stationOf, chargeOf, lossOf};
-ghost use Rattle.explain.specs.Outcomes.{reasonOf, recordOf, recordAt, writtenTo};
+ghost use Rattle.explain.specs.Outcomes.{reasonOf, recordOf, recordAt};
 
 fn reason(code: u8) -> Reason
     ensures { λ r. ⌜ r ≡ reasonOf code ⌝ }
@@ -82,16 +80,4 @@ pub fn outcome_at(e: Telling, i: usize) -> GuestOutcome
         return guest_outcome(0, Mills(0), 0);
     }
     guest_outcome(e.stations[i], Mills::wide(e.charges[i]), e.losses[i])
-}
-
-// Writes so many of the records.
-pub fn fill(outcomes: &mut [GuestOutcome], e: Telling, count: usize)
-    ensures { λ _. ⌜ now (outcomes .exit)
-        ≡ writtenTo e (min (length (now (outcomes .entry))) count) (now (outcomes .entry)) ⌝ }
-{
-    let mut i = 0;
-    while (i < outcomes.len()) & (i < count) {
-        outcomes[i] = outcome_at(e, i);
-        i += 1;
-    }
 }

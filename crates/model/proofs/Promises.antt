@@ -1,10 +1,10 @@
 -- How a call keeps its promise, and what a caller learns from an answer: laws for every promise.
 use Prim.Native.Nat.{ℕ}
 use mathlib.Core.Path.{_≡_, refl, sym, ap, _∙_}
-use Rattle.model.specs.Promises.{Promise, Keeps}
+use Rattle.model.specs.Promises.{Promise, Keeps, KeepsOut}
 use Rattle.model.specs.Verdicts.{Answer, Verdict, accepted, refused, firstFault, giving, updated}
 use Rattle.model.proofs.Verdicts.{giving-accepted, giving-refused, gave-accepted, gave-refused}
-use Rattle.model.proofs.Verdicts.{updated-accepted, updated-refused}
+use Rattle.model.proofs.Verdicts.{updated-accepted, updated-refused, number-accepted}
 
 -- two parts of what is lent
 pub updated-both :
@@ -29,6 +29,16 @@ module _ {A L : Type 0} {p : L → Promise A L} {entry : L} where
       → exit ≡ p entry .leaves → Keeps p entry (accepted value) exit
   keeps-accepted e v l =
       record { answered = ap accepted v ∙ sym (giving-accepted _ e); left = l ∙ sym (updated-accepted _ _ e) }
+
+  -- an export answers 0 then
+  pub keeps-zero :
+      (out : A) → firstFault (p entry .faults) ≡ accepted tt
+      → KeepsOut p entry out 0 (p entry .leaves) (p entry .value)
+  keeps-zero out e = record {
+    number-is = sym (number-accepted e);
+    left = sym (updated-accepted _ _ e);
+    out-is = sym (updated-accepted _ _ e);
+  }
 
   module _ {answer : Answer A} {exit : L} (c : Keeps p entry answer exit) where
     pub was-refused : {k : ℕ} → answer ≡ refused k → (firstFault (p entry .faults) ≡ refused k) × (exit ≡ entry)

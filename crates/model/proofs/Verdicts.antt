@@ -76,10 +76,6 @@ pub number-accepted : {v : Verdict} → v ≡ accepted tt → numberOf v ≡ 0
 unfolding numberOf
 number-accepted e = rw e refl
 
-pub number-refused : {v : Verdict} (k : ℕ) → v ≡ refused k → numberOf v ≡ k
-unfolding numberOf
-number-refused k e = rw e refl
-
 -- and the verdict, by what the answer gives
 pub gave-accepted :
     {B : Type 0} (v : Verdict) (b c : B) → giving v b ≡ accepted c → (v ≡ accepted tt) × (b ≡ c)

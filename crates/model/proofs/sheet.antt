@@ -1,5 +1,6 @@
 pub mod Answers
 pub mod Bits
+pub mod Bytes
 pub mod Faults
 pub mod Fields
 pub mod Holds

@@ -1,3 +1,4 @@
+pub mod Asked
 pub mod Decimal
 pub mod Lines
 pub mod MarketText

@@ -11,3 +11,9 @@ pub enum Page {
     // The shortest sheet that states its market.
     Sheet,
 }
+
+// What the program's arguments ask for.
+pub enum Asked {
+    For(Page),
+    Nothing,
+}

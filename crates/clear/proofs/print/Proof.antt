@@ -40,5 +40,5 @@ print-spec =
     slice-aggregate-print-page
     (λ c. search needs) (λ c κs. search needs) (λ c. search needs)
     slice-aggregate-write-all-2
-    (λ c κs. search needs) (λ c. search needs) (λ c κs. search needs) (λ c. search needs) (λ c. search needs)
-    (λ c. search needs))
+    (λ c κs. search needs) (λ c. search needs) (λ c κs. search needs) (λ c. search needs) (λ c κs. search needs)
+    (λ c. search needs) (λ c. search needs) (λ c. search needs) (λ c. search needs))

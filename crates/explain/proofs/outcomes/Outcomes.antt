@@ -1,21 +1,17 @@
--- Laws of guests' records, and of a row of them.
-use Prim.Native.Nat.{ℕ, zero, suc, _+_, _≤_, _<_}
-use mathlib.Core.List.{List}
+-- Laws of guests' records.
+use Prim.Native.Nat.{ℕ, _≤_, _<_}
 use mathlib.Core.Logic.{⊎-elim}
-use mathlib.Core.Path.{_≡_, refl, sym, ap, _∙_}
-use native.Mathlib.Numerals.{add-one}
+use mathlib.Core.Path.{_≡_, refl, sym, ap}
 use native.Mathlib.Omega.{arith}
-use lib.ListN.{getD, length, set, length-set}
-use lib.Seq.{getD-set-same, getD-set-other}
+use lib.ListN.{getD}
 use Rattle.model.specs.Limits.{maxGuests}
 use Rattle.model.specs.Counting.{_=?_, only}
 use Rattle.model.specs.Numbers.{stationOf, chargeOf, lossOf}
 use Rattle.model.specs.declared.money.Mills.{Mills}
 use Rattle.model.specs.declared.reason.Reason.the-variants.{NoBid, NotOpen, BelowCut, Outbid}
 use Rattle.model.specs.declared.reason.GuestResult.the-variants.{Win, Loss}
-use Rattle.model.specs.declared.reason.GuestOutcome.{GuestOutcome}
-use Rattle.model.proofs.Tests.{is-eq, not-eq, eq-or-ne, is-lt, not-lt, lt-or-le}
-use Rattle.explain.specs.Outcomes.{reasonOf, recordOf, mills, recordAt, writtenTo}
+use Rattle.model.proofs.Tests.{is-eq, not-eq, eq-or-ne, is-lt, not-lt}
+use Rattle.explain.specs.Outcomes.{reasonOf, recordOf, mills, recordAt}
 use Rattle.explain.specs.declared.explained.Telling.{Telling}
 
 -- ---- the reason of a code
@@ -93,35 +89,3 @@ module _ (e : Telling) (i : ℕ) where
   pub record-past : {charge : Mills} → maxGuests ≤ i → charge .0 ≡ 0 → recordOf 0 charge 0 ≡ recordAt e i
   unfolding recordAt only
   record-past l q = rw (not-lt i maxGuests l) (ap (λ (x : ℕ). recordOf 0 (mills x) 0) q)
-
--- ---- a row of records
-
-abbrev pub nobody : GuestOutcome
-nobody = record { result = Win 0 (mills 0) }
-
-abbrev pub recordIn : List GuestOutcome → ℕ → GuestOutcome
-recordIn l i = getD l i nobody
-
-module _ (e : Telling) (l : List GuestOutcome) where
-  pub written-none : l ≡ writtenTo e 0 l
-  unfolding writtenTo
-  written-none = refl
-
-  pub written-more : (i : ℕ) (r : GuestOutcome) → r ≡ recordAt e i → set (writtenTo e i l) i r ≡ writtenTo e (i + 1) l
-  unfolding writtenTo
-  written-more i r q = ap (λ b. set (writtenTo e i l) i b) q ∙ ap (λ n. writtenTo e n l) (sym (add-one i))
-
-  pub written-length : (n : ℕ) → length (writtenTo e n l) ≡ length l
-  unfolding writtenTo
-  written-length zero = refl
-  written-length (suc n) = length-set (writtenTo e n l) n _ ∙ written-length n
-
-  pub written-at : (n k : ℕ) → n ≤ length l → k < n → recordIn (writtenTo e n l) k ≡ recordAt e k
-  unfolding writtenTo
-  written-at zero k b h = absurd (omega arith)
-  written-at (suc n) k b h = ⊎-elim
-      (λ (q : k < n). getD-set-other (writtenTo e n l) n k _ _ (omega arith) ∙ written-at n k (omega arith) q)
-      (λ (q : n ≤ k).
-      let z : k ≡ n = omega arith in
-      rw z (getD-set-same (writtenTo e n l) n _ _ (omega (arith, written-length n))))
-      (lt-or-le k n)

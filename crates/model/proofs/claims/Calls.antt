@@ -3,25 +3,29 @@ use Prim.Native.Nat.{ℕ, suc, _+_, _*_, _<_}
 use mathlib.Core.Path.{_≡_, refl, sym, ap, ap₂, _∙_}
 use native.Mathlib.Omega.{arith}
 use lib.IntN.{subℕ}
-use lib.ListN.{getD, length}
+use lib.ListN.{getD, length, replicate, length-replicate}
 use Rattle.model.specs.Counting.{_=?_, only, sum}
 use Rattle.model.specs.contracts.EntryPoints.{clearing}
-use Rattle.model.proofs.Promises.{was-accepted}
+use Rattle.model.specs.Numbers.{answerOfClearing}
+use Rattle.model.proofs.Promises.{keeps-accepted, was-accepted}
 use Rattle.model.specs.market.Market.{Tables, bidAt, marketBy, market, Screened, screen}
 use Rattle.model.specs.market.Mechanism.{Decision, at, charged, obtained, served, sold, paid, margin, truthful}
 use Rattle.model.specs.market.Efficient.{efficient}
-use Rattle.model.specs.market.Outcome.{Outcome, outcomeBy, screened, decision, outcome, efficientDecision}
-use Rattle.model.specs.market.Outcome.{efficientOutcome}
+use Rattle.model.specs.market.Outcome.{Results, Outcome, results, outcomeBy, screened, decision, outcome}
+use Rattle.model.specs.market.Outcome.{efficientDecision, efficientOutcome}
 use Rattle.model.specs.market.Faults.{Accepted}
 use Rattle.model.specs.declared.rule.Rule.{Rule}
+use Rattle.model.specs.declared.answers.Clearing.the-variants.{Cleared}
 use Rattle.model.specs.market.Rules.{position, ruleOf}
 use Rattle.model.specs.market.Gains.{guestGain, stationGain}
+use Rattle.model.specs.claims.Meaning.{RightLengths}
 use Rattle.model.specs.claims.Truth.{StationTruthfulBy, ClearsWithin}
 use Rattle.model.proofs.Counting.{sum-cong, count-cong, getD-list}
-use Rattle.model.proofs.market.Acceptance.{accepted-iff-within-limits}
+use Rattle.model.proofs.market.Acceptance.{accepted-iff-within-limits, call-accepted-iff-within-limits}
 use Rattle.model.proofs.claims.Truth.{guest-truthful-under, station-truthful-under, clearing-limits}
 use Rattle.model.proofs.claims.Efficient.{efficient-station-truthful-under, efficient-limits}
-use Rattle.model.specs.claims.Calls.{ClearedCallBy, guestGainIn, stationGainIn, GuestTruthfulCalls}
+use Rattle.model.specs.claims.Calls.{ClearedCallBy, ClearedCallExists, guestGainIn, stationGainIn}
+use Rattle.model.specs.claims.Calls.{GuestTruthfulCalls}
 use Rattle.model.specs.claims.Calls.{StationTruthfulCallsBy, StationTruthfulCalls, EfficientStationTruthfulCalls}
 use Rattle.model.specs.claims.Calls.{CallWithin, CallLimits, EfficientCallLimits}
 use Rattle.model.proofs.contracts.Accepts.{accepted-call}
@@ -147,3 +151,35 @@ unfolding efficientDecision
 efficient-call-limits rule t k =
     limits efficient by-efficient rule t k
     (efficient-limits (ruleOf rule) t (is-accepted efficient by-efficient rule t k))
+
+-- ---- there are such calls
+
+-- result lists as long as they have to be
+module _ (t : Tables) where
+  room : Results
+  room = results (replicate (length (t .amounts)) 0) (replicate (length (t .amounts)) 0)
+      (replicate (length (t .asks)) 0) (replicate (length (t .asks)) 0)
+
+  room-fits : RightLengths t room
+  unfolding room
+  room-fits = record {
+    stations-long = length-replicate {A = ℕ} (length (t .amounts)) 0;
+    charges-long = length-replicate {A = ℕ} (length (t .amounts)) 0;
+    sold-long = length-replicate {A = ℕ} (length (t .asks)) 0;
+    paid-long = length-replicate {A = ℕ} (length (t .asks)) 0;
+  }
+
+pub cleared-call-exists : ClearedCallExists
+unfolding clearing answerOfClearing
+cleared-call-exists made rule t r a =
+    let o = made (ruleOf rule) t in
+    record {
+      entry = room t;
+      answer = Cleared (record { 0 = o .cut }) (record { 0 = o .margin });
+      cut = o .cut;
+      margin = o .margin;
+      exit = o .results;
+      call = keeps-accepted (call-accepted-iff-within-limits rule t (room t) .1
+          (record { rule-known = r; market-accepted = a; lists-fit = room-fits t })) refl refl;
+      cleared = refl;
+    }

@@ -33,11 +33,11 @@ records-paid (x ∷ xs) [] e = absurd (omega arith)
 records-paid (x ∷ xs) (y ∷ ys) e = ap (λ l. y ∷ l) (records-paid xs ys (omega arith))
 
 -- a lent book with a plain book's numbers
-listLengths : PlainBook → Book
-listLengths b = book (b .guests) (records (b .sold) (b .paid)) (b .house) (b .last)
+lentBook : PlainBook → Book
+lentBook b = book (b .guests) (records (b .sold) (b .paid)) (b .house) (b .last)
 
-plain-lent : (b : PlainBook) → length (b .sold) ≡ length (b .paid) → plain (listLengths b) ≡ b
-unfolding plain listLengths
+plain-lent : (b : PlainBook) → length (b .sold) ≡ length (b .paid) → plain (lentBook b) ≡ b
+unfolding plain lentBook
 plain-lent b e =
     λ x. record {
       guests = b .guests;
@@ -68,7 +68,7 @@ even-after b p e = by-verdict b p e (answer b p)
 calls-from : (B : Book) (ps : List Posting) → (vs : List Verdict) × (C : Book) × PostedInTurn B ps vs C
 calls-from B [] = ([], B, none)
 calls-from B (p ∷ ps) =
-    let (vs, C, c) = calls-from (listLengths (after (plain B) p)) ps in (
+    let (vs, C, c) = calls-from (lentBook (after (plain B) p)) ps in (
       answer (plain B) p ∷ vs,
       C,
       call (post-is-plain-step _ _ _ _ .1

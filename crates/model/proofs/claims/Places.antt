@@ -1,21 +1,24 @@
 -- Request 3, proved: what an accepted call left are the placed bids, and each is within its guest's price.
 use Prim.Native.Nat.{ℕ, _+_, _*_, _≤_, _<_}
 use mathlib.Core.List.{List}
-use mathlib.Core.Path.{_≡_, sym, ap, _∙_}
+use mathlib.Core.Path.{_≡_, refl, sym, ap, _∙_}
 use native.Mathlib.Nat.{mul-le-mul-left, div-add-mod', div-lt-iff-lt-mul, mod-lt, le-trans}
 use native.Mathlib.Omega.{arith}
 use lib.ListN.{getD, length, replicate, length-replicate, getD-replicate}
 use Rattle.model.specs.Limits.{maxPrice}
+use Rattle.model.specs.Numbers.{answerOfVerdict}
 use Rattle.model.specs.Verdicts.{accepted}
 use Rattle.model.specs.market.Market.{Tables, tables, bidAt}
 use Rattle.model.specs.market.Faults.{Accepted}
 use Rattle.model.specs.places.Bids.{squaredDistance, bidBetween, Places, guestsPlaced, stationsPlaced}
 use Rattle.model.specs.places.Bids.{placedBid, placedBids}
 use Rattle.model.specs.contracts.EntryPoints.{placing}
-use Rattle.model.specs.claims.Places.{NearerNeverLowers, PlacesWithinLimits, Placed, PlacedBidsAreRead}
+use Rattle.model.specs.claims.Places.{NearerNeverLowers, PlacesWithinLimits, Placed, PlacedExists}
+use Rattle.model.specs.claims.Places.{PlacedBidsAreRead}
 use Rattle.model.specs.claims.Places.{PlacedWithinPrice, PlacedNearerNeverLowers, withoutBids}
 use Rattle.model.specs.claims.Places.{PlacedMarketAccepted}
-use Rattle.model.proofs.Promises.{was-accepted}
+use Rattle.model.specs.declared.answers.Verdict.the-variants as verdicts
+use Rattle.model.proofs.Promises.{keeps-accepted, was-accepted}
 use Rattle.model.proofs.market.Acceptance.{accepted-iff-within-limits}
 use Rattle.model.proofs.sheet.Joined.{joined-length, getD-joined}
 use Rattle.model.proofs.places.Acceptance.{placing-accepted-iff-within-limits}
@@ -88,6 +91,16 @@ module _ (p : Places) (bids : List ℕ) (c : Placed p bids) where
       let inside : k < guestsPlaced p * stationsPlaced p = omega (arith, bids-long) in
       let i = div-lt-iff-lt-mul some .1 inside in
       rw (div-add-mod' k (stationsPlaced p)) at (le-trans (within-price _ _ i (mod-lt k some)) (limits .price-most _ i))
+
+-- ---- there is such a call
+
+pub placed-exists : PlacedExists
+unfolding placing answerOfVerdict
+placed-exists p w =
+    let room : List ℕ = replicate (guestsPlaced p * stationsPlaced p) 0 in
+    let v = placing-accepted-iff-within-limits p (length room) .1
+    (rw (length-replicate {A = ℕ} (guestsPlaced p * stationsPlaced p) 0) w) in
+    record { entry = room; answer = verdicts.Accepted; called = keeps-accepted v refl refl; accepts = refl }
 
 -- ---- the statements
 

@@ -1,39 +1,32 @@
--- Request 7, proved: of tables, and of calls of `explain` and `clear`.
+-- Request 7, proved: of tables, and of calls of the exported `explain` and of `clear`.
 use Prim.Native.Nat.{ℕ, zero, suc, _+_, _*_, _≤_, _<_}
-use mathlib.Core.Bool.{Bool, true, false, not}
-use mathlib.Core.List.{List, [], _∷_}
+use mathlib.Core.List.{List}
 use mathlib.Core.Logic.{_↔_, ⊎-elim}
 use mathlib.Core.Path.{_≡_, refl, sym, ap, subst, _∙_}
 use native.Mathlib.Omega.{arith}
-use lib.ListN.{getD, length, length-map, List·getD-map}
-use lib.Seq.{ext-getD}
-use Rattle.model.specs.Counting.{_=?_, greatest}
-use Rattle.model.specs.Numbers.{codeOf, stationOf, chargeOf, lossOf}
-use Rattle.model.specs.Verdicts.{Row, _gives_, accepted, firstFault, numberOf}
+use lib.ListN.{getD, length, length-replicate, replicate}
+use Rattle.model.specs.Counting.{greatest}
+use Rattle.model.specs.Verdicts.{accepted, firstFault}
 use Rattle.model.specs.market.Market.{Tables, marketBy, market, screen}
 use Rattle.model.specs.market.Mechanism.{at, charge, charged}
 use Rattle.model.specs.market.Outcome.{outcomeBy, screened, decision, outcome}
-use Rattle.model.specs.market.Faults.{Accepted, unknownRule, verdict, marketFaults, counts, lengths, values}
+use Rattle.model.specs.market.Faults.{Accepted, unknownRule, verdict, marketFaults, counts, lengths}
 use Rattle.model.specs.market.Faults.{explainedLengths, explainedFaults, explainingFaults}
-use Rattle.model.specs.market.Reasons.{code, codes, highestCode, Told, told, loss, guestOutcomes, shown}
+use Rattle.model.specs.market.Reasons.{code, codes, highestCode, tellings, outcomeLengths, shownAs, loss}
+use Rattle.model.specs.market.Reasons.{Shown, guestOutcomes}
 use Rattle.model.specs.market.Rules.{ruleOf}
 use Rattle.model.specs.claims.Calls.{ClearedCall}
-use Rattle.model.specs.claims.Reasons.{CodeTells, CodesTellFacts, OutcomesTellWinsAndLosses, ToldDetermines}
-use Rattle.model.specs.claims.Reasons.{ExplainingWithinLimits, ExplainingAcceptedIffWithinLimits, ExplainedCall}
-use Rattle.model.specs.claims.Reasons.{codeIn, outcomeIn, CodesTellFactsCalls, ExplainTellsClear, OutcomeTells}
-use Rattle.model.specs.claims.Reasons.{outcomeLengths, ToldCallTells}
-use Rattle.model.specs.declared.money.Mills.{Mills}
+use Rattle.model.specs.claims.Reasons.{CodeTells, CodesTellFacts, OutcomeTells, OutcomesTellWinsAndLosses}
+use Rattle.model.specs.claims.Reasons.{ExplainingWithinLimits, ExplainingAcceptedIffWithinLimits}
+use Rattle.model.specs.claims.Reasons.{ExplainedIffWithinLimits, ExplainedCall, ExplainedCallExists, codeIn}
+use Rattle.model.specs.claims.Reasons.{CodesTellFactsCalls, OutcomesTellWinsAndLossesCalls, ExplainTellsClear}
+use Rattle.model.specs.contracts.EntryPoints.{clearing, explaining}
 use Rattle.model.specs.declared.rule.Rule.{Rule}
-use Rattle.model.specs.declared.reason.Reason.{Reason}
-use Rattle.model.specs.declared.reason.Reason.the-variants.{NoBid, NotOpen, BelowCut, Outbid}
-use Rattle.model.specs.declared.reason.GuestResult.{GuestResult}
-use Rattle.model.specs.declared.reason.GuestResult.the-variants.{Win, Loss}
-use Rattle.model.specs.declared.reason.GuestOutcome.{GuestOutcome}
 use Rattle.model.proofs.Tests.{or-no, neither, lt-or-le}
 use Rattle.model.proofs.Counting.{any-no, none-any, greatest-cong, getD-list}
-use Rattle.model.proofs.Promises.{was-accepted}
-use Rattle.model.proofs.Verdicts.{no-fault, fault-free, fault-none, updated-accepted}
-use Rattle.model.specs.contracts.EntryPoints.{clearing, explaining}
+use Rattle.model.proofs.Promises.{keeps-zero, was-accepted}
+use Rattle.model.proofs.Verdicts.{no-fault, fault-free, number-accepted}
+use Rattle.model.proofs.claims.Promises.{zero-is-accepted, faults-numbered-from-one}
 use Rattle.model.proofs.market.Acceptance.{equal, not-unequal, known, is-known, accepted-iff-within-limits}
 use Rattle.model.proofs.market.Reasons.{code-tells, loss-most, loss-is, lost-unassigned, highest-least}
 use Rattle.model.proofs.sheet.Joined.{getD-joined}
@@ -96,119 +89,44 @@ outcomes-tell-wins-and-losses rule t a i li =
           );
     }
 
--- ---- the numbers determine the records
-
-code-least : (r : Reason) → 1 ≤ codeOf r
-code-least NoBid = omega arith
-code-least NotOpen = omega arith
-code-least BelowCut = omega arith
-code-least Outbid = omega arith
-
-same-reason : (r s : Reason) → codeOf r ≡ codeOf s → r ≡ s
-same-reason NoBid NoBid e = refl
-same-reason NoBid NotOpen e = absurd (omega arith)
-same-reason NoBid BelowCut e = absurd (omega arith)
-same-reason NoBid Outbid e = absurd (omega arith)
-same-reason NotOpen NoBid e = absurd (omega arith)
-same-reason NotOpen NotOpen e = refl
-same-reason NotOpen BelowCut e = absurd (omega arith)
-same-reason NotOpen Outbid e = absurd (omega arith)
-same-reason BelowCut NoBid e = absurd (omega arith)
-same-reason BelowCut NotOpen e = absurd (omega arith)
-same-reason BelowCut BelowCut e = refl
-same-reason BelowCut Outbid e = absurd (omega arith)
-same-reason Outbid NoBid e = absurd (omega arith)
-same-reason Outbid NotOpen e = absurd (omega arith)
-same-reason Outbid BelowCut e = absurd (omega arith)
-same-reason Outbid Outbid e = refl
-
-same-win : {s s′ : ℕ} {c c′ : Mills} → s ≡ s′ → c .0 ≡ c′ .0 → Win s c ≡ Win s′ c′
-same-win p q = λ x. Win (p x) (record { 0 = q x })
-
-same-result :
-    (o p : GuestResult) → stationOf o ≡ stationOf p → chargeOf o ≡ chargeOf p → lossOf o ≡ lossOf p → o ≡ p
-unfolding stationOf chargeOf lossOf
-same-result (Win s c) (Win s′ c′) x y z = same-win x y
-same-result (Win s c) (Loss r) x y z = absurd (omega (arith, code-least r))
-same-result (Loss r) (Win s c) x y z = absurd (omega (arith, code-least r))
-same-result (Loss r) (Loss r′) x y z = ap Loss (same-reason r r′ z)
-
-abbrev nobody : GuestOutcome
-nobody = record { result = Win 0 (record { 0 = 0 }) }
-
-module _ (l : List GuestOutcome) (i : ℕ) where
-  pub station-told : getD ((told l) .stations) i 0 ≡ stationOf (getD l i nobody .result)
-  unfolding told stationOf
-  station-told = List·getD-map (λ (o : GuestOutcome). stationOf (o .result)) l i nobody
-
-  pub charge-told : getD ((told l) .charges) i 0 ≡ chargeOf (getD l i nobody .result)
-  unfolding told chargeOf
-  charge-told = List·getD-map (λ (o : GuestOutcome). chargeOf (o .result)) l i nobody
-
-  pub loss-told : getD ((told l) .losses) i 0 ≡ lossOf (getD l i nobody .result)
-  unfolding told lossOf
-  loss-told = List·getD-map (λ (o : GuestOutcome). lossOf (o .result)) l i nobody
-
-pub stations-long : (l : List GuestOutcome) → length ((told l) .stations) ≡ length l
-unfolding told
-stations-long l = length-map l _
-
-pub charges-long : (l : List GuestOutcome) → length ((told l) .charges) ≡ length l
-unfolding told
-charges-long l = length-map l _
-
-pub losses-long : (l : List GuestOutcome) → length ((told l) .losses) ≡ length l
-unfolding told
-losses-long l = length-map l _
-
-pub told-determines : ToldDetermines
-told-determines l k e =
-    ext-getD nobody l k (sym (stations-long l) ∙ ap (λ o. length (o .stations)) e ∙ stations-long k)
-    (λ i _. ap (λ (r : GuestResult). record { result = r }) (same-result _ _
-    (sym (station-told l i) ∙ ap (λ o. getD (o .stations) i 0) e ∙ station-told k i)
-    (sym (charge-told l i) ∙ ap (λ o. getD (o .charges) i 0) e ∙ charge-told k i)
-    (sym (loss-told l i) ∙ ap (λ o. getD (o .losses) i 0) e ∙ loss-told k i)))
-
 -- ---- acceptance
 
 pub explained-within :
-    (t : Tables) (codes outcomes : ℕ) → firstFault (explainedFaults t codes (outcomes ∷ [])) ≡ accepted tt
-    → Accepted t × (codes ≡ length (t .amounts) * length (t .asks)) × (outcomes ≡ length (t .amounts))
+    (t : Tables) (codes : ℕ) (outcomes : List ℕ) → firstFault (explainedFaults t codes outcomes) ≡ accepted tt
+    → Accepted t × (codes ≡ length (t .amounts) * length (t .asks))
+    × ((k : ℕ) → k < length outcomes → getD outcomes k 0 ≡ length (t .amounts))
 unfolding verdict marketFaults explainedFaults counts lengths explainedLengths
 explained-within t codes outcomes e =
     let (c, e1) = no-fault _ _ _ e in
     let (l, e2) = no-fault _ _ _ e1 in
     let (k, e3) = no-fault _ _ _ e2 in
-    let (table, rows) = or-no _ _ k in (
+    let (table, lists) = or-no _ _ k in (
       fault-free _ _ c (fault-free _ _ l e3),
       equal _ _ table,
-      equal _ _ (any-no (outcomes ∷ []) _ rows 0 (omega arith)),
+      λ k lk. equal _ _ (any-no outcomes _ lists k lk),
     )
 
 pub explaining-within :
-    (rule : ℕ) (t : Tables) (codes outcomes : ℕ)
-    → firstFault (explainingFaults rule t codes (outcomes ∷ [])) ≡ accepted tt
+    (rule : ℕ) (t : Tables) (codes : ℕ) (outcomes : List ℕ)
+    → firstFault (explainingFaults rule t codes outcomes) ≡ accepted tt
     → ExplainingWithinLimits rule t codes outcomes
 unfolding explainingFaults unknownRule
 explaining-within rule t codes outcomes e =
     let (n, e1) = no-fault _ _ _ e in
-    let (market, table, rows) = explained-within t codes outcomes e1 in
-    record { rule-known = known rule n; market-accepted = market; codes-long = table; outcomes-long = rows }
+    let (market, table, lists) = explained-within t codes outcomes e1 in
+    record { rule-known = known rule n; market-accepted = market; codes-long = table; outcomes-long = lists }
 
 explaining-accept :
-    (rule : ℕ) (t : Tables) (codes outcomes : ℕ) → ExplainingWithinLimits rule t codes outcomes
-    → firstFault (explainingFaults rule t codes (outcomes ∷ [])) ≡ accepted tt
+    (rule : ℕ) (t : Tables) (codes : ℕ) (outcomes : List ℕ) → ExplainingWithinLimits rule t codes outcomes
+    → firstFault (explainingFaults rule t codes outcomes) ≡ accepted tt
 unfolding verdict marketFaults explainingFaults explainedFaults unknownRule counts lengths explainedLengths
 explaining-accept rule t codes outcomes w =
     let (c, e1) = no-fault _ _ _ (w .market-accepted) in
     let (l, e2) = no-fault _ _ _ e1 in
     fault-free _ _ (is-known rule (w .rule-known)) (fault-free _ _ c (fault-free _ _ l (fault-free _ _
-    (neither (not-unequal _ _ (w .codes-long)) (none-any (outcomes ∷ []) _ (λ k lk. only-row k lk)))
+    (neither (not-unequal _ _ (w .codes-long))
+    (none-any outcomes _ (λ k lk. not-unequal _ _ (w .outcomes-long k lk))))
     e2)))
-  where
-    only-row : (k : ℕ) → k < 1 → not (getD (outcomes ∷ []) k 0 =? length (t .amounts)) ≡ false
-    only-row zero lk = not-unequal _ _ (w .outcomes-long)
-    only-row (suc k) lk = absurd (omega arith)
 
 pub explaining-accepted-iff-within-limits : ExplainingAcceptedIffWithinLimits
 explaining-accepted-iff-within-limits rule t codes outcomes =
@@ -216,64 +134,76 @@ explaining-accepted-iff-within-limits rule t codes outcomes =
 
 -- ---- over calls
 
+pub explained-iff-within-limits : ExplainedIffWithinLimits
+unfolding explaining
+explained-iff-within-limits rule t entry exit number c = (
+  λ z. explaining-within rule t _ _ (found z),
+  λ w. c .number-is ∙ number-accepted (explaining-accept rule t _ _ w),
+)
+  where
+    found : number ≡ 0 → firstFault (explaining rule t entry .faults) ≡ accepted tt
+    found z =
+        zero-is-accepted Unit Shown (explaining rule t) entry exit tt tt
+        (faults-numbered-from-one .of-explaining rule t entry) (rw z at c) .0
+
+-- tables as long as they have to be
+module _ (t : Tables) where
+  room : Shown
+  room =
+      let n = length (t .amounts) in
+      shownAs (replicate (n * length (t .asks)) 0) (tellings (replicate n 0) (replicate n 0) (replicate n 0))
+
+  room-long : (k : ℕ) → k < 3 → getD (outcomeLengths (room .outcomes)) k 0 ≡ length (t .amounts)
+  unfolding room
+  room-long zero l = length-replicate {A = ℕ} (length (t .amounts)) 0
+  room-long (suc zero) l = length-replicate {A = ℕ} (length (t .amounts)) 0
+  room-long (suc (suc zero)) l = length-replicate {A = ℕ} (length (t .amounts)) 0
+  room-long (suc (suc (suc k))) l = absurd (omega arith)
+
+pub explained-call-exists : ExplainedCallExists
+unfolding explaining room
+explained-call-exists rule t r a = record {
+  entry = room t;
+  exit = shownAs (codes (ruleOf rule) t) (guestOutcomes (ruleOf rule) t);
+  call = keeps-zero tt (explaining-accept rule t _ _ (record {
+    rule-known = r;
+    market-accepted = a;
+    codes-long = length-replicate {A = ℕ} (length (t .amounts) * length (t .asks)) 0;
+    outcomes-long = room-long t;
+  }));
+}
+
 module _ (rule : ℕ) (t : Tables) (e : ExplainedCall rule t) where
-  here : Accepted t
+  accepted-here :
+      (firstFault (explaining rule t (e .entry) .faults) ≡ accepted tt)
+      × (e .exit ≡ explaining rule t (e .entry) .leaves)
+  accepted-here =
+      let (v, left, _) = zero-is-accepted Unit Shown (explaining rule t) (e .entry) (e .exit) tt tt
+      (faults-numbered-from-one .of-explaining rule t (e .entry)) (e .call) in
+      (v, left)
+
+  market-here : Accepted t
   unfolding explaining
-  here = explaining-within rule t _ _ (was-accepted (e .call) (e .explained) .0) .market-accepted
-
-  codes-here : e .exit .codes ≡ codes (ruleOf rule) t
-  unfolding explaining shown
-  codes-here = ap (λ s. s .codes) (was-accepted (e .call) (e .explained) .2)
-
-  outcomes-here : told (e .exit .outcomes) ≡ guestOutcomes (ruleOf rule) t
-  unfolding explaining shown
-  outcomes-here = ap (λ s. s .outcomes) (was-accepted (e .call) (e .explained) .2)
+  market-here = explaining-within rule t _ _ (accepted-here .0) .market-accepted
 
   code-here :
       (i j : ℕ) → i < length (t .amounts) → j < length (t .asks)
       → codeIn t (e .exit) i j ≡ code (market (ruleOf rule) t) i j
-  unfolding codeIn
-  code-here i j li lj = ap (λ l. getD l (i * length (t .asks) + j) 0) codes-here ∙ code-at (ruleOf rule) t i j li lj
+  unfolding explaining codeIn
+  code-here i j li lj = ap (λ s. codeIn t s i j) (accepted-here .1) ∙ code-at (ruleOf rule) t i j li lj
+
+  outcomes-here : e .exit .outcomes ≡ guestOutcomes (ruleOf rule) t
+  unfolding explaining
+  outcomes-here = ap (λ s. s .outcomes) (accepted-here .1)
 
 pub codes-tell-facts-calls : CodesTellFactsCalls
 codes-tell-facts-calls rule t e i j li lj =
     subst (CodeTells (ruleOf rule) t i j) (sym (code-here rule t e i j li lj)) (code-tells (ruleOf rule) t i j)
 
--- an outcome beside a clearing's station S and charge C, with the loss L: where there is no station, the greatest
--- code G
-module _ {S C L G : ℕ} (lost : S ≡ 0 → (L ≡ G) × (1 ≤ L)) where
-  wins-as :
-      (o : GuestResult) → S ≡ stationOf o → C ≡ chargeOf o → L ≡ lossOf o → (station : ℕ) (charged : Mills)
-      → (o ≡ Win station charged) ↔ ((S ≡ station) × (C ≡ charged .0) × (1 ≤ station))
-  unfolding stationOf chargeOf lossOf
-  wins-as (Win s c) x y z station charged = (
-    λ e. (
-      x ∙ ap stationOf e,
-      y ∙ ap chargeOf e,
-      ⊎-elim
-          (λ (l : 0 < S). omega (arith, x ∙ ap stationOf e))
-          (λ (l : S ≤ 0). absurd (omega (arith, lost (omega arith) .1)))
-          (lt-or-le 0 S),
-    ),
-    λ (p, q, _). same-win (sym x ∙ p) (sym y ∙ q),
-  )
-  wins-as (Loss r) x y z station charged = (
-    λ e. absurd (omega (arith, code-least r, ap lossOf e)),
-    λ (p, _, l). absurd (omega arith),
-  )
-
-  loses-as :
-      (o : GuestResult) → S ≡ stationOf o → C ≡ chargeOf o → L ≡ lossOf o → (reason : Reason)
-      → (o ≡ Loss reason) ↔ ((S ≡ 0) × (codeOf reason ≡ G))
-  unfolding stationOf chargeOf lossOf
-  loses-as (Win s c) x y z reason = (
-    λ e. absurd (omega (arith, code-least reason, ap lossOf e)),
-    λ (p, _). absurd (omega (arith, lost p .1)),
-  )
-  loses-as (Loss r) x y z reason = (
-    λ e. (x, sym (ap lossOf e) ∙ sym z ∙ lost x .0),
-    λ (_, q). ap Loss (same-reason r reason (sym z ∙ lost x .0 ∙ sym q)),
-  )
+pub outcomes-tell-wins-and-losses-calls : OutcomesTellWinsAndLossesCalls
+outcomes-tell-wins-and-losses-calls rule t e i li =
+    subst (λ o. OutcomeTells (ruleOf rule) t o i) (sym (outcomes-here rule t e))
+    (outcomes-tell-wins-and-losses (ruleOf rule) t (market-here rule t e) i li)
 
 module _ (rule : ℕ) (t : Tables) (e : ExplainedCall rule t) (k : ClearedCall rule t) (i : ℕ)
     (li : i < length (t .amounts)) where
@@ -281,91 +211,42 @@ module _ (rule : ℕ) (t : Tables) (e : ExplainedCall rule t) (k : ClearedCall r
   unfolding clearing
   left = was-accepted (k .call) (k .cleared) .2
 
-  station-same : getD (k .exit .stations) i 0 ≡ stationOf (outcomeIn (e .exit) i)
+  station-same : getD (e .exit .outcomes .stations) i 0 ≡ getD (k .exit .stations) i 0
   unfolding guestOutcomes
   station-same =
-      ap (λ r. getD (r .stations) i 0) left ∙ ap (λ o. getD (o .stations) i 0) (sym (outcomes-here rule t e))
-      ∙ station-told (e .exit .outcomes) i
+      ap (λ o. getD (o .stations) i 0) (outcomes-here rule t e) ∙ ap (λ r. getD (r .stations) i 0) (sym left)
 
-  charge-same : getD (k .exit .charges) i 0 ≡ chargeOf (outcomeIn (e .exit) i)
+  charge-same : getD (e .exit .outcomes .charges) i 0 ≡ getD (k .exit .charges) i 0
   unfolding guestOutcomes
   charge-same =
-      ap (λ r. getD (r .charges) i 0) left ∙ ap (λ o. getD (o .charges) i 0) (sym (outcomes-here rule t e))
-      ∙ charge-told (e .exit .outcomes) i
+      ap (λ o. getD (o .charges) i 0) (outcomes-here rule t e) ∙ ap (λ r. getD (r .charges) i 0) (sym left)
 
-  loss-same : loss (ruleOf rule) t i ≡ lossOf (outcomeIn (e .exit) i)
-  loss-same =
-      sym (loss-at (ruleOf rule) t i li) ∙ ap (λ o. getD (o .losses) i 0) (sym (outcomes-here rule t e))
-      ∙ loss-told (e .exit .outcomes) i
+  assigned-as : (decision (ruleOf rule) t) .assigned i ≡ getD (k .exit .stations) i 0
+  assigned-as =
+      sym (station-at (ruleOf rule) t i li) ∙ ap (λ o. getD (o .stations) i 0) (sym (outcomes-here rule t e))
+      ∙ station-same
 
-  assigned-as : getD (k .exit .stations) i 0 ≡ (decision (ruleOf rule) t) .assigned i
-  unfolding guestOutcomes
-  assigned-as = ap (λ r. getD (r .stations) i 0) left ∙ station-at (ruleOf rule) t i li
+  tells : OutcomeTells (ruleOf rule) t (e .exit .outcomes) i
+  tells = outcomes-tell-wins-and-losses-calls rule t e i li
 
-  lost-as :
+  loses-as :
       getD (k .exit .stations) i 0 ≡ 0
-      → (loss (ruleOf rule) t i ≡ greatest (length (t .asks)) (codeIn t (e .exit) i)) × (1 ≤ loss (ruleOf rule) t i)
+      → (getD (e .exit .outcomes .losses) i 0 ≡ greatest (length (t .asks)) (codeIn t (e .exit) i))
+      × (1 ≤ getD (e .exit .outcomes .losses) i 0) × (getD (e .exit .outcomes .losses) i 0 ≤ 4)
   unfolding highestCode
-  lost-as z =
-      let u = sym assigned-as ∙ z in
-      let m = accepted-iff-within-limits t .0 (here rule t e) .shape .stations-least in (
-        loss-is (ruleOf rule) t i u
-            ∙ greatest-cong (length (t .asks)) _ _ (λ j lj. sym (code-here rule t e i j li lj)),
-        rw (loss-is (ruleOf rule) t i u) (highest-least (ruleOf rule) t i m u),
-      )
+  loses-as z =
+      let (_, _, is, least, most) = tells .lost (assigned-as ∙ z) in
+      (is ∙ greatest-cong (length (t .asks)) _ _ (λ j lj. sym (code-here rule t e i j li lj)), least, most)
+
+  wins-as : (s : ℕ) → getD (k .exit .stations) i 0 ≡ s
+      → (getD (e .exit .outcomes .losses) i 0 ≡ 0) ↔ (1 ≤ getD (k .exit .stations) i 0)
+  wins-as zero z = (λ w. absurd (omega (arith, loses-as z .1)), λ l. absurd (omega arith))
+  wins-as (suc j) z = (λ _. omega arith, λ _. tells .won j (assigned-as ∙ z) .2)
 
 pub explain-tells-clear : ExplainTellsClear
-explain-tells-clear rule t e k i li =
-    let o = outcomeIn (e .exit) i in
-    let x = station-same rule t e k i li in
-    let y = charge-same rule t e k i li in
-    let z = loss-same rule t e k i li in
-    record {
-      wins = wins-as (lost-as rule t e k i li) o x y z;
-      loses = loses-as (lost-as rule t e k i li) o x y z;
-    }
-
--- ---- over calls of the exported `explain`: 0 is no fault's number
-
-zero-is-accepted :
-    (b : Bool) (k : ℕ) (rows : List Row) → (numberOf (firstFault rows) ≡ 0 → firstFault rows ≡ accepted tt)
-    → numberOf (firstFault ((b gives suc k) ∷ rows)) ≡ 0 → firstFault ((b gives suc k) ∷ rows) ≡ accepted tt
-unfolding firstFault numberOf
-zero-is-accepted true k rows h e = absurd (omega (arith, e))
-zero-is-accepted false k rows h e = h e
-
-told-accepted :
-    (rule : ℕ) (t : Tables) (codes : ℕ) (outcomes : List ℕ)
-    → numberOf (firstFault (explainingFaults rule t codes outcomes)) ≡ 0
-    → firstFault (explainingFaults rule t codes outcomes) ≡ accepted tt
-unfolding explainingFaults explainedFaults unknownRule counts lengths explainedLengths values
-told-accepted rule t codes outcomes e =
-    zero-is-accepted _ 17 _ (zero-is-accepted _ 1 _ (zero-is-accepted _ 4 _ (zero-is-accepted _ 9 _
-    (zero-is-accepted _ 5 _ (zero-is-accepted _ 6 _ (zero-is-accepted _ 7 _ (zero-is-accepted _ 8 _
-    (zero-is-accepted _ 14 _ (λ _. fault-none))))))))) e
-
-told-market :
-    (rule : ℕ) (t : Tables) (codes : ℕ) (outcomes : List ℕ)
-    → firstFault (explainingFaults rule t codes outcomes) ≡ accepted tt → Accepted t
-unfolding explainingFaults explainedFaults unknownRule counts lengths explainedLengths verdict marketFaults
-told-market rule t codes outcomes e =
-    let (n, e0) = no-fault _ _ _ e in
-    let (c, e1) = no-fault _ _ _ e0 in
-    let (l, e2) = no-fault _ _ _ e1 in
-    let (k, e3) = no-fault _ _ _ e2 in
-    fault-free _ _ c (fault-free _ _ l e3)
-
-pub told-call-tells : ToldCallTells
-unfolding explaining
-told-call-tells rule t e i li =
-    let v = told-accepted rule t (length (e .entry .codes)) (outcomeLengths (e .entry)) (sym (e .call .number-is)) in
-    let are = e .call .left ∙ updated-accepted _ _ v in
-    let codes-are : e .exit .codes ≡ codes (ruleOf rule) t = ap (λ s. s .codes) are in
-    let outcomes-are : e .exit .outcomes ≡ guestOutcomes (ruleOf rule) t = ap (λ s. s .outcomes) are in (
-      λ j lj. subst (λ (l : List ℕ). CodeTells (ruleOf rule) t i j (getD l (i * length (t .asks) + j) 0))
-          (sym codes-are) (codes-tell-facts (ruleOf rule) t i j li lj),
-      subst (λ (o : Told). OutcomeTells (ruleOf rule) t i (getD (o .stations) i 0) (getD (o .charges) i 0)
-          (getD (o .losses) i 0)) (sym outcomes-are)
-          (outcomes-tell-wins-and-losses (ruleOf rule) t
-          (told-market rule t (length (e .entry .codes)) (outcomeLengths (e .entry)) v) i li),
-    )
+explain-tells-clear rule t e k i li = record {
+  station-is = station-same rule t e k i li;
+  charge-is = charge-same rule t e k i li;
+  wins = wins-as rule t e k i li (getD (k .exit .stations) i 0) refl;
+  loses = loses-as rule t e k i li;
+}

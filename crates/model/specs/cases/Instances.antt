@@ -1,5 +1,5 @@
 -- One worked instance, with its numbers, of each statement of claims/Truth.antt, and the one by which guests lose the
--- first of them in efficient rounds. All under rule 1.
+-- first of them in efficient rounds, under either rule; the others under rule 1.
 use mathlib.Core.List.{[], _∷_}
 use mathlib.Core.Path.{_≡_}
 use lib.IntN.{pos, negsuc}

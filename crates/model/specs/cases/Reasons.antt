@@ -1,14 +1,17 @@
--- The codes and outcomes of Table I and of case E under rule 1, and the page of case E, byte by byte.
+-- The codes and outcomes of Table I and of case E under rule 1, and of a market under either; the page of case E, byte
+-- by byte; and the order of an explanation's faults.
 use Prim.Native.Nat.{ℕ}
-use mathlib.Core.List.{List, [], _∷_, map}
+use mathlib.Core.List.{List, [], _∷_}
 use mathlib.Core.Path.{_≡_}
-use Rattle.model.specs.cases.Cases.{tableI, caseE, pair, numbered, single, tied}
-use Rattle.model.specs.Verdicts.{accepted, refused, firstFault}
+use lib.ListN.{replicate}
+use Rattle.model.specs.Verdicts.{Verdict, accepted, refused, firstFault}
+use Rattle.model.specs.cases.Cases.{tableI, caseE, pair, numbered, single, tied, six}
+use Rattle.model.specs.market.Market.{Tables, regular}
 use Rattle.model.specs.market.Faults.{explainingFaults}
 use Rattle.model.specs.cases.Sheets.{sheetE}
 use Rattle.model.specs.market.Reasons.{codes, tellings, guestOutcomes}
 use Rattle.model.specs.text.Printed.{printed}
-use Rattle.model.specs.declared.rule.Rule.the-variants.{Median}
+use Rattle.model.specs.declared.rule.Rule.the-variants.{Median, TwoThirds}
 use Rattle.model.specs.declared.page.Page.the-variants.{Reasons}
 
 -- guest 1 wins station 1 charge 24
@@ -20,6 +23,11 @@ reasonsE =
     ∷ 103 ∷ 117 ∷ 101 ∷ 115 ∷ 116 ∷ 32 ∷ 50 ∷ 32 ∷ 108 ∷ 111 ∷ 115 ∷ 101 ∷ 115 ∷ 58 ∷ 32 ∷ 111 ∷ 117 ∷ 116 ∷ 98
     ∷ 105 ∷ 100 ∷ 10
     ∷ []
+
+-- asks 1 to 6, bids 4 and 9 at the first station and the fourth: under rule 1 the cut is 4 and the fourth is not open,
+-- under rule 2 the cut is 5 and the first bid below it
+unfoldable pub sixTwice : Tables
+sixTwice = six (4 ∷ 0 ∷ 0 ∷ 9 ∷ 0 ∷ 0 ∷ [])
 
 pub record ReasonsHold : Type 0 where
   pub codes-1 :
@@ -35,18 +43,30 @@ pub record ReasonsHold : Type 0 where
   pub codes-e : codes Median caseE ≡ 0 ∷ 1 ∷ 4 ∷ 1 ∷ []
   pub outcomes-e : guestOutcomes Median caseE ≡ tellings (1 ∷ 0 ∷ []) (24 ∷ 0 ∷ []) (0 ∷ 4 ∷ [])
   pub page-e : printed (Reasons Median) 38 sheetE ≡ reasonsE
+  pub codes-rule-1 : codes Median sixTwice ≡ 0 ∷ 1 ∷ 1 ∷ 2 ∷ 1 ∷ 1 ∷ []
+  pub outcomes-rule-1 : guestOutcomes Median sixTwice ≡ tellings (1 ∷ []) (4 ∷ []) (0 ∷ [])
+  pub codes-rule-2 : codes TwoThirds sixTwice ≡ 3 ∷ 1 ∷ 1 ∷ 0 ∷ 1 ∷ 1 ∷ []
+  pub outcomes-rule-2 : guestOutcomes TwoThirds sixTwice ≡ tellings (4 ∷ []) (5 ∷ []) (0 ∷ [])
 
--- a code table of 4 places and outcome tables of 2; each too short or too long; 18, 2 and 5 before 10, and 10 before 6
--- and 15
+-- a call under the rule of this number, with a code table of so many places and lists of so many stations, charges and
+-- losses
+unfoldable pub judged : (rule : ℕ) → Tables → (codes stations charges losses : ℕ) → Verdict
+judged rule t codes stations charges losses =
+    firstFault (explainingFaults rule t codes (stations ∷ charges ∷ losses ∷ []))
+
+-- either rule; each table too short and too long; and the order of each number and the next: 18 before 2, 2 before 5, 5
+-- before 10, 10 before 6, 6 to 9 in turn, and 15
 abbrev pub ExplainingsJudged : Type 0
 ExplainingsJudged =
-    map firstFault (
-    explainingFaults 1 caseE 4 (2 ∷ []) ∷ explainingFaults 2 caseE 4 (2 ∷ 2 ∷ 2 ∷ [])
-    ∷ explainingFaults 1 caseE 3 (2 ∷ []) ∷ explainingFaults 1 caseE 5 (2 ∷ []) ∷ explainingFaults 1 caseE 4 (1 ∷ [])
-    ∷ explainingFaults 1 caseE 4 (2 ∷ 2 ∷ 3 ∷ []) ∷ explainingFaults 3 (numbered [] [] [] []) 9 (9 ∷ [])
-    ∷ explainingFaults 1 (numbered [] [] [] []) 9 (9 ∷ []) ∷ explainingFaults 1 (pair (1 ∷ []) (8 ∷ [])) 9 (9 ∷ [])
-    ∷ explainingFaults 1 (single 1_000_001 1 1 1) 0 (1 ∷ []) ∷ explainingFaults 1 (single 1_000_001 1 1 1) 1 (1 ∷ [])
-    ∷ explainingFaults 1 (tied (9 ∷ 7 ∷ 5 ∷ 9 ∷ [])) 8 (5 ∷ [])
-    ∷ explainingFaults 1 (tied (9 ∷ 7 ∷ 5 ∷ 9 ∷ [])) 8 (4 ∷ []) ∷ [])
-    ≡ (accepted tt ∷ accepted tt ∷ refused 10 ∷ refused 10 ∷ refused 10 ∷ refused 10 ∷ refused 18 ∷ refused 2
-    ∷ refused 5 ∷ refused 10 ∷ refused 6 ∷ refused 10 ∷ refused 15 ∷ [])
+    (judged 1 caseE 4 2 2 2 ∷ judged 2 caseE 4 2 2 2 ∷ [] ≡ accepted tt ∷ accepted tt ∷ [])
+    × (judged 1 caseE 3 2 2 2 ∷ judged 1 caseE 5 2 2 2 ∷ judged 1 caseE 4 1 2 2 ∷ judged 1 caseE 4 3 2 2
+    ∷ judged 1 caseE 4 2 1 2 ∷ judged 1 caseE 4 2 3 2 ∷ judged 1 caseE 4 2 2 1 ∷ judged 1 caseE 4 2 2 3 ∷ []
+    ≡ replicate 8 (refused 10))
+    × (judged 3 (numbered [] [] [] []) 0 0 0 0 ∷ judged 1 (numbered [] (1 ∷ []) [] []) 0 0 0 0
+    ∷ judged 1 (pair (1 ∷ []) (8 ∷ [])) 9 1 1 1 ∷ judged 1 (single 1_000_001 1 1 1) 0 1 1 1
+    ∷ judged 1 (single 1_000_001 0 1 1) 1 1 1 1 ∷ judged 1 (single 1 0 0 1) 1 1 1 1
+    ∷ judged 1 (single 1 1 0 1_000_001) 1 1 1 1
+    ∷ judged 1 (regular (1 ∷ []) (1 ∷ []) (1 ∷ 1 ∷ []) (7 ∷ 7 ∷ []) (1 ∷ 1_000_001 ∷ [])) 2 2 2 2
+    ∷ judged 1 (tied (9 ∷ 7 ∷ 5 ∷ 9 ∷ [])) 8 4 4 4 ∷ []
+    ≡ refused 18 ∷ refused 2 ∷ refused 5 ∷ refused 10 ∷ refused 6 ∷ refused 7 ∷ refused 8 ∷ refused 9 ∷ refused 15
+    ∷ [])

@@ -10,6 +10,8 @@ use Rattle.model.specs.Counting.{_=?_, only, sum, count}
 use Rattle.model.specs.market.Market.{Tables, bidAt}
 use Rattle.model.specs.market.Mechanism.{at}
 use Rattle.model.specs.market.Outcome.{Results, Outcome, outcome, efficientOutcome}
+use Rattle.model.specs.market.Faults.{Accepted}
+use Rattle.model.specs.claims.Meaning.{NamesRule}
 use Rattle.model.specs.claims.Truth.{AlikeButForGuest, AlikeButForStation}
 use Rattle.model.specs.contracts.EntryPoints.{ClearsBy}
 use Rattle.model.specs.Numbers.{answerOfClearing}
@@ -33,6 +35,11 @@ ClearedCall = ClearedCallBy outcome
 
 abbrev pub EfficientCall : (rule : ℕ) → Tables → Type 0
 EfficientCall = ClearedCallBy efficientOutcome
+
+-- there is one of either for every accepted market, under either rule
+abbrev pub ClearedCallExists : Type 0
+ClearedCallExists =
+    (made : Rule → Tables → Outcome) (rule : ℕ) (t : Tables) → NamesRule rule → Accepted t → ClearedCallBy made rule t
 
 -- guest i's gain: by its worths w per kWh, worth at the station named times amount, less charge
 unfoldable pub guestGainIn : Tables → Results → (w : ℕ → ℕ) (i : ℕ) → ℤ

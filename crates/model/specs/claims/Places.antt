@@ -12,7 +12,7 @@ use Rattle.model.specs.Verdicts.{accepted, firstFault}
 use Rattle.model.specs.market.Market.{Tables, tables, bidAt}
 use Rattle.model.specs.market.Faults.{Accepted}
 use Rattle.model.specs.places.Bids.{squaredDistance, walk, bidBetween, Places, guestsPlaced, stationsPlaced}
-use Rattle.model.specs.places.Bids.{guestCell, stationCell, placedBid}
+use Rattle.model.specs.places.Bids.{guestCell, stationCell, placedBid, placedBids}
 use Rattle.model.specs.places.Faults.{placingFaults}
 use Rattle.model.specs.contracts.EntryPoints.{PlacesBids}
 use Rattle.model.specs.declared.answers.Verdict.{Verdict}
@@ -62,6 +62,10 @@ pub record Placed (p : Places) (bids : List ℕ) : Type 0 where
   pub answer : Verdict
   pub called : PlacesBids p entry answer bids
   pub accepts : answerOfVerdict answer ≡ accepted tt
+
+-- there is one for all places within the limits
+abbrev pub PlacedExists : Type 0
+PlacedExists = (p : Places) → PlacesWithinLimits p (guestsPlaced p * stationsPlaced p) → Placed p (placedBids p)
 
 -- they stand row after row, as the bids of a market do
 abbrev pub PlacedBidsAreRead : Type 0

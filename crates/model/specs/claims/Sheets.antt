@@ -37,3 +37,17 @@ abbrev pub ReadIsStated : Type 0
 ReadIsStated =
     (s : List ℕ) (entry exit : LentTables) (answer : Reading) (n m : ℕ) → Bytes s → Reads s entry answer exit
     → answerOfReading answer ≡ accepted (n, m) → (t : Tables) × States s t × ReadAs t entry answer exit
+
+-- there are such calls: one of every sheet that states a market, as that of every accepted market does
+-- (`ShortestStates`)
+pub record ReadCall (s : List ℕ) (t : Tables) : Type 0 where
+  pub bytes : Bytes s
+  pub entry : LentTables
+  pub right-sizes : RightSizes entry
+  pub answer : Reading
+  pub exit : LentTables
+  pub call : Reads s entry answer exit
+  pub read : ReadAs t entry answer exit
+
+abbrev pub ReadCallExists : Type 0
+ReadCallExists = (s : List ℕ) (t : Tables) → States s t → ReadCall s t

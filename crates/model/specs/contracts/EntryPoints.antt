@@ -1,7 +1,7 @@
 -- What each entry point promises: faults, value, what it leaves, by what it is lent at entry (`Promise`). Its contract
 -- says that it keeps that, and the contract of its export is `KeepsOut` or `RepliesOut` of the same promise.
 use Prim.Native.Nat.{ℕ}
-use mathlib.Core.List.{List, [], _∷_}
+use mathlib.Core.List.{List}
 use lib.ListN.{length}
 use Rattle.model.specs.Numbers.{answerOfReading, answerOfWriting, answerOfClearing, answerOfVerdict}
 use Rattle.model.specs.Promises.{Promise, Keeps}
@@ -9,7 +9,7 @@ use Rattle.model.specs.Verdicts.{Verdict}
 use Rattle.model.specs.market.Market.{Tables}
 use Rattle.model.specs.market.Faults.{tableFaults, clearingFaults, explainingFaults}
 use Rattle.model.specs.market.Outcome.{Results, Outcome, outcome, efficientOutcome}
-use Rattle.model.specs.market.Reasons.{codes, guestOutcomes, Explanation, Shown, shownAs, shown}
+use Rattle.model.specs.market.Reasons.{codes, outcomeLengths, guestOutcomes, Shown, shownAs}
 use Rattle.model.specs.market.Rules.{ruleOf}
 use Rattle.model.specs.sheet.Content.{guests, stations, tablesOf}
 use Rattle.model.specs.sheet.Lent.{LentTables, readingFaults, filled}
@@ -85,19 +85,14 @@ placing p entry = record { faults = placingFaults p (length entry); value = tt; 
 abbrev pub PlacesBids : (p : Places) (entry : List ℕ) (answer : Coded) (exit : List ℕ) → Type 0
 PlacesBids p entry answer exit = Keeps (placing p) entry (answerOfVerdict answer) exit
 
--- ---- `explain`, with an outcome table, or several lists for one, of these lengths: no value
+-- ---- the exported `explain`: no value
 
-unfoldable pub explaining : (rule : ℕ) (t : Tables) (outcomes : List ℕ) (entry : Shown) → Promise Unit Shown
-explaining rule t outcomes entry = record {
-  faults = explainingFaults rule t (length (entry .codes)) outcomes;
+unfoldable pub explaining : (rule : ℕ) (t : Tables) (entry : Shown) → Promise Unit Shown
+explaining rule t entry = record {
+  faults = explainingFaults rule t (length (entry .codes)) (outcomeLengths (entry .outcomes));
   value = tt;
   leaves = shownAs (codes (ruleOf rule) t) (guestOutcomes (ruleOf rule) t);
 }
-
--- of `explain`, whose outcome table is a row of records: `shown` are their numbers
-abbrev pub Explains : (rule : ℕ) (t : Tables) (entry : Explanation) (answer : Coded) (exit : Explanation) → Type 0
-Explains rule t entry answer exit =
-    Keeps (explaining rule t (length (entry .outcomes) ∷ [])) (shown entry) (answerOfVerdict answer) (shown exit)
 
 -- ---- `post`: no value; its book is held to the plain one
 

@@ -7,11 +7,10 @@ use denote.Triple.Both.{Both}
 use Rattle.model.specs.market.Market.{Tables, tables, regular}
 use Rattle.model.specs.market.Outcome.{Results, results}
 use Rattle.model.specs.book.Book.{Book, book}
-use Rattle.model.specs.market.Reasons.{Explanation, explanation, Told, tellings, Shown, shownAs}
+use Rattle.model.specs.market.Reasons.{Told, tellings, Shown, shownAs}
 use Rattle.model.specs.sheet.Lent.{LentTables, lentTables}
 use Rattle.model.specs.places.Bids.{Places, places}
 use Rattle.model.specs.declared.account.StationAccount.{StationAccount}
-use Rattle.model.specs.declared.reason.GuestOutcome.{GuestOutcome}
 
 -- a lent value, as an `ensures` names it
 abbrev pub Lent : Type 0 → Type 0
@@ -69,13 +68,7 @@ placesIn prices falls guestFirst guestSecond stationFirst stationSecond =
     placesOf (prices .entry) (falls .entry) (guestFirst .entry) (guestSecond .entry) (stationFirst .entry)
     (stationSecond .entry)
 
--- the tables of an explanation, and its outcomes as three lists
-abbrev pub explanationIn : (codes : Lent (List ℕ)) (outcomes : Lent (List GuestOutcome)) → Explanation
-explanationIn codes outcomes = explanation (now (codes .entry)) (now (outcomes .entry))
-
-abbrev pub explanationOut : (codes : Lent (List ℕ)) (outcomes : Lent (List GuestOutcome)) → Explanation
-explanationOut codes outcomes = explanation (now (codes .exit)) (now (outcomes .exit))
-
+-- an outcome table in three lists, and a code table with it
 abbrev pub tellingsIn : (stations charges losses : Lent (List ℕ)) → Told
 tellingsIn stations charges losses = tellings (now (stations .entry)) (now (charges .entry)) (now (losses .entry))
 

@@ -2,15 +2,13 @@
 -- Guests and stations count from 0 here.
 use Prim.Native.Nat.{ℕ}
 use mathlib.Core.Bool.{not}
-use mathlib.Core.List.{List, [], _∷_, map}
+use mathlib.Core.List.{List, [], _∷_}
 use lib.ListN.{length}
 use Rattle.model.specs.Counting.{_<?_, _=?_, _and_, only, greatest, list, joined}
-use Rattle.model.specs.Numbers.{stationOf, chargeOf, lossOf}
 use Rattle.model.specs.Verdicts.{Row, _gives_, firstFault, numberOf}
 use Rattle.model.specs.market.Market.{Tables, Market, market, cut, opens, screen, queue, provisional}
 use Rattle.model.specs.market.Outcome.{decision, outcome}
 use Rattle.model.specs.declared.rule.Rule.{Rule}
-use Rattle.model.specs.declared.reason.GuestOutcome.{GuestOutcome}
 
 -- for guest i and station j: no bid, station not open, bid below the cut, outbid (a candidate without a place)
 unfoldable pub reasons : Market → (i j : ℕ) → List Row
@@ -33,7 +31,7 @@ codes rule t = joined (length (t .amounts)) (λ i. list (length (t .asks)) (code
 unfoldable pub highestCode : Rule → Tables → (i : ℕ) → ℕ
 highestCode rule t i = greatest (length (t .asks)) (code (market rule t) i)
 
--- an outcome table as numbers: the station and charge of each win, the code of each loss; 0 where there is none
+-- an outcome table, as three lists: the station and charge of each win, the code of each loss; 0 where there is none
 pub record Told : Type 0 where
   pub stations : List ℕ
   pub charges : List ℕ
@@ -42,29 +40,17 @@ pub record Told : Type 0 where
 abbrev pub tellings : (stations charges losses : List ℕ) → Told
 tellings stations charges losses = record { stations = stations; charges = charges; losses = losses }
 
-unfoldable pub told : List GuestOutcome → Told
-told l =
-    tellings (map (λ (o : GuestOutcome). stationOf (o .result)) l)
-    (map (λ (o : GuestOutcome). chargeOf (o .result)) l) (map (λ (o : GuestOutcome). lossOf (o .result)) l)
+-- how long they are
+abbrev pub outcomeLengths : Told → List ℕ
+outcomeLengths o = length (o .stations) ∷ length (o .charges) ∷ length (o .losses) ∷ []
 
 -- the code table and the outcome table that a call is lent
-pub record Explanation : Type 0 where
-  pub codes : List ℕ
-  pub outcomes : List GuestOutcome
-
-abbrev pub explanation : (codes : List ℕ) (outcomes : List GuestOutcome) → Explanation
-explanation codes outcomes = record { codes = codes; outcomes = outcomes }
-
--- and both as numbers
 pub record Shown : Type 0 where
   pub codes : List ℕ
   pub outcomes : Told
 
 abbrev pub shownAs : (codes : List ℕ) (outcomes : Told) → Shown
 shownAs codes outcomes = record { codes = codes; outcomes = outcomes }
-
-unfoldable pub shown : Explanation → Shown
-shown e = shownAs (e .codes) (told (e .outcomes))
 
 -- guest i's loss: its highest code, 0 where it is assigned
 unfoldable pub loss : Rule → Tables → (i : ℕ) → ℕ

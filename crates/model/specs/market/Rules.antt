@@ -27,7 +27,8 @@ unfoldable pub isUnknown : NamedRule → Bool
 isUnknown (Known rule) = false
 isUnknown Unknown = true
 
--- by which a market is cleared. Where the number names none the call is refused (`unknownRule`), so that nothing is
+-- the rule by which a market is cleared. Where the number names none the call is refused (`unknownRule`), so that it
+-- does not matter which is given
 unfoldable pub ruleIn : NamedRule → Rule
 ruleIn (Known rule) = rule
 ruleIn Unknown = Median

@@ -74,6 +74,10 @@ ReadsExactlyWhatIsStated =
     (s : List ℕ) (t : Tables) → Bytes s
     → (readSheet s ≡ accepted t → States s t) × (States s t → readSheet s ≡ accepted t)
 
+-- a sheet that states a market is bytes
+abbrev pub StatedIsBytes : Type 0
+StatedIsBytes = (s : List ℕ) (t : Tables) → States s t → Bytes s
+
 -- two markets never share a sheet
 abbrev pub StatesOneMarket : Type 0
 StatesOneMarket = (s : List ℕ) (t u : Tables) → States s t → States s u → t ≡ u
