@@ -2,12 +2,13 @@
 // by guest, row by row; the rows' loop has no branch.
 use allocation::signed;
 use model::money::UnitPrice;
-ghost use Prim.Native.Nat.{suc, _+_, _*_, _^_, _<_, _≤_, max};
+ghost use Prim.Native.Nat.{suc, _+_, _^_, _<_, _≤_, max};
 ghost use mathlib.Core.Path.{_≡_};
 ghost use lib.ListN.{length};
 ghost use Rattle.model.specs.Limits.{maxStations, maxPrice, maxAmount};
 ghost use Rattle.model.specs.Counting.{_<?_, only, list};
 ghost use Rattle.model.specs.contracts.Lent.{regularOf, regularIn};
+ghost use Rattle.model.specs.contracts.Rows.{rowOf};
 ghost use Rattle.allocation.specs.Screens.{screenedAt};
 ghost use Rattle.allocation.specs.Totals.{maxTotal};
 ghost use Rattle.quiet.specs.Efficient.{Priced, of, Seats, criticalOf};
@@ -31,30 +32,31 @@ fn raised(bid: u32, j: u32, amount: u32, least: u32, top: u32) -> u32
 }
 
 // Raises the critical totals of all stations by a row of bids.
-fn raise_row(bids: &[u32], row: usize, m: usize, amount: u32, least: u32, criticals: &mut [u32])
-    requires { ⌜ Row (now bids) row m ⌝ }
+fn raise_row(row: &[u32], amount: u32, least: u32, criticals: &mut [u32])
+    requires { ⌜ Row (now row) ⌝ }
     requires { ⌜ (amount ≤ maxAmount) × (least < 2 ^ 31) ⌝ }
-    requires { ⌜ Room m (now criticals) ⌝ }
-    ensures { λ _. ⌜ Renewed m (raisedBy (now (bids .entry)) row amount least (now (criticals .entry)))
-        (now (criticals .entry)) (now (criticals .exit)) ⌝ }
+    requires { ⌜ Room (length (now row)) (now criticals) ⌝ }
+    ensures { λ _. ⌜ (let row = now (row .entry) in
+        Renewed (length row) (raisedBy row amount least (now (criticals .entry)))
+        (now (criticals .entry)) (now (criticals .exit))) ⌝ }
 {
     let mut j = 0;
-    while j < m {
-        criticals[j + 1] = raised(bids[row + j], j as u32, amount, least, criticals[j + 1]);
+    while j < row.len() {
+        criticals[j + 1] = raised(row[j], j as u32, amount, least, criticals[j + 1]);
         j += 1;
     }
 }
 
 // The least rank at which a bid of this row was turned away: above that of its guest's seat, by its number, or that of
 // the cut where it has none.
-fn least_rank(bids: &[u32], row: usize, cut: UnitPrice, seat: u32) -> u32
-    requires { ⌜ Row (now bids) row seat × (cut .0 ≤ maxPrice) ⌝ }
-    ensures { λ r. ⌜ (r ≡ leastRank (now (bids .entry)) row (cut .0) seat) × (r < 2 ^ 31) ⌝ }
+fn least_rank(row: &[u32], cut: UnitPrice, seat: u32) -> u32
+    requires { ⌜ Row (now row) × (cut .0 ≤ maxPrice) × (seat ≤ length (now row)) ⌝ }
+    ensures { λ r. ⌜ (r ≡ leastRank (now (row .entry)) (cut .0) seat) × (r < 2 ^ 31) ⌝ }
 {
     if seat == 0 {
         return cut.0 * BID;
     }
-    bids[row + ((seat - 1) as usize)] * BID + (65 - seat)
+    row[(seat - 1) as usize] * BID + (65 - seat)
 }
 
 // Raises them by guest i's row.
@@ -70,14 +72,14 @@ fn raise(
     requires { ⌜ Rows (now amounts) (now bids) (now chosen) m (cut .0) ⌝ }
     requires { ⌜ i < length (now amounts) ⌝ }
     requires { ⌜ Room m (now criticals) ⌝ }
-    ensures { λ _. ⌜ (let bids = now (bids .entry) in
-        Renewed m (raisedBy bids (i * m) (of (now (amounts .entry)) i)
-        (leastRank bids (i * m) (cut .0) (of (now (chosen .entry)) i)) (now (criticals .entry)))
+    ensures { λ _. ⌜ (let row = rowOf (now (bids .entry)) m (i + 1) in
+        Renewed m (raisedBy row (of (now (amounts .entry)) i)
+        (leastRank row (cut .0) (of (now (chosen .entry)) i)) (now (criticals .entry)))
         (now (criticals .entry)) (now (criticals .exit))) ⌝ }
 {
-    let row = i * m;
-    let least = least_rank(bids, row, cut, chosen[i]);
-    raise_row(bids, row, m, amounts[i] as u32, least, criticals);
+    let row = views::row_through_view(bids, m, i + 1);
+    let least = least_rank(row, cut, chosen[i]);
+    raise_row(row, amounts[i] as u32, least, criticals);
 }
 
 // Raises them from nothing by every guest's row, as if all stations were open.

@@ -58,7 +58,7 @@ fn best_choice(
     ensures { λ r. ⌜ TopChoice (screenedAt (regularIn asks bays amounts tickets bids) (cut .0))
         (of (now (bars .entry))) x r ⌝ }
 {
-    let row = x * asks.len();
+    let row = views::row_through_view(bids, asks.len(), x + 1);
     let scale = (amounts[x] as u64) * TOTAL;
     let ticket = tickets[x];
     let low = (u32::MAX - ticket) as u64;
@@ -66,8 +66,7 @@ fn best_choice(
     let mut q = 0;
     while q < opened.len() {
         let j = opened[q];
-        let bid = bids[row + j];
-        top = better(bid, j, scale, low, bars[j], top);
+        top = better(row[j], j, scale, low, bars[j], top);
         q += 1;
     }
     top

@@ -93,14 +93,14 @@ module _ (least bid j amount : ℕ) (bid-most : bid ≤ maxPrice) where
   total-from-low l = only-le _ _ _ (λ _. product bid amount bid-most l)
 
 -- a row's least rank, as the code has it
-module _ (bids : List ℕ) (row c : ℕ) where
-  pub least-of-none : {seat : ℕ} → seat ≡ 0 → c * 64 ≡ leastRank bids row c seat
+module _ (row : List ℕ) (c : ℕ) where
+  pub least-of-none : {seat : ℕ} → seat ≡ 0 → c * 64 ≡ leastRank row c seat
   unfolding leastRank
   least-of-none e = rw e refl
 
   pub least-of-seat :
       (seat : ℕ) → (seat ≡ 0 → ⊥) → seat ≤ maxStations
-      → of bids (row + (seat - 1)) * 64 + (65 - seat) ≡ leastRank bids row c seat
+      → of row (seat - 1) * 64 + (65 - seat) ≡ leastRank row c seat
   unfolding leastRank rank
   least-of-seat zero some few = absurd (some refl)
   least-of-seat (suc l) some few = let same : suc l - 1 ≡ l = omega arith in rw same (omega arith)

@@ -1,5 +1,6 @@
 use Prim.Native.Nat.{_-_, _≤_}
 use native.Mathlib.Omega.{arith}
+use lib.ListN.{length}
 use borrow.Author.Needs.{needs}
 use Rattle.quiet.specs.Criticals.{raisedBy, Renewed}
 use Rattle.quiet.proofs.criticals.Renewed.{renewed-none, renewed-next, renewed-end}
@@ -8,11 +9,11 @@ use Rattle.quiet.proofs.criticals.raise_row.Statement.{statement}
 use Rattle.quiet.proofs.criticals.raise_row.Tie as tie
 
 abbrev Inv-loop : tie.InvT-loop
-Inv-loop bids row m amount least criticals₀ j₀ criticals j =
-    (j ≤ m) × Renewed j (raisedBy bids row amount least criticals₀) criticals₀ criticals
+Inv-loop row amount least criticals₀ j₀ criticals j =
+    (j ≤ length row) × Renewed j (raisedBy row amount least criticals₀) criticals₀ criticals
 
 abbrev μ-loop : tie.MeasureT-loop
-μ-loop bids row m amount least criticals₀ j₀ criticals j = m - j
+μ-loop row amount least criticals₀ j₀ criticals j = length row - j
 
 abbrev entry : tie.At-loop Inv-loop μ-loop → tie.Start Inv-loop μ-loop
 entry p = p .before .before .before
@@ -38,7 +39,7 @@ loop-again c =
     let lj = in-loop .loop-test .taken in
     let renewed = at-loop .loop .inv .1 in (
       omega (arith, lj),
-      raised-turn _ _ _ _ renewed (omega (arith, lj, room .long)) (c .raised .ensures),
+      raised-turn _ _ _ renewed (omega (arith, lj, room .long)) (c .raised .ensures),
     )
 
 returns : tie.Need-returns Inv-loop μ-loop
@@ -47,6 +48,6 @@ returns c = renewed-end (c .before .loop .inv) (c .loop-test .left)
 pub raise-row-spec : {M : Type 1} → statement M
 raise-row-spec =
     tie.close (tie.spec Inv-loop μ-loop (λ c. (omega arith, renewed-none)) (λ c. search needs) (λ c. search needs)
-    (λ c. search needs) (λ c. search needs) (λ c. search needs) (λ c. search needs) (λ c. search needs)
+    (λ c. search needs) (λ c. search needs) (λ c. search needs) (λ c. search needs)
     raised-requires (λ c. search needs) (λ c. search needs) (λ c. search needs) (λ c. search needs) (λ c. search needs)
     loop-again (λ c. c .before .loop .inv .1 .same) returns)
