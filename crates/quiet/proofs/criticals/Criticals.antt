@@ -28,12 +28,12 @@ use Rattle.quiet.proofs.seats.Listing.{row-shows}
 
 -- one row
 pub raised-turn :
-    (row : List ℕ) (amount least : ℕ) {l₀ l : List ℕ} {j v : ℕ} → Renewed j (raisedBy row amount least l₀) l₀ l
-    → j + 1 < length l₀ → v ≡ max (of l (j + 1)) (totalFrom least (of row j) j amount)
+    (row : List ℕ) (amount least : ℕ) {l₀ l : List ℕ} {j top v : ℕ} → Renewed j (raisedBy row amount least l₀) l₀ l
+    → j + 1 < length l₀ → top ≡ of l (j + 1) → v ≡ max top (totalFrom least (of row j) j amount)
     → Renewed (j + 1) (raisedBy row amount least l₀) l₀ (set l (j + 1) v)
 unfolding raisedBy
-raised-turn row amount least {j = j} h b e =
-    renewed-turn h b (e ∙ ap (λ top. max top (totalFrom least (of row j) j amount)) (renewed-next h))
+raised-turn row amount least {j = j} h b q e =
+    renewed-turn h b (e ∙ ap (λ x. max x (totalFrom least (of row j) j amount)) (q ∙ renewed-next h))
 
 -- a row as the view shows it
 pub raised-as-shown :

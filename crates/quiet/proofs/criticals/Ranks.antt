@@ -83,10 +83,10 @@ by-quotient x least y lx ll = ⊎-elim
 
 module _ (least bid j amount : ℕ) (bid-most : bid ≤ maxPrice) where
   pub total-by-quotient :
-      least < 2 ^ 31
-      → (bid * 64 + (63 - j) + 2_147_483_648 - least) / 2_147_483_648 * (bid * amount) ≡ totalFrom least bid j amount
+      {total : ℕ} → least < 2 ^ 31 → total ≡ bid * amount
+      → (bid * 64 + (63 - j) + 2_147_483_648 - least) / 2_147_483_648 * total ≡ totalFrom least bid j amount
   unfolding totalFrom rank
-  total-by-quotient l = by-quotient (bid * 64 + (63 - j)) least (bid * amount) (omega arith) l
+  total-by-quotient l e = rw e (by-quotient (bid * 64 + (63 - j)) least (bid * amount) (omega arith) l)
 
   pub total-from-low : amount ≤ maxAmount → totalFrom least bid j amount ≤ maxTotal
   unfolding totalFrom

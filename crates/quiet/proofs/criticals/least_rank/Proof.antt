@@ -19,11 +19,11 @@ low c =
     let entry = past-none .before in
     entry .pre .0 .bid-most (entry .args .seat - 1) (omega (arith, past-none .if1 .left, entry .pre .2))
 
-mul-result-3 : tie.Need-mul-result-3
-mul-result-3 c = omega (arith, low c)
+mul-rank-3 : tie.Need-mul-rank-3
+mul-rank-3 c = omega (arith, low c)
 
-add-result : tie.Need-add-result
-add-result c = omega (arith, low c)
+add-rank : tie.Need-add-rank
+add-rank c = omega (arith, low c)
 
 returns-2 : tie.Need-returns-2
 returns-2 c =
@@ -34,4 +34,4 @@ returns-2 c =
 pub least-rank-spec : {M : Type 1} → statement M
 least-rank-spec =
     tie.close (tie.spec (λ c. search needs) returns (λ c. search needs) (λ c. search needs) (λ c. search needs)
-    (λ c. search needs) mul-result-3 (λ c. search needs) add-result returns-2)
+    (λ c. search needs) mul-rank-3 (λ c. search needs) add-rank returns-2)

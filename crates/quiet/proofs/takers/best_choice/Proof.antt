@@ -14,13 +14,13 @@ use Rattle.quiet.proofs.takers.best_choice.Tie as tie
 
 -- at the cut that the first top and the open stations are of
 abbrev Inv-loop : tie.InvT-loop
-Inv-loop asks bays amounts tickets bids opened bars x row scale ticket low top₀ q₀ top q =
+Inv-loop asks bays amounts tickets bids opened bars x row scale ticket low none top₀ q₀ top q =
     let t = regular asks bays amounts tickets bids in
-    (c : ℕ) → Priced t c → Opened asks c opened → top₀ ≡ c * scale
-    → BestSoFar (screenedAt t c) (of bars) x opened top q
+    (c : ℕ) → Priced t c → Opened asks c opened → top₀ .0 ≡ c * scale
+    → BestSoFar (screenedAt t c) (of bars) x opened (top .0) q
 
 abbrev μ-loop : tie.MeasureT-loop
-μ-loop asks bays amounts tickets bids opened bars x row scale ticket low top₀ q₀ top q = length opened - q
+μ-loop asks bays amounts tickets bids opened bars x row scale ticket low none top₀ q₀ top q = length opened - q
 
 abbrev entry-before-row : tie.After-row-through-view Inv-loop μ-loop → tie.Start Inv-loop μ-loop
 entry-before-row p = p .before .before .before .before .before .before .before .before
@@ -49,8 +49,8 @@ sub-low : tie.Need-sub-low Inv-loop μ-loop
 sub-low c = omega (arith, c .shared-slice-known9 .given (entry-before-row (c .before .before) .args .x))
 
 -- the cut's total fits its place
-mul-top : tie.Need-mul-top Inv-loop μ-loop
-mul-top c =
+mul-none : tie.Need-mul-none Inv-loop μ-loop
+mul-none c =
     let entry = entry-before-row (c .before .before .before) in
     omega (arith, no-choice-low (regular _ _ _ _ _) (entry .pre .0) (entry .pre .1 .1 .1))
 
@@ -80,17 +80,17 @@ inside c =
       is-station c .0,
     )
 
-mul-better : tie.Need-mul-better Inv-loop μ-loop
-mul-better c = omega (arith, is-station (c .before) .0)
+mul-bid : tie.Need-mul-bid Inv-loop μ-loop
+mul-bid c = omega (arith, is-station (c .before) .0)
 
-shared-slice-read-better : tie.Need-shared-slice-read-better Inv-loop μ-loop
-shared-slice-read-better c = inside (c .before .before)
+shared-slice-read-bid : tie.Need-shared-slice-read-bid Inv-loop μ-loop
+shared-slice-read-bid c = inside (c .before .before)
 
-mul-better-2 : tie.Need-mul-better-2 Inv-loop μ-loop
-mul-better-2 c = omega (arith, is-station (c .before .before) .0)
+mul-bar : tie.Need-mul-bar Inv-loop μ-loop
+mul-bar c = omega (arith, is-station (c .before .before) .0)
 
-shared-slice-read-better-2 : tie.Need-shared-slice-read-better-2 Inv-loop μ-loop
-shared-slice-read-better-2 c =
+shared-slice-read-bar : tie.Need-shared-slice-read-bar Inv-loop μ-loop
+shared-slice-read-bar c =
     let in-loop = c .before .before .before in
     let entry = entry-before-loop (in-loop .before) in
     omega (arith, is-station in-loop .0, entry .pre .1 .1 .0 .long)
@@ -129,6 +129,6 @@ pub best-choice-spec : {M : Type 1} → statement M
 best-choice-spec =
     tie.close (tie.spec Inv-loop μ-loop (λ c. search needs) (λ c κs. search needs) (λ c. search needs)
     shared-slice-read-scale cast-scale mul-scale-2 (λ c. search needs) shared-slice-read-ticket sub-low
-    (λ c. search needs) (λ c. search needs) mul-top loop-holds (λ c. search needs) (λ c. search needs) mul-better
-    shared-slice-read-better mul-better-2 shared-slice-read-better-2 better-requires (λ c. search needs)
+    (λ c. search needs) (λ c. search needs) mul-none loop-holds (λ c. search needs) (λ c. search needs) mul-bid
+    shared-slice-read-bid mul-bar shared-slice-read-bar better-requires (λ c. search needs)
     (λ c. search needs) loop-again returns)
