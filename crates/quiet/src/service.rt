@@ -10,7 +10,7 @@ ghost use Rattle.model.specs.contracts.Lent.{regularOf, regularIn};
 ghost use Rattle.allocation.specs.Screens.{screenedAt};
 ghost use Rattle.model.specs.market.Stable.{Stable};
 ghost use Rattle.quiet.specs.Efficient.{Priced, of, Moved, Served, CalledToo};
-ghost use Rattle.quiet.specs.Seating.{Opened, HeldIn, Waits, Called, seatingOf, seatingOut};
+ghost use Rattle.quiet.specs.Seating.{GuestLine, Opened, HeldIn, Waits, Called, seatingOf, seatingOut};
 
 // Guest x is served. The answer is the number of the guest put out for it, from 1; 0 for none.
 fn serve_guest(
@@ -252,8 +252,8 @@ pub fn serve_all(
         × Opened (now asks) (cut .0) (now opened) ⌝ }
     requires { ⌜ Called (regularOf asks bays amounts tickets bids) (cut .0) (now called)
         (seatingOf chosen held firsts nexts lasts befores bars) ⌝ }
-    requires { ⌜ (length (now buckets) ≡ 256) × (length (now other) ≡ length (now amounts))
-        × (length (now line) ≡ length (now amounts)) ⌝ }
+    requires { ⌜ (length (now buckets) ≡ 256) × GuestLine (length (now amounts)) (now other)
+        × GuestLine (length (now amounts)) (now line) ⌝ }
     ensures { λ _. ⌜ (let t = regularIn asks bays amounts tickets bids in
         HeldIn t (cut .0) (seatingOut chosen held firsts nexts lasts befores bars)
         × Stable (screenedAt t (cut .0)) (of (now (chosen .exit)))) ⌝ }
