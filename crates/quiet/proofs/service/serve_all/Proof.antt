@@ -16,7 +16,7 @@ serve-line-requires : tie.Need-serve-line-requires
 serve-line-requires c κs =
     let at-line = line-before-service c in
     let entry = entry-before-line at-line in
-    (entry .pre .0, (entry .pre .1 .0, at-line .line-up .ensures .long))
+    (entry .pre .0, (entry .pre .1 .0, at-line .line-up .ensures))
 
 pub serve-all-spec : {M : Type 1} → statement M
 serve-all-spec =
