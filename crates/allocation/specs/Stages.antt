@@ -77,6 +77,4 @@ BoundedIn t c j bounds = Bounded (screenedAt t c) (length (t .amounts)) j bounds
 -- after the last station: the critical total and the bound of each station number, by which its places are won
 pub record Bars (t : Tables) (c : ℕ) (criticals bounds : List ℕ) : Type 0 where
   pub bounded : BoundedIn t c (length (t .asks)) bounds
-  pub criticals-long : length criticals ≡ maxStations + 1
-  pub criticals-are : (j : ℕ) → j < length (t .asks) → getD criticals (suc j) 0 ≡ critical (queue (screenedAt t c) j)
-  pub criticals-low : (j : ℕ) → j < length (t .asks) → getD criticals (suc j) 0 ≤ maxTotal
+  pub criticals-are : criticals ≡ list (maxStations + 1) (criticalBy (screenedAt t c) (length (t .asks)))

@@ -11,7 +11,7 @@ fn below(x: u32, y: u32) -> bool
     (x as i32) < (y as i32)
 }
 
-pub fn larger(x: u32, y: u32) -> u32
+fn larger(x: u32, y: u32) -> u32
     requires { ⌜ (x < 2 ^ 31) × (y < 2 ^ 31) ⌝ }
     ensures { λ r. ⌜ r ≡ max x y ⌝ }
 {

@@ -1,6 +1,6 @@
 // Who wins a tie at the critical total: those with a ticket below a bound.
 use model::money::Mills;
-ghost use Prim.Native.Nat.{_+_, _<_, _≤_};
+ghost use Prim.Native.Nat.{_+_, _^_, _<_, _≤_};
 ghost use mathlib.Core.Bool.{true};
 ghost use mathlib.Core.Path.{_≡_};
 ghost use lib.ListN.{length};
@@ -13,16 +13,18 @@ ghost use Rattle.allocation.specs.Ties.{tiesBelow, Tied, Tying, TieBound
 
 // s and one more where x is t.
 fn tally(s: u32, x: Mills, t: Mills) -> u32
-    requires { ⌜ s < 2147483648 ⌝ }
+    requires { ⌜ s < 2 ^ 31 ⌝ }
     ensures { λ r. ⌜ (r ≡ s + only (x .0 =? t .0) 1) × (r ≤ s + 1) ⌝ }
 {
     if x.0 == t.0 { s + 1 } else { s }
 }
 
-fn tied_below(total: u32, t: u32, ticket: u32, x: u32) -> bool
-    ensures { λ r. ⌜ r ≡ (total =? t and ticket <? x) ⌝ }
+// Compared in 32 bits: the processor compares four such numbers at once.
+fn tied_below(total: Mills, t: Mills, ticket: u32, x: u32) -> bool
+    requires { ⌜ (total .0 < 2 ^ 32) × (t .0 < 2 ^ 32) ⌝ }
+    ensures { λ r. ⌜ r ≡ (total .0 =? t .0 and ticket <? x) ⌝ }
 {
-    (total == t) & (ticket < x)
+    (total.narrow() == t.narrow()) & (ticket < x)
 }
 
 // How many at t have a ticket below x.
@@ -31,11 +33,10 @@ fn count_ties(totals: &[u32], tickets: &[u32], t: Mills, x: u32) -> u32
         × (t .0 ≤ maxTotal) ⌝ }
     ensures { λ r. ⌜ r ≡ tiesBelow (now (totals .entry)) (now (tickets .entry)) (t .0) x ⌝ }
 {
-    let at = t.narrow();
     let mut n: u32 = 0;
     let mut i = 0;
     while i < totals.len() {
-        if tied_below(totals[i], at, tickets[i], x) {
+        if tied_below(Mills::wide(totals[i]), t, tickets[i], x) {
             n += 1;
         }
         i += 1;

@@ -19,6 +19,13 @@ use Rattle.quiet.specs.Efficient.{of, Holding, Serving}
 unfoldable pub priority : Screened → (i j : ℕ) → ℕ
 priority S i j = S .total i j * 2 ^ 32 + (lastTicket - S .key i)
 
+-- ---- the line
+
+-- n guests in a line: each place has the index of one
+pub record GuestLine (n : ℕ) (line : List ℕ) : Type 0 where
+  pub long : length line ≡ n
+  pub guests : (r : ℕ) → r < n → of line r < n
+
 -- ---- the choice of a station
 
 -- the open stations

@@ -1,60 +1,72 @@
 // The critical totals of a quiet round: at each station the greatest total that was turned away. They are raised guest
 // by guest, row by row; the rows' loop has no branch.
 use allocation::signed;
+use model::money::Mills;
 use model::money::UnitPrice;
-ghost use Prim.Native.Nat.{suc, _+_, _*_, _^_, _<_, _≤_, max};
+ghost use Prim.Native.Nat.{suc, _+_, _^_, _<_, _≤_, max};
 ghost use mathlib.Core.Path.{_≡_};
 ghost use lib.ListN.{length};
 ghost use Rattle.model.specs.Limits.{maxStations, maxPrice, maxAmount};
 ghost use Rattle.model.specs.Counting.{_<?_, only, list};
 ghost use Rattle.model.specs.contracts.Lent.{regularOf, regularIn};
+ghost use Rattle.model.specs.contracts.Rows.{rowOf};
 ghost use Rattle.allocation.specs.Screens.{screenedAt};
 ghost use Rattle.allocation.specs.Totals.{maxTotal};
 ghost use Rattle.quiet.specs.Efficient.{Priced, of, Seats, criticalOf};
 ghost use Rattle.quiet.specs.Criticals.{leastRank, totalFrom, raisedBy, passedOver};
 ghost use Rattle.quiet.specs.Criticals.{Renewed, Row, Rows, Room};
 
-// A bid's rank in its row is 64 times the bid and more the lower its station: of two bids the one of greater rank
-// stands before the other.
+// A bid's rank in its row: 64 times the bid and more the lower its station. Of two bids the one of greater rank stands
+// before the other.
+struct Rank(u32);
+
 const BID: u32 = 64;
 
 // Half of what 32 bits hold: ranks and totals are below it.
 const HALF: u32 = 2_147_483_648;
 
 // The critical total so far, or a bid's total where its rank is not below the least that was turned away.
-fn raised(bid: u32, j: u32, amount: u32, least: u32, top: u32) -> u32
-    requires { ⌜ (bid ≤ maxPrice) × (j < maxStations) × (amount ≤ maxAmount) × (least < 2 ^ 31) × (top ≤ maxTotal) ⌝ }
-    ensures { λ r. ⌜ r ≡ max top (totalFrom least bid j amount) ⌝ }
+fn raised(bid: UnitPrice, j: u32, amount: u32, least: Rank, top: Mills) -> Mills
+    requires { ⌜ (bid .0 ≤ maxPrice) × (j < maxStations) × (amount ≤ maxAmount) ⌝ }
+    requires { ⌜ (least .0 < 2 ^ 31) × (top .0 ≤ maxTotal) ⌝ }
+    ensures { λ r. ⌜ r .0 ≡ max (top .0) (totalFrom (least .0) (bid .0) j amount) ⌝ }
 {
-    let rank = bid * BID + (63 - j);
-    signed::larger(top, (rank + HALF - least) / HALF * (bid * amount))
+    let rank = bid.0 * BID + (63 - j);
+    let total = bid.times(amount);
+    let counted = (((rank + HALF - least.0) / HALF) as u64) * total.0;
+    signed::larger_small(top, Mills(counted))
 }
 
 // Raises the critical totals of all stations by a row of bids.
-fn raise_row(bids: &[u32], row: usize, m: usize, amount: u32, least: u32, criticals: &mut [u32])
-    requires { ⌜ Row (now bids) row m ⌝ }
-    requires { ⌜ (amount ≤ maxAmount) × (least < 2 ^ 31) ⌝ }
-    requires { ⌜ Room m (now criticals) ⌝ }
-    ensures { λ _. ⌜ Renewed m (raisedBy (now (bids .entry)) row amount least (now (criticals .entry)))
-        (now (criticals .entry)) (now (criticals .exit)) ⌝ }
+fn raise_row(row: &[u32], amount: u32, least: Rank, criticals: &mut [u32])
+    requires { ⌜ Row (now row) ⌝ }
+    requires { ⌜ (amount ≤ maxAmount) × (least .0 < 2 ^ 31) ⌝ }
+    requires { ⌜ Room (length (now row)) (now criticals) ⌝ }
+    ensures { λ _. ⌜ (let row = now (row .entry) in
+        Renewed (length row) (raisedBy row amount (least .0) (now (criticals .entry)))
+        (now (criticals .entry)) (now (criticals .exit))) ⌝ }
 {
     let mut j = 0;
-    while j < m {
-        criticals[j + 1] = raised(bids[row + j], j as u32, amount, least, criticals[j + 1]);
+    while j < row.len() {
+        let bid = row[j];
+        let top = Mills::wide(criticals[j + 1]);
+        criticals[j + 1] = raised(UnitPrice(bid), j as u32, amount, least, top).narrow();
         j += 1;
     }
 }
 
 // The least rank at which a bid of this row was turned away: above that of its guest's seat, by its number, or that of
 // the cut where it has none.
-fn least_rank(bids: &[u32], row: usize, cut: UnitPrice, seat: u32) -> u32
-    requires { ⌜ Row (now bids) row seat × (cut .0 ≤ maxPrice) ⌝ }
-    ensures { λ r. ⌜ (r ≡ leastRank (now (bids .entry)) row (cut .0) seat) × (r < 2 ^ 31) ⌝ }
+fn least_rank(row: &[u32], cut: UnitPrice, seat: u32) -> Rank
+    requires { ⌜ Row (now row) × (cut .0 ≤ maxPrice) × (seat ≤ length (now row)) ⌝ }
+    ensures { λ r. ⌜ (r .0 ≡ leastRank (now (row .entry)) (cut .0) seat) × (r .0 < 2 ^ 31) ⌝ }
 {
     if seat == 0 {
-        return cut.0 * BID;
+        let rank = cut.0 * BID;
+        return Rank(rank);
     }
-    bids[row + ((seat - 1) as usize)] * BID + (65 - seat)
+    let rank = row[(seat - 1) as usize] * BID + (65 - seat);
+    Rank(rank)
 }
 
 // Raises them by guest i's row.
@@ -70,14 +82,14 @@ fn raise(
     requires { ⌜ Rows (now amounts) (now bids) (now chosen) m (cut .0) ⌝ }
     requires { ⌜ i < length (now amounts) ⌝ }
     requires { ⌜ Room m (now criticals) ⌝ }
-    ensures { λ _. ⌜ (let bids = now (bids .entry) in
-        Renewed m (raisedBy bids (i * m) (of (now (amounts .entry)) i)
-        (leastRank bids (i * m) (cut .0) (of (now (chosen .entry)) i)) (now (criticals .entry)))
+    ensures { λ _. ⌜ (let row = rowOf (now (bids .entry)) m (i + 1) in
+        Renewed m (raisedBy row (of (now (amounts .entry)) i)
+        (leastRank row (cut .0) (of (now (chosen .entry)) i)) (now (criticals .entry)))
         (now (criticals .entry)) (now (criticals .exit))) ⌝ }
 {
-    let row = i * m;
-    let least = least_rank(bids, row, cut, chosen[i]);
-    raise_row(bids, row, m, amounts[i] as u32, least, criticals);
+    let row = views::row_through_view(bids, m, i + 1);
+    let least = least_rank(row, cut, chosen[i]);
+    raise_row(row, amounts[i] as u32, least, criticals);
 }
 
 // Raises them from nothing by every guest's row, as if all stations were open.
@@ -102,10 +114,10 @@ fn raise_all(
 }
 
 // A critical total, or 0 where the station is closed.
-fn if_open(ask: UnitPrice, cut: UnitPrice, critical: u32) -> u32
-    ensures { λ r. ⌜ r ≡ only (ask .0 <? cut .0) critical ⌝ }
+fn if_open(ask: UnitPrice, cut: UnitPrice, critical: Mills) -> Mills
+    ensures { λ r. ⌜ (r .0 ≡ only (ask .0 <? cut .0) (critical .0)) × (r .0 ≤ critical .0) ⌝ }
 {
-    if ask.below(cut) { critical } else { 0 }
+    if ask.below(cut) { critical } else { Mills(0) }
 }
 
 // Closed stations turn nobody away.
@@ -117,8 +129,9 @@ fn clear_closed(asks: &[u32], cut: UnitPrice, criticals: &mut [u32])
 {
     let mut j = 0;
     while j < asks.len() {
-        let ask = UnitPrice(asks[j]);
-        criticals[j + 1] = if_open(ask, cut, criticals[j + 1]);
+        let ask = asks[j];
+        let critical = Mills::wide(criticals[j + 1]);
+        criticals[j + 1] = if_open(UnitPrice(ask), cut, critical).narrow();
         j += 1;
     }
 }

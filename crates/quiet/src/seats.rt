@@ -35,8 +35,9 @@ fn later(
     ensures { λ r. ⌜ LaterOf (stated (now (amounts .entry)) (now (tickets .entry)) (now (bids .entry)) m) j
         (holder .guest) (holder .before) i before (r .guest) (r .before) ⌝ }
 {
-    let own = standing::priority(amounts, tickets, bids, m, i, j);
-    if own < standing::priority(amounts, tickets, bids, m, holder.guest, j) {
+    let own = standing::priority_at(amounts, tickets, bids, m, i, j);
+    let other = standing::priority_at(amounts, tickets, bids, m, holder.guest, j);
+    if own.0 < other.0 {
         Holder {
             guest: i,
             before: before,
@@ -107,7 +108,8 @@ fn close(
     let y = holder.guest;
     lasts[j] = y as u8;
     befores[j] = holder.before;
-    bars[j] = standing::priority(amounts, tickets, bids, m, y, j) + 1;
+    let last = standing::priority_at(amounts, tickets, bids, m, y, j);
+    bars[j] = last.0 + 1;
 }
 
 // Guest x takes a free bay of station j, whose number is s.

@@ -3,14 +3,14 @@ use crate::line;
 use crate::seats;
 use crate::takers;
 use model::money::UnitPrice;
-ghost use Prim.Native.Nat.{_-_, _≤_};
+ghost use Prim.Native.Nat.{_-_, _*_, _<_, _≤_};
 ghost use mathlib.Core.Path.{_≡_};
 ghost use lib.ListN.{length};
 ghost use Rattle.model.specs.contracts.Lent.{regularOf, regularIn};
 ghost use Rattle.allocation.specs.Screens.{screenedAt};
 ghost use Rattle.model.specs.market.Stable.{Stable};
 ghost use Rattle.quiet.specs.Efficient.{Priced, of, Moved, Served, CalledToo};
-ghost use Rattle.quiet.specs.Seating.{Opened, HeldIn, Waits, Called, seatingOf, seatingOut};
+ghost use Rattle.quiet.specs.Seating.{GuestLine, Opened, HeldIn, Waits, Called, seatingOf, seatingOut};
 
 // Guest x is served. The answer is the number of the guest put out for it, from 1; 0 for none.
 fn serve_guest(
@@ -113,7 +113,7 @@ fn serve(
     }
 }
 
-// Guest x is served, where there is such a guest and it was not called up yet.
+// Guest x is served, where it was not called up yet.
 fn call_up(
     asks: &[u32],
     bays: &[u16],
@@ -136,37 +136,37 @@ fn call_up(
         × Opened (now asks) (cut .0) (now opened) ⌝ }
     requires { ⌜ Called (regularOf asks bays amounts tickets bids) (cut .0) (now called)
         (seatingOf chosen held firsts nexts lasts befores bars) ⌝ }
+    requires { ⌜ x < length (now amounts) ⌝ }
     ensures { λ _. ⌜ (let t = regularIn asks bays amounts tickets bids in
         Called t (cut .0) (now (called .exit)) (seatingOut chosen held firsts nexts lasts befores bars)
         × CalledToo (length (t .amounts)) x (now (called .entry)) (now (called .exit))) ⌝ }
 {
-    if x < called.len() {
-        if called[x] == 0 {
-            called[x] = 1;
-            serve(
-                asks,
-                bays,
-                amounts,
-                tickets,
-                bids,
-                cut,
-                opened,
-                x,
-                chosen,
-                held,
-                firsts,
-                nexts,
-                lasts,
-                befores,
-                bars,
-            );
-        }
+    if called[x] == 0 {
+        called[x] = 1;
+        serve(
+            asks,
+            bays,
+            amounts,
+            tickets,
+            bids,
+            cut,
+            opened,
+            x,
+            chosen,
+            held,
+            firsts,
+            nexts,
+            lasts,
+            befores,
+            bars,
+        );
     }
 }
 
 // Who is called up at turn r: the guests of the line, then everyone.
 fn turn(line: &[u8], r: usize) -> usize
-    ensures { λ x. ⌜ (length (now (line .entry)) ≤ r → x ≡ r - length (now (line .entry))) ⌝ }
+    requires { ⌜ GuestLine (length (now line)) (now line) × (r < 2 * length (now line)) ⌝ }
+    ensures { λ x. ⌜ (let n = length (now (line .entry)) in (x < n) × (n ≤ r → x ≡ r - n)) ⌝ }
 {
     if r < line.len() {
         return line[r] as usize;
@@ -197,7 +197,7 @@ fn serve_line(
         × Opened (now asks) (cut .0) (now opened) ⌝ }
     requires { ⌜ Called (regularOf asks bays amounts tickets bids) (cut .0) (now called)
         (seatingOf chosen held firsts nexts lasts befores bars) ⌝ }
-    requires { ⌜ length (now line) ≡ length (now amounts) ⌝ }
+    requires { ⌜ GuestLine (length (now amounts)) (now line) ⌝ }
     ensures { λ _. ⌜ (let t = regularIn asks bays amounts tickets bids in
         HeldIn t (cut .0) (seatingOut chosen held firsts nexts lasts befores bars)
         × Stable (screenedAt t (cut .0)) (of (now (chosen .exit)))) ⌝ }
@@ -252,8 +252,8 @@ pub fn serve_all(
         × Opened (now asks) (cut .0) (now opened) ⌝ }
     requires { ⌜ Called (regularOf asks bays amounts tickets bids) (cut .0) (now called)
         (seatingOf chosen held firsts nexts lasts befores bars) ⌝ }
-    requires { ⌜ (length (now buckets) ≡ 256) × (length (now other) ≡ length (now amounts))
-        × (length (now line) ≡ length (now amounts)) ⌝ }
+    requires { ⌜ (length (now buckets) ≡ 256) × GuestLine (length (now amounts)) (now other)
+        × GuestLine (length (now amounts)) (now line) ⌝ }
     ensures { λ _. ⌜ (let t = regularIn asks bays amounts tickets bids in
         HeldIn t (cut .0) (seatingOut chosen held firsts nexts lasts befores bars)
         × Stable (screenedAt t (cut .0)) (of (now (chosen .exit)))) ⌝ }

@@ -5,9 +5,12 @@ ghost use Prim.Native.Nat.{_*_, _<_};
 ghost use mathlib.Core.Path.{_≡_};
 ghost use lib.ListN.{length};
 ghost use Rattle.quiet.specs.Efficient.{product, stated, Listed};
-ghost use Rattle.quiet.specs.Seating.{priority as priorityOf};
+ghost use Rattle.quiet.specs.Seating.{priority};
 
-// A total's part of a priority.
+// A candidacy's priority at its station: a total and, below it, how low its ticket is. The greater stands before.
+pub struct Priority(pub u64);
+
+// A total's part of it.
 pub const TOTAL: u64 = 4_294_967_296;
 
 // Guest i's bid times amount at station j of m.
@@ -19,13 +22,22 @@ fn product_at(bids: &[u32], amounts: &[u16], m: usize, i: usize, j: usize) -> Mi
     UnitPrice(bid).times(amounts[i] as u32)
 }
 
-// Guest i's priority at station j of m: its total, and below that how low its ticket is.
-pub fn priority(amounts: &[u16], tickets: &[u32], bids: &[u32], m: usize, i: usize, j: usize) -> u64
+// Guest i's priority at station j of m.
+pub fn priority_at(
+    amounts: &[u16],
+    tickets: &[u32],
+    bids: &[u32],
+    m: usize,
+    i: usize,
+    j: usize,
+) -> Priority
     requires { ⌜ Listed (now amounts) (now tickets) (now bids) m ⌝ }
     requires { ⌜ (i < length (now amounts)) × (j < m) ⌝ }
-    ensures { λ r. ⌜ r ≡ priorityOf (stated (now (amounts .entry)) (now (tickets .entry)) (now (bids .entry)) m) i j ⌝ }
+    ensures { λ r. ⌜ r .0
+        ≡ priority (stated (now (amounts .entry)) (now (tickets .entry)) (now (bids .entry)) m) i j ⌝ }
 {
     let total = product_at(bids, amounts, m, i, j);
     let ticket = tickets[i];
-    total.0 * TOTAL + (u32::MAX - ticket) as u64
+    let priority = total.0 * TOTAL + (u32::MAX - ticket) as u64;
+    Priority(priority)
 }

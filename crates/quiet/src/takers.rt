@@ -1,4 +1,5 @@
 // The best of a guest's candidacies at stations that would take it.
+use crate::standing::Priority;
 use crate::standing::TOTAL;
 use model::money::UnitPrice;
 ghost use Prim.Native.Nat.{_+_, _-_, _*_, _^_, _%_, _<_, _≤_, max};
@@ -15,28 +16,33 @@ ghost use Rattle.quiet.specs.Seating.{Opened, Bars, TopChoice, stationIn
 // Half of what 64 bits hold: priorities and bars are at most that.
 const HALF: u64 = 9_223_372_036_854_775_808;
 
-// x where a priority is not below a bar, else 0. No branch: what passes cannot be foreseen.
-fn passed(priority: u64, bar: u64, x: u64) -> u64
-    requires { ⌜ (priority < 2 ^ 63) × (bar ≤ 2 ^ 63) ⌝ }
-    ensures { λ r. ⌜ r ≡ only (bar ≤? priority) x ⌝ }
+// A station that a guest may choose: a total and, below it, how low the station is. The greater is the better one.
+struct Choice(u64);
+
+// A choice where a priority is not below a bar, else 0. No branch: what passes cannot be foreseen.
+fn passed(priority: Priority, bar: Priority, x: Choice) -> Choice
+    requires { ⌜ (priority .0 < 2 ^ 63) × (bar .0 ≤ 2 ^ 63) ⌝ }
+    ensures { λ r. ⌜ r .0 ≡ only (bar .0 ≤? priority .0) (x .0) ⌝ }
 {
-    (priority + HALF - bar) / HALF * x
+    let choice = (priority.0 + HALF - bar.0) / HALF * x.0;
+    Choice(choice)
 }
 
-fn larger(x: u64, y: u64) -> u64
-    ensures { λ r. ⌜ r ≡ max x y ⌝ }
+fn larger(x: Choice, y: Choice) -> Choice
+    ensures { λ r. ⌜ r .0 ≡ max (x .0) (y .0) ⌝ }
 {
-    if x < y { y } else { x }
+    if x.0 < y.0 { y } else { x }
 }
 
-// The best choice so far against a bid at station j. A choice is a total and, below it, how low its station is: the
-// greater is the better one.
-fn better(bid: u32, j: usize, scale: u64, low: u64, bar: u64, top: u64) -> u64
-    requires { ⌜ (bid * scale ≤ maxTotal * 2 ^ 32) × (low ≤ lastTicket) × (bar ≤ 2 ^ 63) × (j ≤ 64) ⌝ }
-    ensures { λ r. ⌜ r ≡ max top (only (bar ≤? bid * scale + low) (bid * scale + (64 - j))) ⌝ }
+// The best choice so far against a bid at station j.
+fn better(bid: UnitPrice, j: usize, scale: u64, low: u64, bar: Priority, top: Choice) -> Choice
+    requires { ⌜ (bid .0 * scale ≤ maxTotal * 2 ^ 32) × (low ≤ lastTicket) × (bar .0 ≤ 2 ^ 63) × (j ≤ 64) ⌝ }
+    ensures { λ r. ⌜ r .0 ≡ max (top .0) (only (bar .0 ≤? bid .0 * scale + low) (bid .0 * scale + (64 - j))) ⌝ }
 {
-    let total = (bid as u64) * scale;
-    larger(top, passed(total + low, bar, total + (64 - (j as u64))))
+    let total = (bid.0 as u64) * scale;
+    let priority = total + low;
+    let choice = total + (64 - (j as u64));
+    larger(top, passed(Priority(priority), bar, Choice(choice)))
 }
 
 // Guest x's best choice among the open stations whose bar it passes; the cut's total where there is none.
@@ -50,35 +56,37 @@ fn best_choice(
     opened: &[usize],
     bars: &[u64],
     x: usize,
-) -> u64
+) -> Choice
     requires { ⌜ Priced (regularOf asks bays amounts tickets bids) (cut .0) ⌝ }
     requires { ⌜ Opened (now asks) (cut .0) (now opened) ⌝ }
     requires { ⌜ Bars (length (now asks)) (now bars) ⌝ }
     requires { ⌜ x < length (now amounts) ⌝ }
     ensures { λ r. ⌜ TopChoice (screenedAt (regularIn asks bays amounts tickets bids) (cut .0))
-        (of (now (bars .entry))) x r ⌝ }
+        (of (now (bars .entry))) x (r .0) ⌝ }
 {
-    let row = x * asks.len();
+    let row = views::row_through_view(bids, asks.len(), x + 1);
     let scale = (amounts[x] as u64) * TOTAL;
     let ticket = tickets[x];
     let low = (u32::MAX - ticket) as u64;
-    let mut top = (cut.0 as u64) * scale;
+    let none = (cut.0 as u64) * scale;
+    let mut top = Choice(none);
     let mut q = 0;
     while q < opened.len() {
         let j = opened[q];
-        let bid = bids[row + j];
-        top = better(bid, j, scale, low, bars[j], top);
+        let bid = row[j];
+        let bar = bars[j];
+        top = better(UnitPrice(bid), j, scale, low, Priority(bar), top);
         q += 1;
     }
     top
 }
 
 // The number of a choice's station, 0 for none.
-fn station_of(top: u64) -> u32
-    requires { ⌜ top % 256 ≤ 65 ⌝ }
-    ensures { λ r. ⌜ r ≡ stationIn top ⌝ }
+fn station_of(top: Choice) -> u32
+    requires { ⌜ top .0 % 256 ≤ 65 ⌝ }
+    ensures { λ r. ⌜ r ≡ stationIn (top .0) ⌝ }
 {
-    let low = (top % 256) as u32;
+    let low = (top.0 % 256) as u32;
     if low == 0 { 0 } else { 65 - low }
 }
 

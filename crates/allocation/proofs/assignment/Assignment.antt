@@ -23,7 +23,7 @@ use Rattle.pricing.specs.Charges.{leastAt, Chargeable, chargedAt, Charged}
 use Rattle.pricing.specs.CutAsk.{cutAsk}
 use Rattle.pricing.proofs.cut.CutAsk.{cut-low}
 use Rattle.allocation.specs.Stages.{AtCut, stationBy, gainBy, criticalBy, After, AfterIn, turnTotals, totalsAfter}
-use Rattle.allocation.specs.Stages.{Turned, Bounded, BoundedIn, Bars}
+use Rattle.allocation.specs.Stages.{Turned, Bounded, BoundedIn}
 use Rattle.allocation.specs.Totals.{maxTotal}
 use Rattle.allocation.specs.Assignment.{Assigned}
 
@@ -96,20 +96,15 @@ pub record Decided (t : Tables) (D : Decision) (chosen criticals : List ℕ) : T
   pub criticals-long : maxStations < length criticals
   pub criticals-are : (j : ℕ) → j < length (t .asks) → getD criticals (suc j) 0 ≡ D .critical j
 
--- after the last station
-pub truthfully :
-    (t : Tables) (c : ℕ) {chosen gains criticals : List ℕ} → WithinLimits t
-    → AfterIn t c (length (t .asks)) chosen gains criticals → Decided t (truthful (screenedAt t c)) chosen criticals
-unfolding stationBy criticalBy truthful screenedAt
-truthfully t c w a = record {
-  chosen-are = a .chosen-are;
-  criticals-long = omega (arith, long _ _ (a .criticals-are));
-  criticals-are = λ j l. element _ _ (a .criticals-are) (suc j) (omega (arith, w .shape .stations-most))
-      ∙ only-yes _ _ (is-lt _ _ l);
-}
+-- after the last station: each one's critical total, which is within the limits, and the decision
+pub critical-at :
+    (t : Tables) (c : ℕ) {criticals : List ℕ} → WithinLimits t
+    → criticals ≡ list (maxStations + 1) (criticalBy (screenedAt t c) (length (t .asks)))
+    → (j : ℕ) → j < length (t .asks) → getD criticals (suc j) 0 ≡ critical (queue (screenedAt t c) j)
+unfolding criticalBy
+critical-at t c w e j l = element _ _ e (suc j) (omega (arith, w .shape .stations-most)) ∙ only-yes _ _ (is-lt _ _ l)
 
--- the critical totals are within the limits
-critical-low :
+pub critical-low :
     (t : Tables) (c : ℕ) → WithinLimits t → (j : ℕ) → j < length (t .asks)
     → critical (queue (screenedAt t c) j) ≤ maxTotal
 unfolding critical queue screenedAt bidAt
@@ -119,19 +114,15 @@ critical-low t c w j lj =
     (omega (arith, w .shape .bids-length, in-table (length (t .amounts)) (length (t .asks)) k j lk lj)))
     (w .amount-most k lk)))
 
-pub bars :
-    (t : Tables) (c : ℕ) {chosen gains criticals bounds : List ℕ} → WithinLimits t
-    → AfterIn t c (length (t .asks)) chosen gains criticals → BoundedIn t c (length (t .asks)) bounds
-    → Bars t c criticals bounds
-unfolding truthful
-bars t c w a b =
-    let d = truthfully t c w a in
-    record {
-      bounded = b;
-      criticals-long = long _ _ (a .criticals-are);
-      criticals-are = d .criticals-are;
-      criticals-low = λ j l. rw (d .criticals-are j l) (critical-low t c w j l);
-    }
+pub truthfully :
+    (t : Tables) (c : ℕ) {chosen gains criticals : List ℕ} → WithinLimits t
+    → AfterIn t c (length (t .asks)) chosen gains criticals → Decided t (truthful (screenedAt t c)) chosen criticals
+unfolding stationBy truthful screenedAt
+truthfully t c w a = record {
+  chosen-are = a .chosen-are;
+  criticals-long = omega (arith, long _ _ (a .criticals-are));
+  criticals-are = critical-at t c w (a .criticals-are);
+}
 
 module _ (t : Tables) {c : ℕ} {least chosen criticals : List ℕ} (A : AtCut t c least) {D : Decision} {o : Outcome}
     (m : ComesOf (screenedAt t c) D o) (d : Decided t D chosen criticals) where

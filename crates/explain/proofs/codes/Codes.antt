@@ -1,5 +1,5 @@
 -- Laws of the code of a bid, and of the loops that write codes.
-use Prim.Native.Nat.{ℕ, suc, _+_, _*_, _≤_, _<_, max}
+use Prim.Native.Nat.{ℕ, _+_, _*_, _≤_, _<_, max}
 use mathlib.Core.Bool.{Bool, true, false, not, cond}
 use mathlib.Core.List.{List, [], _∷_, _++_, append-nil}
 use mathlib.Core.Logic.{⊎-elim}
@@ -19,7 +19,7 @@ use Rattle.model.specs.declared.rule.Rule.{Rule}
 use Rattle.model.proofs.Tests.{both, and-no, or-left, or-right, neither, is-lt, not-lt, is-le, is-eq, not-eq, lt-or-le}
 use Rattle.model.proofs.Tests.{eq-or-ne, only-yes, only-no, only-le}
 use Rattle.model.proofs.Counting.{greatest-cong, length-list, getD-list, list-cong}
-use Rattle.model.proofs.Loops.{Filling, filling-none, filling-turn, filling-end}
+use Rattle.model.proofs.Loops.{long, Filling, filling-none, filling-turn, filling-end}
 use Rattle.model.proofs.market.Acceptance.{product-fits}
 use Rattle.model.specs.contracts.Rows.{rowOf}
 use Rattle.model.proofs.contracts.Rows.{row-long, row-shows}
@@ -27,6 +27,7 @@ use Rattle.model.proofs.sheet.Joined.{joined-length, paste-next}
 use Rattle.allocation.specs.Offers.{wonBy}
 use Rattle.allocation.specs.Screens.{screenedAt}
 use Rattle.allocation.specs.Stages.{Bars}
+use Rattle.allocation.proofs.assignment.Assignment.{critical-at, critical-low}
 use Rattle.explain.specs.Codes.{codeBy, codeAt, rowCode, RowReady, CodesAtCut}
 
 -- ---- the code of a bid
@@ -126,7 +127,8 @@ module _ (t : Tables) (c : ℕ) {criticals bounds row : List ℕ} (w : WithinLim
       (j : ℕ) → j < length (t .asks)
       → rowCode (t .asks) row (getD (t .amounts) i 0) (getD (t .tickets) i 0) c criticals bounds j ≡ codeAt t c i j
   unfolding rowCode codeAt bidAt screenedAt
-  row-code-is j lj = rw (shows-bid j lj) (won-matters _ _ c _ _ (λ l h. rw (add-one j, b .criticals-are j lj)
+  row-code-is j lj =
+      rw (shows-bid j lj) (won-matters _ _ c _ _ (λ l h. rw (add-one j, critical-at t c w (b .criticals-are) j lj)
       (b .bounded .wins i j li lj (candidate j l h))))
 
   pub row-ready :
@@ -140,9 +142,9 @@ module _ (t : Tables) (c : ℕ) {criticals bounds row : List ℕ} (w : WithinLim
         row-long = rw e (row-long (t .bids) (length (t .asks)) i whole);
         bids-low = λ j l. rw (shows-bid j l) (w .bid-most _ (omega (arith, w .shape .bids-length)));
         amount-low = w .amount-most i li;
-        criticals-long = b .criticals-long;
+        criticals-long = long _ _ (b .criticals-are);
         bounds-long = b .bounded .bounds-long;
-        criticals-low = λ j lj. rw (add-one j) (b .criticals-low j lj);
+        criticals-low = λ j lj. rw (add-one j, critical-at t c w (b .criticals-are) j lj) (critical-low t c w j lj);
         codes-room = omega arith;
       }
 

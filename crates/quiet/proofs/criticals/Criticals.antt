@@ -1,15 +1,16 @@
 -- Laws of the critical totals: what rows of bids make of them, and what is left where stations are closed.
-use Prim.Native.Nat.{ℕ, zero, suc, _+_, _*_, _≤_, _<_, max}
+use Prim.Native.Nat.{ℕ, zero, suc, _+_, _≤_, _<_, max}
 use mathlib.Core.Bool.{Bool, true, false}
 use mathlib.Core.List.{List}
-use mathlib.Core.Path.{_≡_, refl, ap, _∙_}
-use native.Mathlib.Nat.{le-antisymm, mul-le-mul-right}
+use mathlib.Core.Path.{_≡_, refl, sym, ap, _∙_}
+use native.Mathlib.Nat.{le-antisymm}
 use native.Mathlib.Numerals.{add-one}
 use native.Mathlib.Omega.{arith}
 use lib.ListN.{length, set}
 use Rattle.model.specs.Limits.{maxStations}
 use Rattle.model.specs.Counting.{_<?_, only, greatest, list}
-use Rattle.model.specs.market.Market.{Tables}
+use Rattle.model.specs.contracts.Rows.{rowOf}
+use Rattle.model.specs.market.Market.{Tables, bidAt}
 use Rattle.allocation.specs.Screens.{screenedAt}
 use Rattle.model.specs.market.Stable.{turnedAwayAt}
 use Rattle.model.proofs.Counting.{greatest-le, greatest-cong}
@@ -18,33 +19,28 @@ use Rattle.allocation.specs.Totals.{maxTotal}
 use Rattle.quiet.specs.Efficient.{Priced, of, Seats, criticalOf}
 use Rattle.quiet.specs.Seating.{Seating, HeldIn}
 use Rattle.quiet.specs.Criticals.{leastRank, totalFrom, raisedBy, passedAt, passedOver}
-use Rattle.quiet.specs.Criticals.{Renewed, Row, Rows, Room}
+use Rattle.quiet.specs.Criticals.{Renewed, Rows, Room}
 use Rattle.quiet.proofs.criticals.Renewed.{renewed-turn, renewed-next, renewed-again, renewed-as}
 use Rattle.quiet.proofs.criticals.Renewed.{renewed-zeros}
 use Rattle.quiet.proofs.criticals.Ranks.{total-from-low}
 use Rattle.quiet.proofs.criticals.TurnedAway.{turned-is}
+use Rattle.quiet.proofs.seats.Listing.{row-shows}
 
 -- one row
-module _ (bids : List ℕ) (row amount : ℕ) {l₀ l : List ℕ} where
-  pub raised-turn :
-      (least : ℕ) {j v : ℕ} → Renewed j (raisedBy bids row amount least l₀) l₀ l → j + 1 < length l₀
-      → v ≡ max (of l (j + 1)) (totalFrom least (of bids (row + j)) j amount)
-      → Renewed (j + 1) (raisedBy bids row amount least l₀) l₀ (set l (j + 1) v)
-  unfolding raisedBy
-  raised-turn least {j} h b e =
-      renewed-turn h b (e ∙ ap (λ top. max top (totalFrom least (of bids (row + j)) j amount)) (renewed-next h))
+pub raised-turn :
+    (row : List ℕ) (amount least : ℕ) {l₀ l : List ℕ} {j top v : ℕ} → Renewed j (raisedBy row amount least l₀) l₀ l
+    → j + 1 < length l₀ → top ≡ of l (j + 1) → v ≡ max top (totalFrom least (of row j) j amount)
+    → Renewed (j + 1) (raisedBy row amount least l₀) l₀ (set l (j + 1) v)
+unfolding raisedBy
+raised-turn row amount least {j = j} h b q e =
+    renewed-turn h b (e ∙ ap (λ x. max x (totalFrom least (of row j) j amount)) (q ∙ renewed-next h))
 
-  pub raised-from :
-      {m least least′ : ℕ} → least ≡ least′ → Renewed m (raisedBy bids row amount least l₀) l₀ l
-      → Renewed m (raisedBy bids row amount least′ l₀) l₀ l
-  raised-from e h = rw (← e) h
-
-pub row-part : {bids : List ℕ} {row m k : ℕ} → Row bids row m → k ≤ m → Row bids row k
-row-part r l = record {
-  few = omega (arith, r .few);
-  inside = omega (arith, r .inside);
-  bid-most = λ j lj. r .bid-most j (omega arith);
-}
+-- a row as the view shows it
+pub raised-as-shown :
+    (amount c seat : ℕ) {row row′ : List ℕ} {m least : ℕ} {l₀ l : List ℕ} → row ≡ row′ → length row′ ≡ m
+    → least ≡ leastRank row c seat → Renewed (length row) (raisedBy row amount least l₀) l₀ l
+    → Renewed m (raisedBy row′ amount (leastRank row′ c seat) l₀) l₀ l
+raised-as-shown amount c seat shown row-long e h = rw (← row-long, ← shown, ← e) h
 
 -- all rows
 module _ (amounts bids chosen : List ℕ) {m c : ℕ} (rows : Rows amounts bids chosen m c) where
@@ -55,7 +51,7 @@ module _ (amounts bids chosen : List ℕ) {m c : ℕ} (rows : Rows amounts bids 
   unfolding passedOver passedAt
   passed-low n j ln lj = greatest-le n _ maxTotal (λ i li.
       let lg : i < length amounts = omega arith in
-      total-from-low _ _ _ _ (rows .row i lg .bid-most j lj) (rows .amount-most i lg))
+      total-from-low _ _ _ _ (rows .row i lg .bid-most j (omega (arith, rows .row-long i lg))) (rows .amount-most i lg))
 
   pub passed-none : {l : List ℕ} → l ≡ list (maxStations + 1) (λ _. 0) → m ≤ maxStations → Renewed m (passed 0) l l
   unfolding passedOver greatest
@@ -75,14 +71,13 @@ module _ (amounts bids chosen : List ℕ) {m c : ℕ} (rows : Rows amounts bids 
 
     pub passed-turn :
         {l′ : List ℕ}
-        → Renewed m (raisedBy bids (n * m) (of amounts n) (leastRank bids (n * m) c (of chosen n)) l) l l′
+        → let row = rowOf bids m (n + 1) in
+        Renewed m (raisedBy row (of amounts n) (leastRank row c (of chosen n)) l) l l′
         → Renewed m (passed (n + 1)) l₀ l′
     unfolding raisedBy passedOver passedAt greatest
     passed-turn k = renewed-as (passed (n + 1))
-        (λ j lj. ap (λ x. max x (passedAt amounts bids chosen m c n j)) (h .stations j lj) ∙ step j) (renewed-again h k)
-      where
-        step : (j : ℕ) → max (passed n j) (passedAt amounts bids chosen m c n j) ≡ passed (n + 1) j
-        step j = rw add-one refl
+        (λ j lj. ap (λ x. max x (passedAt amounts bids chosen m c n j)) (h .stations j lj)
+        ∙ sym (ap (λ k. passed k j) (add-one n))) (renewed-again h k)
 
     pub passed-end : n ≤ length amounts → length amounts ≤ n → Renewed m (passed (length amounts)) l₀ l
     passed-end within b = rw (le-antisymm b within) h
@@ -105,12 +100,16 @@ module _ (t : Tables) {c : ℕ} (p : Priced t c) {chosen : List ℕ} (seats : Se
   seat-most i li (suc j) e = seats .candidates i j li e .0
 
   pub rows-known : Rows (t .amounts) (t .bids) chosen m c
+  unfolding bidAt
   rows-known = record {
-    row = λ i li. record {
-      few = p .within .shape .stations-most;
-      inside = omega (arith, p .within .shape .bids-length, mul-le-mul-right m li);
-      bid-most = λ j lj. p .within .bid-most _ (omega (arith, p .within .shape .bids-length, in-table n m i j li lj));
-    };
+    row = λ i li. let (row-long, shows) = row-shows t (p .within) i li in
+        record {
+          few = omega (arith, row-long, p .within .shape .stations-most);
+          bid-most = λ j lj. let lm : j < m = omega (arith, row-long) in
+              rw (shows j lm)
+              (p .within .bid-most _ (omega (arith, p .within .shape .bids-length, in-table n m i j li lm)));
+        };
+    row-long = λ i li. row-shows t (p .within) i li .0;
     amount-most = p .within .amount-most;
     cut-most = p .cut-low;
     chosen-long = seats .long;

@@ -83,24 +83,24 @@ by-quotient x least y lx ll = ⊎-elim
 
 module _ (least bid j amount : ℕ) (bid-most : bid ≤ maxPrice) where
   pub total-by-quotient :
-      least < 2 ^ 31
-      → (bid * 64 + (63 - j) + 2_147_483_648 - least) / 2_147_483_648 * (bid * amount) ≡ totalFrom least bid j amount
+      {total : ℕ} → least < 2 ^ 31 → total ≡ bid * amount
+      → (bid * 64 + (63 - j) + 2_147_483_648 - least) / 2_147_483_648 * total ≡ totalFrom least bid j amount
   unfolding totalFrom rank
-  total-by-quotient l = by-quotient (bid * 64 + (63 - j)) least (bid * amount) (omega arith) l
+  total-by-quotient l e = rw e (by-quotient (bid * 64 + (63 - j)) least (bid * amount) (omega arith) l)
 
   pub total-from-low : amount ≤ maxAmount → totalFrom least bid j amount ≤ maxTotal
   unfolding totalFrom
   total-from-low l = only-le _ _ _ (λ _. product bid amount bid-most l)
 
 -- a row's least rank, as the code has it
-module _ (bids : List ℕ) (row c : ℕ) where
-  pub least-of-none : {seat : ℕ} → seat ≡ 0 → c * 64 ≡ leastRank bids row c seat
+module _ (row : List ℕ) (c : ℕ) where
+  pub least-of-none : {seat : ℕ} → seat ≡ 0 → c * 64 ≡ leastRank row c seat
   unfolding leastRank
   least-of-none e = rw e refl
 
   pub least-of-seat :
       (seat : ℕ) → (seat ≡ 0 → ⊥) → seat ≤ maxStations
-      → of bids (row + (seat - 1)) * 64 + (65 - seat) ≡ leastRank bids row c seat
+      → of row (seat - 1) * 64 + (65 - seat) ≡ leastRank row c seat
   unfolding leastRank rank
   least-of-seat zero some few = absurd (some refl)
   least-of-seat (suc l) some few = let same : suc l - 1 ≡ l = omega arith in rw same (omega arith)

@@ -1,14 +1,17 @@
--- An accepted market's lists, and the tickets that differ.
-use Prim.Native.Nat.{ℕ}
+-- An accepted market's lists, their rows, and the tickets that differ.
+use Prim.Native.Nat.{ℕ, _+_, _<_}
 use mathlib.Core.List.{List}
+use mathlib.Core.Path.{_≡_}
 use native.Mathlib.Omega.{arith}
 use lib.ListN.{length}
-use Rattle.model.specs.market.Market.{Tables}
+use Rattle.model.specs.contracts.Rows.{rowOf}
+use Rattle.model.specs.market.Market.{Tables, bidAt}
 use Rattle.allocation.specs.Screens.{screenedAt}
 use Rattle.model.specs.claims.Meaning.{WithinLimits}
-use Rattle.model.proofs.market.Acceptance.{same-place}
+use Rattle.model.proofs.contracts.Rows.{rows-show-bids}
+use Rattle.model.proofs.market.Acceptance.{same-place, accepted-iff-within-limits}
 use Rattle.model.proofs.market.Truthful.{Keys}
-use Rattle.quiet.specs.Efficient.{stated, Listed}
+use Rattle.quiet.specs.Efficient.{of, stated, Listed}
 
 pub listed : (t : Tables) → WithinLimits t → Listed (t .amounts) (t .tickets) (t .bids) (length (t .asks))
 listed t w = record {
@@ -18,6 +21,15 @@ listed t w = record {
   amount-most = w .amount-most;
   differ = w .tickets-differ;
 }
+
+-- a guest's row is as long as there are stations, and shows its bid at each
+pub row-shows :
+    (t : Tables) → WithinLimits t → (i : ℕ) → i < length (t .amounts)
+    → let row = rowOf (t .bids) (length (t .asks)) (i + 1) in
+    (length row ≡ length (t .asks)) × ((j : ℕ) → j < length (t .asks) → of row j ≡ bidAt t i j)
+unfolding bidAt
+row-shows t w i li =
+    rw (w .shape .width-is) at (rows-show-bids t (accepted-iff-within-limits t .1 w) i li)
 
 pub keys : (t : Tables) (c : ℕ) → WithinLimits t → Keys ((screenedAt t c) .key) ((screenedAt t c) .guestCount)
 unfolding screenedAt

@@ -90,17 +90,16 @@ module _ (t : Tables) {c x : ℕ} where
 -- ---- calling up
 
 module _ (t : Tables) {c : ℕ} {called : List ℕ} {R : Seating} (h : Called t c called R) where
-  pub call-waits : {x : ℕ} → x < length called → of called x ≡ 0 → Waits t (R .chosen) x
+  pub call-waits : {x : ℕ} → x < length (t .amounts) → of called x ≡ 0 → Waits t (R .chosen) x
   unfolding screenedAt
-  call-waits {x} l z = let lx : x < length (t .amounts) = omega (arith, h .called-long) in
-      (lx, h .serving .waiting x lx z)
+  call-waits {x} lx z = (lx, h .serving .waiting x lx z)
 
   -- x was served
   pub call-served :
-      {x : ℕ} {R′ : Seating} → x < length called
+      {x : ℕ} {R′ : Seating} → x < length (t .amounts)
       → HeldIn t c R′ × Served (screenedAt t c) x (of (R .chosen)) 0 (of (R′ .chosen))
       → Called t c (set called x 1) R′ × CalledToo (length (t .amounts)) x called (set called x 1)
-  call-served {x} l (h′, s) = (
+  call-served {x} lx (h′, s) = let l : x < length called = omega (arith, h .called-long) in (
     record {
       called-long = length-set called x 1 ∙ h .called-long;
       held-in = h′;
@@ -117,16 +116,11 @@ module _ (t : Tables) {c : ℕ} {called : List ℕ} {R : Seating} (h : Called t 
         w,
   )
 
-  -- x was called up before, or is no guest
+  -- x was called up before
   pub call-again :
       {x : ℕ} → (of called x ≡ 0 → ⊥) → Called t c called R × CalledToo (length
       (t .amounts)) x called called
   call-again {x} c = (h, λ k lk w z. ⊎-elim (λ (e : k ≡ x). c (ap (of called) (sym e) ∙ z)) (λ d. d z) w)
-
-  pub call-nobody :
-      {x : ℕ} → length called ≤ x → Called t c called R × CalledToo (length (t .amounts)) x called called
-  call-nobody {x} l =
-      (h, λ k lk w z. ⊎-elim (λ (e : k ≡ x). omega (arith, h .called-long)) (λ d. d z) w)
 
 -- the first g guests are called up
 pub record AllCalled (t : Tables) (c : ℕ) (g : ℕ) (called : List ℕ) (R : Seating) : Type 0 where

@@ -9,22 +9,20 @@ use native.Mathlib.Omega.{arith}
 use lib.ListN.{length}
 use Rattle.model.specs.Limits.{maxPrice, maxAmount}
 use Rattle.model.specs.Counting.{_<?_, _≤?_, _and_, _or_, only}
+use Rattle.model.specs.contracts.Rows.{rowOf}
 use Rattle.model.specs.market.Market.{Tables, Screened, bidAt}
-use Rattle.model.specs.market.Mechanism.{best}
 use Rattle.allocation.specs.Screens.{screenedAt}
-use Rattle.model.specs.market.Stable.{sooner}
 use Rattle.model.proofs.Tests.{decide, clash, both, first, second, only-yes, only-no, only-le, same-test, or-left}
 use Rattle.model.proofs.Tests.{or-skip}
 use Rattle.model.proofs.Tests.{lt-yes, le-yes, is-lt, not-lt, is-le, not-le, lt-or-le}
-use Rattle.model.proofs.Loops.{in-table}
 use Rattle.model.proofs.market.Choice.{best-holds, best-best, best-lowest, best-cong}
 use Rattle.allocation.specs.Totals.{maxTotal}
-use Rattle.quiet.specs.Efficient.{Priced, of, product, takes, bestTaker}
+use Rattle.quiet.specs.Efficient.{Priced, of, takes, bestTaker}
 use Rattle.allocation.specs.Ties.{lastTicket}
 use Rattle.quiet.specs.Seating.{priority, Opened, Bars, passes, bestPast, choice, noChoice}
 use Rattle.quiet.specs.Seating.{IsChoice, TopChoice, stationIn, barOf, Seating, HeldIn}
 use Rattle.quiet.proofs.standing.Standing.{product-low, priority-sooner, priority-low}
-use Rattle.quiet.proofs.seats.Listing.{listed}
+use Rattle.quiet.proofs.seats.Listing.{listed, row-shows}
 
 -- ---- bars
 
@@ -214,40 +212,38 @@ module _ (t : Tables) {c : ℕ} (p : Priced t c) {x : ℕ} (lx : x < length (t .
       mul-le-mul (p .cut-low) (mul-le-mul (p .within .amount-most x lx) (le-refl (2 ^ 32))) in
       omega arith
 
-  pub in-bids : {j : ℕ} → j < length (t .asks) → x * length (t .asks) + j < length (t .bids)
-  in-bids {j} lj =
-      omega (arith, p .within .shape .bids-length, in-table (length (t .amounts)) (length (t .asks)) x j lx lj)
+  -- the row that the view shows is as long as there are stations
+  pub in-row : {row : List ℕ} → row ≡ rowOf (t .bids) (length (t .asks)) (x + 1) → length row ≡ length (t .asks)
+  in-row shown = ap length shown ∙ row-shows t (p .within) x lx .0
 
-  module _ {j scale : ℕ} (lj : j < length (t .asks)) (e : scale ≡ of (t .amounts) x * 2 ^ 32) where
-    abbrev bid : ℕ
-    bid = of (t .bids) (x * length (t .asks) + j)
+  module _ {row : List ℕ} {j scale : ℕ} (shown : row ≡ rowOf (t .bids) (length (t .asks)) (x + 1))
+      (lj : j < length (t .asks)) (e : scale ≡ of (t .amounts) x * 2 ^ 32) where
+    scaled : of row j * scale ≡ bidAt t x j * of (t .amounts) x * 2 ^ 32
+    scaled = ap₂ _*_ (ap (λ l. of l j) shown ∙ row-shows t (p .within) x lx .1 j lj) e ∙ omega arith
 
-    scaled : bid * scale ≡ bid * of (t .amounts) x * 2 ^ 32
-    scaled = ap (λ y. bid * y) e ∙ omega arith
-
-    pub total-low : bid * scale ≤ maxTotal * 2 ^ 32
+    pub total-low : of row j * scale ≤ maxTotal * 2 ^ 32
+    unfolding bidAt
     total-low =
-        let low : bid * of (t .amounts) x ≤ maxTotal = product-low (listed t (p .within)) lx lj refl in
+        let low : bidAt t x j * of (t .amounts) x ≤ maxTotal = product-low (listed t (p .within)) lx lj refl in
         omega (arith, scaled)
 
     pub choice-here : {low : ℕ} (bar top : ℕ) {r : ℕ} → low ≡ lastTicket - of (t .tickets) x
-        → r ≡ max top (only (bar ≤? bid * scale + low) (bid * scale + (64 - j)))
+        → r ≡ max top (only (bar ≤? of row j * scale + low) (of row j * scale + (64 - j)))
         → r ≡ max top (only (bar ≤? priority (screenedAt t c) x j) (choice (screenedAt t c) x j))
-    unfolding priority choice screenedAt bidAt
+    unfolding priority choice screenedAt
     choice-here bar top f q =
         q ∙ ap₂ (λ y z. max top (only (bar ≤? y) z)) (ap₂ _+_ scaled f) (ap (λ y. y + (64 - j)) scaled)
 
-    -- where the station is open, who is no candidate has no choice
-    pub below-cut : of (t .asks) j < c → (screenedAt t c) .candidate x j ≡ false
-        → choice (screenedAt t c) x j < noChoice (screenedAt t c) x
-    unfolding choice noChoice screenedAt bidAt
-    below-cut ask none = ⊎-elim
-        (λ (l : bid < c).
-        let less : suc bid * of (t .amounts) x ≤ c * of (t .amounts) x = mul-le-mul l (le-refl _) in
-        omega (arith, p .within .amount-least x lx))
-        (λ (l : c ≤ bid).
-        absurd (clash (both (is-lt _ _ ask) (is-le _ _ l)) none))
-        (lt-or-le bid c)
+  -- where the station is open, who is no candidate has no choice
+  pub below-cut : (j : ℕ) → of (t .asks) j < c → (screenedAt t c) .candidate x j ≡ false
+      → choice (screenedAt t c) x j < noChoice (screenedAt t c) x
+  unfolding choice noChoice screenedAt
+  below-cut j ask none = ⊎-elim
+      (λ (l : bidAt t x j < c).
+      let less : suc (bidAt t x j) * of (t .amounts) x ≤ c * of (t .amounts) x = mul-le-mul l (le-refl _) in
+      omega (arith, p .within .amount-least x lx))
+      (λ (l : c ≤ bidAt t x j). absurd (clash (both (is-lt _ _ ask) (is-le _ _ l)) none))
+      (lt-or-le (bidAt t x j) c)
 
   pub best-end :
       {bar : ℕ → ℕ} {top q : ℕ} {opened : List ℕ} → Opened (t .asks) c opened

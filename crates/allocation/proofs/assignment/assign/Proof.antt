@@ -1,7 +1,7 @@
 use borrow.Author.Needs.{needs}
 use Rattle.model.specs.market.Market.{regular}
 use Rattle.model.proofs.market.Outcomes.{of-truthful}
-use Rattle.allocation.proofs.assignment.Assignment.{truthfully, chargeable, assigned, bars}
+use Rattle.allocation.proofs.assignment.Assignment.{truthfully, chargeable, assigned}
 use Rattle.allocation.proofs.assignment.assign.Statement.{statement}
 use Rattle.allocation.proofs.assignment.assign.Tie as tie
 
@@ -37,8 +37,10 @@ returns c =
       assigned (regular _ _ _ _ _) (entry .pre .0) (of-truthful _)
           (truthfully _ _ (entry .pre .0 .within) (at-all-stations .all-stations .ensures .0 .after))
           (at-charge-guests .charge-guests .ensures),
-      bars (regular _ _ _ _ _) _ (entry .pre .0 .within) (at-all-stations .all-stations .ensures .0 .after)
-          (at-all-stations .all-stations .ensures .1),
+      record {
+        bounded = at-all-stations .all-stations .ensures .1;
+        criticals-are = at-all-stations .all-stations .ensures .0 .after .criticals-are;
+      },
     )
 
 pub assign-spec : {M : Type 1} → statement M

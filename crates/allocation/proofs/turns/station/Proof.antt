@@ -1,6 +1,6 @@
 use Prim.Native.Nat.{ℕ, _≤_, _<_}
 use mathlib.Core.List.{List}
-use mathlib.Core.Path.{refl, sym, _∙_}
+use mathlib.Core.Path.{_≡_, refl, sym, _∙_}
 use native.Mathlib.Omega.{arith}
 use lib.ListN.{length, getD}
 use borrow.Author.Needs.{needs}
@@ -10,6 +10,7 @@ use Rattle.model.proofs.Tests.{lt-yes, lt-no}
 use Rattle.model.proofs.Loops.{long}
 use Rattle.allocation.specs.Totals.{Totals, totalAt, Gathered}
 use Rattle.allocation.specs.Stages.{gatheredIf, turnTotals}
+use Rattle.allocation.proofs.selection.Selection.{selected-low}
 use Rattle.allocation.proofs.ties.Ties.{crowded}
 use Rattle.allocation.proofs.turns.Turns.{offerable, all-low, none-above, top-low, critical-low}
 use Rattle.allocation.proofs.turns.Turns.{after-closed, bounded-closed, after-open-turn, bounded-open}
@@ -93,7 +94,11 @@ narrow-requires c κs =
     let at-critical = c .before .before in
     let at-gather = gather-before-critical at-critical in
     let g = at-gather .gather .ensures in
-    omega (arith, critical-low g (low at-gather g) (at-critical .critical-total .ensures))
+    omega (arith, selected-low (at-critical .critical-total .ensures) (none-above g), top-low g (low at-gather g))
+
+-- what is stored is the critical total
+stored : (c : tie.After-narrow) → c .narrow .result ≡ c .before .before .before .critical-total .result .total .0
+stored c = c .narrow .ensures
 
 mul-criticals : tie.Need-mul-criticals
 mul-criticals c = omega (arith, numbered (c .before .before .before))
@@ -148,7 +153,7 @@ returns c =
     let entry = entry-before-below at-below in
     let g = at-gather .gather .ensures in
     let critical = at-critical .critical-total .ensures in (
-      rw (at-narrow .narrow .ensures) (after-open-turn (regular _ _ _ _ _) _ _ (entry .pre .0) _
+      rw (stored at-narrow) (after-open-turn (regular _ _ _ _ _) _ _ (entry .pre .0) _
           (entry .pre .1 .1 .0 .0) (opened at-gather)
           _ (g .totals-are) _ _ _ refl (critical .least-few)
           (rw (← critical .counted) (at-tie-bound .tie-bound .ensures)) _ refl (entry .pre .1 .1 .1 .0)

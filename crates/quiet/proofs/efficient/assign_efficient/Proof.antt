@@ -6,6 +6,7 @@ use Rattle.model.specs.market.Market.{regular}
 use Rattle.model.proofs.Loops.{zeros-long}
 use Rattle.quiet.proofs.efficient.Start.{none-called}
 use Rattle.quiet.proofs.criticals.Criticals.{seats-known}
+use Rattle.quiet.proofs.line.Line.{line-of-zeros}
 use Rattle.quiet.proofs.efficient.assign_efficient.Statement.{statement}
 use Rattle.quiet.proofs.efficient.assign_efficient.Tie as tie
 
@@ -88,7 +89,7 @@ serve-all-requires c κs =
     let at-buckets = buckets-before-call c in
     let entry = entry-before-buckets at-buckets in
     let within = entry .pre .0 .within in
-    let room = sym (zeros-long maxGuests _ (within .shape .guests-most)) in (
+    let room = line-of-zeros maxGuests _ (within .shape .guests-most) in (
       (entry .pre .0, open-before-buckets at-buckets .open-stations .ensures .0),
       (none-called (regular _ _ _ _ _) within (entry .pre .1 .0) _, (refl, room, room)),
     )

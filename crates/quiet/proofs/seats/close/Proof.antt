@@ -17,27 +17,27 @@ cast-lasts c =
     let entry = entry-before-holder c in
     omega (arith, last-of-guest (c .last-holder .ensures), entry .pre .0 .3)
 
-priority-requires : tie.Need-priority-requires
-priority-requires c κs =
+priority-at-requires : tie.Need-priority-at-requires
+priority-at-requires c κs =
     let entry = entry-before-holder c in
     (entry .pre .0 .0, (last-of-guest (c .last-holder .ensures), entry .pre .0 .1))
 
 add-bars : tie.Need-add-bars
 add-bars c =
-    let at-holder = c .before in
+    let at-holder = c .before .before in
     let entry = entry-before-holder at-holder in
     omega (
       arith,
-      c .priority .ensures,
+      c .before .priority-at .ensures,
       stated-low (entry .pre .0 .0) (last-of-guest (at-holder .last-holder .ensures)) (entry .pre .0 .1),
     )
 
 mul-bars : tie.Need-mul-bars
-mul-bars c = let entry = entry-before-holder (c .before) in omega (arith, entry .pre .0 .1, entry .pre .0 .4)
+mul-bars c = let entry = entry-before-holder (c .before .before) in omega (arith, entry .pre .0 .1, entry .pre .0 .4)
 
 returns : tie.Need-returns
 returns c =
-    let at-holder = c .before in
+    let at-holder = c .before .before in
     let entry = entry-before-holder at-holder in
     record {
       guest = at-holder .last-holder .result .guest;
@@ -45,11 +45,12 @@ returns c =
       last = at-holder .last-holder .ensures;
       lasts-are = refl;
       befores-are = refl;
-      bars-are = ap (set (entry .args .bars .now) (entry .args .j)) (add-one _ ∙ ap suc (c .priority .ensures));
+      bars-are =
+          ap (set (entry .args .bars .now) (entry .args .j)) (add-one _ ∙ ap suc (c .before .priority-at .ensures));
     }
 
 pub close-spec : {M : Type 1} → statement M
 close-spec =
     tie.close (tie.spec (λ c. search needs) (λ c κs. search needs) cast-lasts (λ c. search needs) (λ c. search needs)
-    priority-requires add-bars mul-bars (λ c. search needs) (λ c. search needs) (λ c. search needs)
+    priority-at-requires add-bars mul-bars (λ c. search needs) (λ c. search needs) (λ c. search needs)
     (λ c. search needs) returns)

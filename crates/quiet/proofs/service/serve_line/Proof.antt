@@ -3,9 +3,9 @@ use mathlib.Core.Path.{sym, _∙_}
 use native.Mathlib.Nat.{zero-sub}
 use native.Mathlib.Omega.{arith}
 use lib.ListN.{length}
-use borrow.Author.Needs.{needs}
 use Rattle.model.specs.market.Market.{regular}
 use Rattle.quiet.specs.Seating.{seating}
+use Rattle.quiet.proofs.line.Line.{line-as-long}
 use Rattle.quiet.proofs.service.Service.{AllCalled, all-called-none, all-called-turn, all-called-end}
 use Rattle.quiet.proofs.service.serve_line.Statement.{statement}
 use Rattle.quiet.proofs.service.serve_line.Tie as tie
@@ -41,18 +41,25 @@ loop-holds c =
 mul-loop : tie.Need-mul-loop Inv-loop μ-loop
 mul-loop c =
     let entry = entry-before-first-turn (c .before) in
-    omega (arith, entry .pre .1 .1, entry .pre .0 .0 .within .shape .guests-most)
+    omega (arith, entry .pre .1 .1 .long, entry .pre .0 .0 .within .shape .guests-most)
+
+turn-requires : tie.Need-turn-requires Inv-loop μ-loop
+turn-requires c κs =
+    let line = entry-before-first-turn (c .before .before) .pre .1 .1 in
+    (line-as-long (sym (line .long)) line, c .loop-test .taken)
 
 call-up-requires : tie.Need-call-up-requires Inv-loop μ-loop
 call-up-requires c κs =
-    let at-loop = turn-before-call c .before .before in
-    (entry-before-first-turn (at-loop .before) .pre .0, at-loop .loop .inv .calling)
+    let at-turn = turn-before-call c in
+    let at-loop = at-turn .before .before in
+    let (priced, (_, line)) = entry-before-first-turn (at-loop .before) .pre in
+    (priced, (at-loop .loop .inv .calling, omega (arith, at-turn .turn .ensures .0, line .long)))
 
 add-r : tie.Need-add-r Inv-loop μ-loop
 add-r c =
     let in-loop = turn-before-call (call-before-next-turn c .before) .before in
     let entry = entry-before-first-turn (in-loop .before .before) in
-    omega (arith, in-loop .loop-test .taken, entry .pre .1 .1, entry .pre .0 .0 .within .shape .guests-most)
+    omega (arith, in-loop .loop-test .taken, entry .pre .1 .1 .long, entry .pre .0 .0 .within .shape .guests-most)
 
 loop-less : tie.Need-loop-less Inv-loop μ-loop
 loop-less c =
@@ -65,8 +72,8 @@ loop-again c =
     let at-turn = turn-before-call (at-call .before) in
     let in-loop = at-turn .before in
     let entry = entry-before-first-turn (in-loop .before .before) in
-    all-called-turn (in-loop .before .loop .inv) (omega (arith, in-loop .loop-test .taken, entry .pre .1 .1))
-    (rw (entry .pre .1 .1) at (at-turn .turn .ensures)) (at-call .call-up .ensures)
+    all-called-turn (in-loop .before .loop .inv) (omega (arith, in-loop .loop-test .taken, entry .pre .1 .1 .long))
+    (rw (entry .pre .1 .1 .long) at (at-turn .turn .ensures .1)) (at-call .call-up .ensures)
 
 same-length : tie.Need-same-length Inv-loop μ-loop
 same-length c =
@@ -111,10 +118,10 @@ same-length-8 c =
 returns : tie.Need-returns Inv-loop μ-loop
 returns c =
     let entry = entry-before-first-turn (c .before .before) in
-    all-called-end (c .before .loop .inv) (omega (arith, c .loop-test .left, entry .pre .1 .1))
+    all-called-end (c .before .loop .inv) (omega (arith, c .loop-test .left, entry .pre .1 .1 .long))
 
 pub serve-line-spec : {M : Type 1} → statement M
 serve-line-spec =
-    tie.close (tie.spec Inv-loop μ-loop loop-holds mul-loop (λ c κs. search needs) call-up-requires add-r loop-less
+    tie.close (tie.spec Inv-loop μ-loop loop-holds mul-loop turn-requires call-up-requires add-r loop-less
     loop-again same-length same-length-2 same-length-3 same-length-4 same-length-5 same-length-6 same-length-7
     same-length-8 returns)

@@ -4,13 +4,17 @@ use Rattle.quiet.proofs.takers.Takers.{passed-is, passed-low}
 use Rattle.quiet.proofs.takers.passed.Statement.{statement}
 use Rattle.quiet.proofs.takers.passed.Tie as tie
 
-mul-result : tie.Need-mul-result
-mul-result c =
-    let (low, bar-low) = c .pre in
-    omega (arith, passed-low (c .args .priority) (c .args .bar) (c .args .x) low bar-low)
+mul-choice : tie.Need-mul-choice
+mul-choice c =
+    let entry = c .before .before .before in
+    let (low, bar-low) = entry .pre in
+    omega (arith, passed-low (entry .args .priority .0) (entry .args .bar .0) (entry .args .x .0) low bar-low)
 
 returns : tie.Need-returns
-returns c = let (low, bar-low) = c .pre in passed-is (c .args .priority) (c .args .bar) (c .args .x) low bar-low
+returns c =
+    let entry = c .before .before .before in
+    let (low, bar-low) = entry .pre in
+    passed-is (entry .args .priority .0) (entry .args .bar .0) (entry .args .x .0) low bar-low
 
 pub passed-spec : {M : Type 1} → statement M
-passed-spec = tie.close (tie.spec (λ c. search needs) (λ c. search needs) mul-result returns)
+passed-spec = tie.close (tie.spec (λ c. search needs) (λ c. search needs) mul-choice returns)

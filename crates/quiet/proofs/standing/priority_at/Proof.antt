@@ -5,8 +5,8 @@ use lib.ListN.{getD}
 use borrow.Author.Needs.{needs}
 use Rattle.allocation.specs.Totals.{maxTotal}
 use Rattle.quiet.proofs.standing.Standing.{product-low, priority-stated}
-use Rattle.quiet.proofs.standing.priority.Statement.{statement}
-use Rattle.quiet.proofs.standing.priority.Tie as tie
+use Rattle.quiet.proofs.standing.priority_at.Statement.{statement}
+use Rattle.quiet.proofs.standing.priority_at.Tie as tie
 
 abbrev entry-before-product : tie.After-product-at → tie.Start
 entry-before-product p = p .before .before .before .before
@@ -23,14 +23,14 @@ bounds c =
       omega (arith, c .before .shared-slice-known4 .given (entry .args .i)),
     )
 
-mul-result : tie.Need-mul-result
-mul-result c = omega (arith, bounds c .0)
+mul-priority : tie.Need-mul-priority
+mul-priority c = omega (arith, bounds c .0)
 
-sub-result : tie.Need-sub-result
-sub-result c = omega (arith, bounds c .1)
+sub-priority : tie.Need-sub-priority
+sub-priority c = omega (arith, bounds c .1)
 
-add-result : tie.Need-add-result
-add-result c = omega (arith, bounds c .0, bounds c .1)
+add-priority : tie.Need-add-priority
+add-priority c = omega (arith, bounds c .0, bounds c .1)
 
 returns : tie.Need-returns
 returns c =
@@ -39,7 +39,7 @@ returns c =
     priority-stated (entry .args .amounts .now) (entry .args .tickets .now) (entry .args .bids .now) (entry .args .m)
     (entry .args .i) (entry .args .j) (at-product .product-at .ensures) refl
 
-pub priority-spec : {M : Type 1} → statement M
-priority-spec =
-    tie.close (tie.spec (λ c κs. search needs) (λ c. search needs) (λ c. search needs) mul-result sub-result
-    (λ c. search needs) add-result returns)
+pub priority-at-spec : {M : Type 1} → statement M
+priority-at-spec =
+    tie.close (tie.spec (λ c κs. search needs) (λ c. search needs) (λ c. search needs) mul-priority sub-priority
+    (λ c. search needs) add-priority returns)
