@@ -18,7 +18,8 @@ use Rattle.model.specs.market.Mechanism.{charged}
 use Rattle.model.specs.market.Outcome.{screened, decision}
 use Rattle.model.specs.market.Faults.{unknownRule, counts, lengths, values, explainedLengths, explainedFaults}
 use Rattle.model.specs.market.Faults.{Accepted, explainingFaults}
-use Rattle.model.specs.market.Reasons.{codes, Told, tellings, outcomeLengths, guestOutcomes, Shown, shownAs}
+use Rattle.model.specs.market.Reasons.{codes, OutcomeTable, outcomeTable, outcomeLengths, guestOutcomes}
+use Rattle.model.specs.market.Reasons.{Explanation, explanation}
 use Rattle.model.specs.market.Rules.{ruleOf}
 use Rattle.model.specs.contracts.EntryPoints.{explaining}
 use Rattle.model.specs.Promises.{Keeps, RepliesOut}
@@ -37,7 +38,7 @@ use Rattle.model.proofs.claims.Reasons.{explaining-within, charge-at}
 use Rattle.model.proofs.claims.Truth.{clearing-limits}
 use Rattle.explain.specs.Explained.{ExplainedBy}
 use Rattle.explain.specs.Outcomes.{recordOf, mills, recordAt}
-use Rattle.explain.specs.declared.explained.Telling.{Telling}
+use Rattle.explain.specs.declared.explained.OutcomeArrays.{OutcomeArrays}
 use Rattle.explain.proofs.Answers.{charge-held, shows-station, shows-charge, shows-loss, outcomes-long}
 use Rattle.bay_market.specs.LaidOut.{FirstPlaces, LaidOut}
 use Rattle.bay_market.proofs.Told.{replied}
@@ -70,48 +71,50 @@ charge-low station charge loss = ⊎-elim
     (λ (e : (loss =? 0) ≡ false). rw e (omega arith))
     (decide (loss =? 0))
 
-pub record-low : (e : Telling) (i : ℕ) → chargeOf (recordAt e i .result) ≤ getD (e .charges) i 0
+pub record-low : (e : OutcomeArrays) (i : ℕ) → chargeOf (recordAt e i .result) ≤ getD (e .charges) i 0
 unfolding recordAt
 record-low e i = omega (
   arith,
   charge-low (only (i <? maxGuests) (getD (e .stations) i 0)) (mills (only (i <? maxGuests) (getD (e .charges) i 0)))
-      (only (i <? maxGuests) (getD (e .losses) i 0)),
+      (only (i <? maxGuests) (getD (e .reasons) i 0)),
   only-le (i <? maxGuests) (getD (e .charges) i 0) (getD (e .charges) i 0) (λ _. le-refl _),
 )
 
 -- the records of the first i guests are laid out
-pub record Laying (e : Telling) (stations₀ charges₀ losses₀ stations charges losses : List ℕ) (i : ℕ) : Type 0 where
+pub record Laying (e : OutcomeArrays) (stations₀ charges₀ reasons₀ stations charges reasons : List ℕ)
+    (i : ℕ) : Type 0 where
   pub within : i ≤ e .guests
   pub stations-are : Filled (λ k. stationOf (recordAt e k .result)) stations₀ stations i
   pub charges-are : Filled (λ k. chargeOf (recordAt e k .result)) charges₀ charges i
-  pub losses-are : Filled (λ k. lossOf (recordAt e k .result)) losses₀ losses i
+  pub reasons-are : Filled (λ k. lossOf (recordAt e k .result)) reasons₀ reasons i
 
 pub laying-none :
-    {e : Telling} {stations charges losses : List ℕ} → Laying e stations charges losses stations charges losses 0
+    {e : OutcomeArrays} {stations charges reasons : List ℕ}
+    → Laying e stations charges reasons stations charges reasons 0
 laying-none =
-    record { within = omega arith; stations-are = filled-none; charges-are = filled-none; losses-are = filled-none }
+    record { within = omega arith; stations-are = filled-none; charges-are = filled-none; reasons-are = filled-none }
 
 pub laying-turn :
-    {e : Telling} {stations₀ charges₀ losses₀ stations charges losses : List ℕ} {i s c l : ℕ} {o : GuestOutcome}
-    → Laying e stations₀ charges₀ losses₀ stations charges losses i → i < e .guests → e .guests ≤ length stations₀
-    → e .guests ≤ length charges₀ → e .guests ≤ length losses₀ → o ≡ recordAt e i → s ≡ stationOf (o .result)
+    {e : OutcomeArrays} {stations₀ charges₀ reasons₀ stations charges reasons : List ℕ} {i s c l : ℕ} {o : GuestOutcome}
+    → Laying e stations₀ charges₀ reasons₀ stations charges reasons i → i < e .guests → e .guests ≤ length stations₀
+    → e .guests ≤ length charges₀ → e .guests ≤ length reasons₀ → o ≡ recordAt e i → s ≡ stationOf (o .result)
     → c ≡ chargeOf (o .result) → l ≡ lossOf (o .result)
-    → Laying e stations₀ charges₀ losses₀ (set stations i s) (set charges i c) (set losses i l) (i + 1)
+    → Laying e stations₀ charges₀ reasons₀ (set stations i s) (set charges i c) (set reasons i l) (i + 1)
 laying-turn h b x y z q es ec el = record {
   within = omega arith;
   stations-are = filled-more (h .stations-are) (omega arith) (es ∙ ap (λ (r : GuestOutcome). stationOf (r .result)) q);
   charges-are = filled-more (h .charges-are) (omega arith) (ec ∙ ap (λ (r : GuestOutcome). chargeOf (r .result)) q);
-  losses-are = filled-more (h .losses-are) (omega arith) (el ∙ ap (λ (r : GuestOutcome). lossOf (r .result)) q);
+  reasons-are = filled-more (h .reasons-are) (omega arith) (el ∙ ap (λ (r : GuestOutcome). lossOf (r .result)) q);
 }
 
 pub laying-end :
-    {e : Telling} {stations₀ charges₀ losses₀ stations charges losses : List ℕ} {i : ℕ}
-    → Laying e stations₀ charges₀ losses₀ stations charges losses i → e .guests ≤ i
-    → LaidOut e (tellings stations₀ charges₀ losses₀) (tellings stations charges losses)
+    {e : OutcomeArrays} {stations₀ charges₀ reasons₀ stations charges reasons : List ℕ} {i : ℕ}
+    → Laying e stations₀ charges₀ reasons₀ stations charges reasons i → e .guests ≤ i
+    → LaidOut e (outcomeTable stations₀ charges₀ reasons₀) (outcomeTable stations charges reasons)
 laying-end h b = record {
   stations-are = places (h .stations-are) (h .within) b;
   charges-are = places (h .charges-are) (h .within) b;
-  losses-are = places (h .losses-are) (h .within) b;
+  reasons-are = places (h .reasons-are) (h .within) b;
 }
 
 -- ---- the length of the outcome table
@@ -168,7 +171,7 @@ charge-fits rule t a i li = rw (charge-at rule t i li) (go ((decision rule t) .a
           product (getD (t .bids) (i * length (t .asks) + j) 0) (getD (t .amounts) i 0) b (w .amount-most i li),
         )
 
-module _ (rule : ℕ) (t : Tables) (table : List ℕ) (entry : Told) (x : ℕ)
+module _ (rule : ℕ) (t : Tables) (table : List ℕ) (entry : OutcomeTable) (x : ℕ)
     (same : any (x ∷ []) (λ k. not (k =? length (t .amounts)))
     ≡ any (outcomeLengths entry) (λ k. not (k =? length (t .amounts)))) where
   abbrev v : Verdict
@@ -181,12 +184,12 @@ module _ (rule : ℕ) (t : Tables) (table : List ℕ) (entry : Told) (x : ℕ)
       ∷ lengths (length (t .amounts)) (length (t .asks)) (length (t .bays)) (length (t .tickets)) (length (t .bids))
       (t .width) ∷ ((not (length table =? length (t .amounts) * length (t .asks)) or b) gives 10) ∷ values t)) same
 
-  module _ (e : Telling) (table′ : List ℕ) (s : ExplainedBy rule t x table e table′) where
+  module _ (e : OutcomeArrays) (table′ : List ℕ) (s : ExplainedBy rule t x table e table′) where
     -- where the call is accepted, each list is n long
     all-long :
         v ≡ accepted tt
         → (length (entry .stations) ≡ length (t .amounts)) × (length (entry .charges) ≡ length (t .amounts))
-        × (length (entry .losses) ≡ length (t .amounts))
+        × (length (entry .reasons) ≡ length (t .amounts))
     all-long q =
         let fits = explaining-within rule t (length table) (x ∷ []) q .outcomes-long 0 (omega arith) in
         let none = sym same ∙ one-fits _ x fits in
@@ -200,7 +203,7 @@ module _ (rule : ℕ) (t : Tables) (table : List ℕ) (entry : Told) (x : ℕ)
     room-by :
         (w : Verdict) → v ≡ w
         → (e .guests ≤ length (entry .stations)) × (e .guests ≤ length (entry .charges))
-        × (e .guests ≤ length (entry .losses))
+        × (e .guests ≤ length (entry .reasons))
     room-by (accepted _) q =
         let guests = s .guests-are ∙ updated-accepted _ _ q in
         let (a, b, c) = all-long q in
@@ -222,10 +225,10 @@ module _ (rule : ℕ) (t : Tables) (table : List ℕ) (entry : Told) (x : ℕ)
 
     pub room :
         (e .guests ≤ maxGuests) × (e .guests ≤ length (entry .stations)) × (e .guests ≤ length (entry .charges))
-        × (e .guests ≤ length (entry .losses))
+        × (e .guests ≤ length (entry .reasons))
     room = let (a, b, c) = room-by v refl in (s .few, a, b, c)
 
-    module _ (exit : Told) (laid : LaidOut e entry exit) where
+    module _ (exit : OutcomeTable) (laid : LaidOut e entry exit) where
       left-by : (w : Verdict) → v ≡ w → exit ≡ updated w (guestOutcomes (ruleOf rule) t) entry
       unfolding updated
       left-by (accepted _) q =
@@ -234,35 +237,35 @@ module _ (rule : ℕ) (t : Tables) (table : List ℕ) (entry : Told) (x : ℕ)
           let (a, b, c) = all-long q in
           let (ls, lc, ll) = outcomes-long (ruleOf rule) t in
           let o = guestOutcomes (ruleOf rule) t in
-          λ y. tellings
+          λ y. outcomeTable
           (all-filled (o .stations) (a ∙ sym guests) (ls ∙ sym guests) (laid .stations-are)
           (λ k l. shows-station (ruleOf rule) t e (s .few) guests is k (omega arith)) y)
           (all-filled (o .charges) (b ∙ sym guests) (lc ∙ sym guests) (laid .charges-are)
           (λ k l. shows-charge (ruleOf rule) t e (s .few) guests is k (omega arith)) y)
-          (all-filled (o .losses) (c ∙ sym guests) (ll ∙ sym guests) (laid .losses-are)
+          (all-filled (o .reasons) (c ∙ sym guests) (ll ∙ sym guests) (laid .reasons-are)
           (λ k l. shows-loss (ruleOf rule) t e (s .few) guests is k (omega arith)) y)
       left-by (refused k) q =
           let guests = s .guests-are ∙ updated-refused _ _ k q in
-          λ y. tellings (none-left guests (laid .stations-are) y) (none-left guests (laid .charges-are) y)
-          (none-left guests (laid .losses-are) y)
+          λ y. outcomeTable (none-left guests (laid .stations-are) y) (none-left guests (laid .charges-are) y)
+          (none-left guests (laid .reasons-are) y)
 
-      abbrev new : Shown
-      new = shownAs (codes (ruleOf rule) t) (guestOutcomes (ruleOf rule) t)
+      abbrev new : Explanation
+      new = explanation (codes (ruleOf rule) t) (guestOutcomes (ruleOf rule) t)
 
-      left : shownAs table′ exit ≡ updated v new (shownAs table entry)
-      left = ap₂ shownAs (s .codes-left) (left-by v refl)
-          ∙ updated-both shownAs v (codes (ruleOf rule) t) table (guestOutcomes (ruleOf rule) t) entry
+      left : explanation table′ exit ≡ updated v new (explanation table entry)
+      left = ap₂ explanation (s .codes-left) (left-by v refl)
+          ∙ updated-both explanation v (codes (ruleOf rule) t) table (guestOutcomes (ruleOf rule) t) entry
 
       keeps :
-          Keeps (explaining rule t) (shownAs table entry) (answerOfVerdict (e .reply))
-          (shownAs table′ exit)
+          Keeps (explaining rule t) (explanation table entry) (answerOfVerdict (e .reply))
+          (explanation table′ exit)
       unfolding explaining
       keeps = record {
         answered = s .answered ∙ verdict-is ∙ sym (giving-nothing _);
-        left = left ∙ ap (λ w. updated w new (shownAs table entry)) verdict-is;
+        left = left ∙ ap (λ w. updated w new (explanation table entry)) verdict-is;
       }
 
       pub explains-out :
           {r : ℕ} → r ≡ numberOf (answerOfVerdict (e .reply))
-          → RepliesOut (explaining rule t) (shownAs table entry) r (shownAs table′ exit)
+          → RepliesOut (explaining rule t) (explanation table entry) r (explanation table′ exit)
       explains-out n = replied keeps n

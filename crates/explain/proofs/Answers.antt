@@ -21,7 +21,7 @@ use Rattle.model.specs.market.Mechanism.{at, truthful}
 use Rattle.model.specs.market.Outcome.{outcomeBy, screened, decision, outcome}
 use Rattle.model.specs.market.Faults.{unknownRule, counts, lengths, marketFaults, verdict, explainedLengths}
 use Rattle.model.specs.market.Faults.{explainedFaults, explainingFaults}
-use Rattle.model.specs.market.Reasons.{codes, highestCode, Told, tellings, loss, guestOutcomes}
+use Rattle.model.specs.market.Reasons.{codes, highestCode, OutcomeTable, outcomeTable, loss, guestOutcomes}
 use Rattle.model.specs.market.Rules.{named, isUnknown, ruleIn}
 use Rattle.model.specs.claims.Meaning.{WithinLimits}
 use Rattle.model.specs.declared.reason.GuestOutcome.{GuestOutcome}
@@ -40,7 +40,7 @@ use Rattle.allocation.specs.Assignment.{Assigned}
 use Rattle.allocation.specs.Screens.{screenedAt}
 use Rattle.explain.specs.Codes.{CodesAtCut}
 use Rattle.explain.specs.Explained.{ExplainsAccepted, refusing, toldBy, ExplainedAs, ExplainedUnder, ExplainedBy}
-use Rattle.explain.specs.declared.explained.Telling.{Telling}
+use Rattle.explain.specs.declared.explained.OutcomeArrays.{OutcomeArrays}
 use Rattle.explain.specs.Outcomes.{recordOf, mills, recordAt}
 use Rattle.explain.proofs.codes.Codes.{code-is}
 use Rattle.explain.proofs.outcomes.Outcomes.{station-shown, charge-shown, loss-shown, record-in}
@@ -58,14 +58,14 @@ module _ (rule : Rule) (t : Tables) where
   abbrev c : ℕ
   c = cut (market rule t)
 
-  module _ {table stations charges losses : List ℕ}
+  module _ {table stations charges reasons : List ℕ}
       (a : Assigned (outcomeBy (screenedAt t c) (truthful (screenedAt t c))) stations charges)
-      (s : CodesAtCut t c stations table losses) where
+      (s : CodesAtCut t c stations table reasons) where
     station-is : (i : ℕ) → i < length (t .amounts) → getD stations i 0 ≡ (decision rule t) .assigned i
     unfolding outcomeBy decision screened screen opens screenedAt market marketBy
     station-is i l = element (length (t .amounts)) _ (a .stations-are) i l
 
-    at-rule-cut : ExplainsAccepted rule t table stations charges losses
+    at-rule-cut : ExplainsAccepted rule t table stations charges reasons
     unfolding codes guestOutcomes loss highestCode outcome outcomeBy decision screened screen opens screenedAt market
         marketBy
     at-rule-cut = record {
@@ -74,20 +74,20 @@ module _ (rule : Rule) (t : Tables) where
       outcomes-are = λ x. record {
         stations = (a .stations-are) x;
         charges = (a .charges-are) x;
-        losses = (s .losses-are ∙ list-cong (length (t .amounts)) _ _ (λ i l. ap₂ (λ a b. only (a =? 0) b)
+        reasons = (s .reasons-are ∙ list-cong (length (t .amounts)) _ _ (λ i l. ap₂ (λ a b. only (a =? 0) b)
             (station-is i l) (λ y. greatest (length (t .asks)) (λ j. code-is rule t i j y)))) x;
       };
     }
 
 pub explains-accepted :
-    (rule : Rule) (t : Tables) {c : ℕ} {table stations charges losses : List ℕ} → c ≡ cutAsk rule (t .asks)
+    (rule : Rule) (t : Tables) {c : ℕ} {table stations charges reasons : List ℕ} → c ≡ cutAsk rule (t .asks)
     → Assigned (outcomeBy (screenedAt t c) (truthful (screenedAt t c))) stations charges
-    → CodesAtCut t c stations table losses → ExplainsAccepted rule t table stations charges losses
-explains-accepted rule t {c} {table} {stations} {charges} {losses} e a s =
+    → CodesAtCut t c stations table reasons → ExplainsAccepted rule t table stations charges reasons
+explains-accepted rule t {c} {table} {stations} {charges} {reasons} e a s =
     let at : c ≡ cut (market rule t) = e ∙ cut-is rule t in
     at-rule-cut rule t
     (subst (λ c. Assigned (outcomeBy (screenedAt t c) (truthful (screenedAt t c))) stations charges) at a)
-    (subst (λ c. CodesAtCut t c stations table losses) at s)
+    (subst (λ c. CodesAtCut t c stations table reasons) at s)
 
 -- ---- the verdict
 
@@ -146,7 +146,7 @@ module _ (asks bays amounts tickets bids : List ℕ) (width codes outcomes : ℕ
 -- ---- what is told
 
 pub refused-explained :
-    {v : Verdict} {new : List ℕ} {o : Told} {n : ℕ} {entry : List ℕ} (x : Refusal) {e : Telling}
+    {v : Verdict} {new : List ℕ} {o : OutcomeTable} {n : ℕ} {entry : List ℕ} (x : Refusal) {e : OutcomeArrays}
     → v ≡ refused (number x) → e ≡ refusing x → ExplainedAs v new o n entry e entry
 unfolding answerOfVerdict refusing toldBy
 refused-explained {v} {new} {o} {n} {entry} x {e} p q = rw (p, q) (record {
@@ -154,43 +154,43 @@ refused-explained {v} {new} {o} {n} {entry} x {e} p q = rw (p, q) (record {
   codes-left = sym (updated-refused new entry _ refl);
   guests-are = sym (updated-refused n 0 _ refl);
   few = zero-le;
-  outcomes-told = sym (updated-refused o (tellings [] [] []) _ refl);
+  outcomes-told = sym (updated-refused o (outcomeTable [] [] []) _ refl);
 })
 
 pub fault-explained :
-    (rule : Rule) (t : Tables) (outcomes : ℕ) (entry : List ℕ) (x : Refusal) {e : Telling}
+    (rule : Rule) (t : Tables) (outcomes : ℕ) (entry : List ℕ) (x : Refusal) {e : OutcomeArrays}
     → Judged t (length entry) outcomes (verdicts.Refused x) → e ≡ refusing x
     → ExplainedUnder rule t outcomes entry e entry
 unfolding answerOfVerdict
 fault-explained rule t outcomes entry x j q = refused-explained x (sym j) q
 
 accepted-long :
-    {rule : Rule} {t : Tables} {table stations charges losses : List ℕ}
-    → ExplainsAccepted rule t table stations charges losses
+    {rule : Rule} {t : Tables} {table stations charges reasons : List ℕ}
+    → ExplainsAccepted rule t table stations charges reasons
     → (length stations ≡ length (t .amounts)) × (length charges ≡ length (t .amounts))
-    × (length losses ≡ length (t .amounts))
+    × (length reasons ≡ length (t .amounts))
 unfolding guestOutcomes outcome outcomeBy screened screen market marketBy
 accepted-long {t = t} s =
     let n = length (t .amounts) in (
       ap (λ o. length (o .stations)) (s .outcomes-are) ∙ length-list n _,
       ap (λ o. length (o .charges)) (s .outcomes-are) ∙ length-list n _,
-      ap (λ o. length (o .losses)) (s .outcomes-are) ∙ length-list n _,
+      ap (λ o. length (o .reasons)) (s .outcomes-are) ∙ length-list n _,
     )
 
 pub accepted-explained :
     (rule : Rule) (asks bays amounts tickets bids : List ℕ) (width outcomes : ℕ) (entry : List ℕ)
-    {seen table stations charges losses : List ℕ} {e : Telling}
+    {seen table stations charges reasons : List ℕ} {e : OutcomeArrays}
     → Judged (tables asks bays amounts tickets bids width) (length entry) outcomes verdicts.Accepted
     → seen ≡ bidsOf bids width (length asks)
-    → ExplainsAccepted rule (regular asks bays amounts tickets seen) table stations charges losses
+    → ExplainsAccepted rule (regular asks bays amounts tickets seen) table stations charges reasons
     → e .reply ≡ verdicts.Accepted → e .guests ≡ length amounts
     → e .stations ≡ stations ++ drop (length amounts) (replicate maxGuests 0)
     → e .charges ≡ charges ++ drop (length amounts) (replicate maxGuests 0)
-    → e .losses ≡ losses ++ drop (length amounts) (replicate maxGuests 0)
+    → e .reasons ≡ reasons ++ drop (length amounts) (replicate maxGuests 0)
     → ExplainedUnder rule (tables asks bays amounts tickets bids width) outcomes entry e table
 unfolding answerOfVerdict toldBy
-accepted-explained rule asks bays amounts tickets bids width outcomes entry {seen} {table} {stations} {charges} {losses}
-    {e} j q s er eg es ec el =
+accepted-explained rule asks bays amounts tickets bids width outcomes entry {seen} {table} {stations} {charges}
+    {reasons} {e} j q s er eg es ec el =
     let t = tables asks bays amounts tickets bids width in
     let v = is-accepted t (length entry) outcomes j in
     let w = accepted-lengths t (length entry) outcomes v .0 in
@@ -202,23 +202,23 @@ accepted-explained rule asks bays amounts tickets bids width outcomes entry {see
       guests-are = eg ∙ sym (updated-accepted _ _ v);
       few = rw eg (w .shape .guests-most);
       outcomes-told =
-          (λ x. tellings
+          (λ x. outcomeTable
           ((ap₂ take eg es ∙ take-at stations _ (length amounts) ls) x)
           ((ap₂ take eg ec ∙ take-at charges _ (length amounts) lc) x)
-          ((ap₂ take eg el ∙ take-at losses _ (length amounts) ll) x))
+          ((ap₂ take eg el ∙ take-at reasons _ (length amounts) ll) x))
           ∙ s .outcomes-are ∙ ap (guestOutcomes rule) same ∙ sym (updated-accepted _ _ v);
     }
 
 -- the rule's number first
 
 pub unknown-explained :
-    (rule : ℕ) (t : Tables) (outcomes : ℕ) (entry : List ℕ) {e : Telling} → Unknown ≡ named rule
+    (rule : ℕ) (t : Tables) (outcomes : ℕ) (entry : List ℕ) {e : OutcomeArrays} → Unknown ≡ named rule
     → e ≡ refusing UnknownRule → ExplainedBy rule t outcomes entry e entry
 unfolding explainingFaults unknownRule isUnknown firstFault
 unknown-explained rule t outcomes entry u q = refused-explained UnknownRule (rw (← u) refl) q
 
 pub known-explained :
-    (rule : ℕ) (known : Rule) (t : Tables) (outcomes : ℕ) (entry : List ℕ) {e : Telling} {exit : List ℕ}
+    (rule : ℕ) (known : Rule) (t : Tables) (outcomes : ℕ) (entry : List ℕ) {e : OutcomeArrays} {exit : List ℕ}
     → Known known ≡ named rule → ExplainedUnder known t outcomes entry e exit
     → ExplainedBy rule t outcomes entry e exit
 unfolding explainingFaults unknownRule isUnknown ruleIn firstFault
@@ -227,10 +227,10 @@ known-explained rule known t outcomes entry u s = rw (← u) s
 -- ---- the records
 
 -- what is told of an accepted market: a loss has no station and no charge, and its code is 4 at most
-record Sound (o : Told) (n : ℕ) : Type 0 where
-  station-none : (i : ℕ) → i < n → 0 < getD (o .losses) i 0 → getD (o .stations) i 0 ≡ 0
-  charge-none : (i : ℕ) → i < n → 0 < getD (o .losses) i 0 → getD (o .charges) i 0 ≡ 0
-  low : (i : ℕ) → i < n → getD (o .losses) i 0 ≤ 4
+record Sound (o : OutcomeTable) (n : ℕ) : Type 0 where
+  station-none : (i : ℕ) → i < n → 0 < getD (o .reasons) i 0 → getD (o .stations) i 0 ≡ 0
+  charge-none : (i : ℕ) → i < n → 0 < getD (o .reasons) i 0 → getD (o .charges) i 0 ≡ 0
+  low : (i : ℕ) → i < n → getD (o .reasons) i 0 ≤ 4
 
 sound : (rule : Rule) (t : Tables) → Sound (guestOutcomes rule t) (length (t .amounts))
 unfolding at
@@ -241,13 +241,13 @@ sound rule t = record {
 }
   where
     unassigned :
-        (i : ℕ) → i < length (t .amounts) → 0 < getD ((guestOutcomes rule t) .losses) i 0
+        (i : ℕ) → i < length (t .amounts) → 0 < getD ((guestOutcomes rule t) .reasons) i 0
         → (decision rule t) .assigned i ≡ 0
     unassigned i l p = lost-unassigned rule t i (rw (loss-at rule t i l) at p)
 
 -- the lists of e, as far as there are guests
-module _ (e : Telling) {o : Told} {n : ℕ} (few : n ≤ maxGuests) (guests : e .guests ≡ n) (is : toldBy e ≡ o) (i : ℕ)
-    (l : i < n) where
+module _ (e : OutcomeArrays) {o : OutcomeTable} {n : ℕ} (few : n ≤ maxGuests) (guests : e .guests ≡ n)
+    (is : toldBy e ≡ o) (i : ℕ) (l : i < n) where
   pub station-held : getD (e .stations) i 0 ≡ getD (o .stations) i 0
   unfolding toldBy
   station-held =
@@ -257,19 +257,19 @@ module _ (e : Telling) {o : Told} {n : ℕ} (few : n ≤ maxGuests) (guests : e 
   unfolding toldBy
   charge-held = sym (getD-take (e .guests) (e .charges) i 0 (omega arith)) ∙ ap (λ o. getD (o .charges) i 0) is
 
-  pub loss-held : getD (e .losses) i 0 ≡ getD (o .losses) i 0
+  pub loss-held : getD (e .reasons) i 0 ≡ getD (o .reasons) i 0
   unfolding toldBy
-  loss-held = sym (getD-take (e .guests) (e .losses) i 0 (omega arith)) ∙ ap (λ o. getD (o .losses) i 0) is
+  loss-held = sym (getD-take (e .guests) (e .reasons) i 0 (omega arith)) ∙ ap (λ o. getD (o .reasons) i 0) is
 
   record-held :
       recordAt e i
-      ≡ recordOf (getD (o .stations) i 0) (mills (getD (o .charges) i 0)) (getD (o .losses) i 0)
+      ≡ recordOf (getD (o .stations) i 0) (mills (getD (o .charges) i 0)) (getD (o .reasons) i 0)
   record-held =
       sym (record-in e i {charge = mills (getD (e .charges) i 0)} (omega arith) refl)
       ∙ (λ x. recordOf (station-held x) (mills (charge-held x)) (loss-held x))
 
 -- what guest i's record shows
-module _ (rule : Rule) (t : Tables) (e : Telling) (few : e .guests ≤ maxGuests)
+module _ (rule : Rule) (t : Tables) (e : OutcomeArrays) (few : e .guests ≤ maxGuests)
     (guests : e .guests ≡ length (t .amounts)) (is : toldBy e ≡ guestOutcomes rule t) (i : ℕ)
     (l : i < length (t .amounts)) where
   pub shows-station : stationOf (recordAt e i .result) ≡ getD ((guestOutcomes rule t) .stations) i 0
@@ -282,7 +282,7 @@ module _ (rule : Rule) (t : Tables) (e : Telling) (few : e .guests ≤ maxGuests
       ap (λ (r : GuestOutcome). chargeOf (r .result)) (record-held e (omega arith) guests is i l)
       ∙ charge-shown _ _ _ (sound rule t .charge-none i l)
 
-  pub shows-loss : lossOf (recordAt e i .result) ≡ getD ((guestOutcomes rule t) .losses) i 0
+  pub shows-loss : lossOf (recordAt e i .result) ≡ getD ((guestOutcomes rule t) .reasons) i 0
   shows-loss =
       ap (λ (r : GuestOutcome). lossOf (r .result)) (record-held e (omega arith) guests is i l)
       ∙ loss-shown _ _ _ (sound rule t .low i l)
@@ -292,7 +292,7 @@ pub outcomes-long :
     (rule : Rule) (t : Tables)
     → (length ((guestOutcomes rule t) .stations) ≡ length (t .amounts))
     × (length ((guestOutcomes rule t) .charges) ≡ length (t .amounts))
-    × (length ((guestOutcomes rule t) .losses) ≡ length (t .amounts))
+    × (length ((guestOutcomes rule t) .reasons) ≡ length (t .amounts))
 unfolding guestOutcomes outcome outcomeBy screened screen market marketBy
 outcomes-long rule t =
     let n = length (t .amounts) in (length-list n _, length-list n _, length-list n _)

@@ -37,10 +37,10 @@ pub record RowReady (asks row : List ℕ) (amount : ℕ) (criticals bounds : Lis
   pub criticals-low : (j : ℕ) → j < length asks → getD criticals (j + 1) 0 ≤ maxTotal
   pub codes-room : base + length asks ≤ length codes
 
--- all codes at a cut, and the losses of guests with these stations
-pub record CodesAtCut (t : Tables) (c : ℕ) (stations codes losses : List ℕ) : Type 0 where
+-- all codes at a cut, and the reasons of guests with these stations
+pub record CodesAtCut (t : Tables) (c : ℕ) (stations codes reasons : List ℕ) : Type 0 where
   pub codes-are : codes ≡ joined (length (t .amounts)) (λ i. list (length (t .asks)) (codeAt t c i))
-  pub losses-are :
-      losses
+  pub reasons-are :
+      reasons
       ≡ list (length (t .amounts))
       (λ i. only (getD stations i 0 =? 0) (greatest (length (t .asks)) (codeAt t c i)))

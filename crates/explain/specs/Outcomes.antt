@@ -9,7 +9,7 @@ use Rattle.model.specs.declared.reason.Reason.{Reason}
 use Rattle.model.specs.declared.reason.Reason.the-variants.{NoBid, NotOpen, BelowCut, Outbid}
 use Rattle.model.specs.declared.reason.GuestResult.the-variants.{Win, Loss}
 use Rattle.model.specs.declared.reason.GuestOutcome.{GuestOutcome}
-use Rattle.explain.specs.declared.explained.Telling.{Telling}
+use Rattle.explain.specs.declared.explained.OutcomeArrays.{OutcomeArrays}
 
 -- the reason of a code from 1 to 4
 unfoldable pub reasonOf : ℕ → Reason
@@ -23,7 +23,7 @@ recordOf station charge loss = record { result = cond (loss =? 0) (Win station c
 abbrev pub mills : ℕ → Mills
 mills x = record { 0 = x }
 
-unfoldable pub recordAt : Telling → ℕ → GuestOutcome
+unfoldable pub recordAt : OutcomeArrays → ℕ → GuestOutcome
 recordAt e i =
     recordOf (only (i <? maxGuests) (getD (e .stations) i 0)) (mills (only (i <? maxGuests) (getD (e .charges) i 0)))
-    (only (i <? maxGuests) (getD (e .losses) i 0))
+    (only (i <? maxGuests) (getD (e .reasons) i 0))

@@ -29,16 +29,16 @@ fn explain_with_room(
     codes: &mut [u8],
     stations: &mut [u16],
     charges: &mut [u32],
-    losses: &mut [u8],
+    reasons: &mut [u8],
 )
     requires { ⌜ WithinLimits (regularOf asks bays amounts tickets bids) ⌝ }
     requires { ⌜ (length (now least) ≡ length (now amounts)) × (now criticals ≡ list (maxStations + 1) (λ _. 0))
         × (length (now bounds) ≡ maxStations + 1) ⌝ }
     requires { ⌜ (length (now codes) ≡ length (now amounts) * length (now asks))
         × (length (now stations) ≡ length (now amounts)) × (length (now charges) ≡ length (now amounts))
-        × (length (now losses) ≡ length (now amounts)) ⌝ }
+        × (length (now reasons) ≡ length (now amounts)) ⌝ }
     ensures { λ _. ⌜ ExplainsAccepted rule (regularIn asks bays amounts tickets bids) (now (codes .exit))
-        (now (stations .exit)) (now (charges .exit)) (now (losses .exit)) ⌝ }
+        (now (stations .exit)) (now (charges .exit)) (now (reasons .exit)) ⌝ }
 {
     let cut = cut::cut(rule, asks);
     charges::least_charges(amounts, cut, least);
@@ -66,7 +66,7 @@ fn explain_with_room(
         bounds,
         stations,
         codes,
-        losses,
+        reasons,
     );
 }
 
@@ -82,14 +82,14 @@ pub fn explain_accepted(
     codes: &mut [u8],
     stations: &mut [u16],
     charges: &mut [u32],
-    losses: &mut [u8],
+    reasons: &mut [u8],
 )
     requires { ⌜ WithinLimits (regularOf asks bays amounts tickets bids) ⌝ }
     requires { ⌜ (length (now codes) ≡ length (now amounts) * length (now asks))
         × (length (now stations) ≡ length (now amounts)) × (length (now charges) ≡ length (now amounts))
-        × (length (now losses) ≡ length (now amounts)) ⌝ }
+        × (length (now reasons) ≡ length (now amounts)) ⌝ }
     ensures { λ _. ⌜ ExplainsAccepted rule (regularIn asks bays amounts tickets bids) (now (codes .exit))
-        (now (stations .exit)) (now (charges .exit)) (now (losses .exit)) ⌝ }
+        (now (stations .exit)) (now (charges .exit)) (now (reasons .exit)) ⌝ }
 {
     let mut least = [0u32; MAX_GUESTS];
     let mut criticals = [0u32; MAX_STATIONS + 1];
@@ -108,6 +108,6 @@ pub fn explain_accepted(
         codes,
         stations,
         charges,
-        losses,
+        reasons,
     );
 }

@@ -135,14 +135,14 @@ pub fn explain_rows(
     bounds: &[u32],
     stations: &[u16],
     codes: &mut [u8],
-    losses: &mut [u8],
+    reasons: &mut [u8],
 )
     requires { ⌜ WithinLimits (regularOf asks bays amounts tickets bids) ⌝ }
     requires { ⌜ Bars (regularOf asks bays amounts tickets bids) (cut .0) (now criticals) (now bounds) ⌝ }
-    requires { ⌜ (length (now stations) ≡ length (now amounts)) × (length (now losses) ≡ length (now amounts))
+    requires { ⌜ (length (now stations) ≡ length (now amounts)) × (length (now reasons) ≡ length (now amounts))
         × (length (now codes) ≡ length (now amounts) * length (now asks)) ⌝ }
     ensures { λ _. ⌜ CodesAtCut (regularIn asks bays amounts tickets bids) (cut .0) (now (stations .entry))
-        (now (codes .exit)) (now (losses .exit)) ⌝ }
+        (now (codes .exit)) (now (reasons .exit)) ⌝ }
 {
     let m = asks.len();
     let mut i = 0;
@@ -159,7 +159,7 @@ pub fn explain_rows(
             i * m,
             codes,
         );
-        losses[i] = loss(stations[i], highest);
+        reasons[i] = loss(stations[i], highest);
         i += 1;
     }
 }

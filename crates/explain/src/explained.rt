@@ -11,22 +11,22 @@ ghost use Rattle.model.specs.contracts.Lent.{tablesIn};
 ghost use Rattle.explain.specs.Explained.{refusing as refusingOf, ExplainedUnder, ExplainedBy};
 
 // Of so many guests, 0 where there is none.
-pub struct Telling {
+pub struct OutcomeArrays {
     pub stations: [u16; MAX_GUESTS],
     pub charges: [u32; MAX_GUESTS],
-    pub losses: [u8; MAX_GUESTS],
+    pub reasons: [u8; MAX_GUESTS],
     pub guests: usize,
     pub reply: Verdict,
 }
 
 // Of a refused call: nothing is told.
-fn refusing(refusal: Refusal) -> Telling
+fn refusing(refusal: Refusal) -> OutcomeArrays
     ensures { λ r. ⌜ r ≡ refusingOf refusal ⌝ }
 {
-    Telling {
+    OutcomeArrays {
         stations: [0; MAX_GUESTS],
         charges: [0; MAX_GUESTS],
-        losses: [0; MAX_GUESTS],
+        reasons: [0; MAX_GUESTS],
         guests: 0,
         reply: Verdict::Refused(refusal),
     }
@@ -43,7 +43,7 @@ pub fn explained_under(
     width: usize,
     outcomes: usize,
     codes: &mut [u8],
-) -> Telling
+) -> OutcomeArrays
     ensures { λ r. ⌜ ExplainedUnder rule (tablesIn asks bays amounts tickets bids width) outcomes
         (now (codes .entry)) r (now (codes .exit)) ⌝ }
 {
@@ -63,7 +63,7 @@ pub fn explained_under(
             let table = views::bids_through_view(bids, width, asks.len());
             let mut stations = [0u16; MAX_GUESTS];
             let mut charges = [0u32; MAX_GUESTS];
-            let mut losses = [0u8; MAX_GUESTS];
+            let mut reasons = [0u8; MAX_GUESTS];
             accepted::explain_accepted(
                 rule,
                 asks,
@@ -74,12 +74,12 @@ pub fn explained_under(
                 codes,
                 &mut stations[..n],
                 &mut charges[..n],
-                &mut losses[..n],
+                &mut reasons[..n],
             );
-            Telling {
+            OutcomeArrays {
                 stations,
                 charges,
-                losses,
+                reasons,
                 guests: n,
                 reply: Verdict::Accepted,
             }
@@ -98,7 +98,7 @@ pub fn explained(
     width: usize,
     outcomes: usize,
     codes: &mut [u8],
-) -> Telling
+) -> OutcomeArrays
     ensures { λ r. ⌜ ExplainedBy rule (tablesIn asks bays amounts tickets bids width) outcomes
         (now (codes .entry)) r (now (codes .exit)) ⌝ }
 {

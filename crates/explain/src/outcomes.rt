@@ -1,5 +1,5 @@
 // A guest's outcome, as a record.
-use crate::explained::Telling;
+use crate::explained::OutcomeArrays;
 use model::limits::MAX_GUESTS;
 use model::money::Mills;
 use model::reason::GuestOutcome;
@@ -73,11 +73,11 @@ pub fn loss_in(outcome: GuestOutcome) -> u8
 }
 
 // Guest i's record.
-pub fn outcome_at(e: Telling, i: usize) -> GuestOutcome
+pub fn outcome_at(e: OutcomeArrays, i: usize) -> GuestOutcome
     ensures { λ r. ⌜ r ≡ recordAt e i ⌝ }
 {
     if MAX_GUESTS <= i {
         return guest_outcome(0, Mills(0), 0);
     }
-    guest_outcome(e.stations[i], Mills::wide(e.charges[i]), e.losses[i])
+    guest_outcome(e.stations[i], Mills::wide(e.charges[i]), e.reasons[i])
 }

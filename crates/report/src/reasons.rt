@@ -1,6 +1,6 @@
 // The page of what decided: a line for each guest, as bytes in a lent buffer.
 use crate::text;
-use explain::explained::Telling;
+use explain::explained::OutcomeArrays;
 use explain::outcomes;
 use model::reason::GuestOutcome;
 use model::reason::GuestResult;
@@ -58,7 +58,7 @@ fn outcome_line(out: &mut [u8], at: usize, guest: u64, outcome: GuestOutcome) ->
 }
 
 // There are no more guests than a market has.
-pub fn reasons_text(e: Telling, out: &mut [u8]) -> usize
+pub fn reasons_text(e: OutcomeArrays, out: &mut [u8]) -> usize
     requires { ⌜ e .guests ≤ maxGuests ⌝ }
     ensures { λ r. ⌜ Wrote (now (out .entry)) 0
         (joined (e .guests) (λ k. recordLine (k + 1) (recordAt e k))) (now (out .exit)) r ⌝ }

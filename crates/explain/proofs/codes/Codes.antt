@@ -13,7 +13,7 @@ use Rattle.model.specs.Limits.{maxGuests, maxStations}
 use Rattle.model.specs.Counting.{_<?_, _≤?_, _=?_, _and_, _or_, only, greatest, list, joined}
 use Rattle.model.specs.Verdicts.{_gives_, firstFault, numberOf}
 use Rattle.model.specs.market.Market.{Tables, bidAt, marketBy, market, cut, opens, screen, queue, provisional}
-use Rattle.model.specs.market.Reasons.{reasons, code}
+use Rattle.model.specs.market.Reasons.{conditions, code}
 use Rattle.model.specs.claims.Meaning.{WithinLimits}
 use Rattle.model.specs.declared.rule.Rule.{Rule}
 use Rattle.model.proofs.Tests.{both, and-no, or-left, or-right, neither, is-lt, not-lt, is-le, is-eq, not-eq, lt-or-le}
@@ -102,7 +102,7 @@ first-reason false true false bid c = ⊎-elim
     (lt-or-le bid c)
 
 pub code-is : (rule : Rule) (t : Tables) (i j : ℕ) → codeAt t (cut (market rule t)) i j ≡ code (market rule t) i j
-unfolding codeAt codeBy code reasons opens screen screenedAt market marketBy
+unfolding codeAt codeBy code conditions opens screen screenedAt market marketBy
 code-is rule t i j =
     first-reason (bidAt t i j =? 0) (getD (t .asks) j 0 <? cut (market rule t))
     (provisional (queue (screenedAt t (cut (market rule t))) j) i) (bidAt t i j) (cut (market rule t))
@@ -193,24 +193,24 @@ module _ {m : ℕ} {f : ℕ → ℕ} {codes₀ codes : List ℕ} {base top j : �
 abbrev lossAt : (t : Tables) (c : ℕ) (stations : List ℕ) → ℕ → ℕ
 lossAt t c stations i = only (getD stations i 0 =? 0) (greatest (length (t .asks)) (codeAt t c i))
 
--- the rows of the first i guests, then what was there; and their losses
-pub record RowsSoFar (t : Tables) (c : ℕ) (stations codes₀ losses₀ codes losses : List ℕ) (i : ℕ) : Type 0 where
+-- the rows of the first i guests, then what was there; and their reasons
+pub record RowsSoFar (t : Tables) (c : ℕ) (stations codes₀ losses₀ codes reasons : List ℕ) (i : ℕ) : Type 0 where
   pub within : i ≤ length (t .amounts)
   pub long : length codes₀ ≡ length (t .amounts) * length (t .asks)
   pub is :
       codes ≡ joined i (λ k. list (length (t .asks)) (codeAt t c k)) ++ drop (i * length (t .asks)) codes₀
-  pub losses-are : Filling (length (t .amounts)) (lossAt t c stations) losses₀ losses i
+  pub reasons-are : Filling (length (t .amounts)) (lossAt t c stations) losses₀ reasons i
 
 pub rows-none :
-    {t : Tables} {c : ℕ} {stations codes losses : List ℕ} → length codes ≡ length (t .amounts) * length (t .asks)
-    → length losses ≡ length (t .amounts) → RowsSoFar t c stations codes losses codes losses 0
+    {t : Tables} {c : ℕ} {stations codes reasons : List ℕ} → length codes ≡ length (t .amounts) * length (t .asks)
+    → length reasons ≡ length (t .amounts) → RowsSoFar t c stations codes reasons codes reasons 0
 unfolding joined
 rows-none {t} long l =
     let none : 0 * length (t .asks) ≡ 0 = omega arith in
-    record { within = omega arith; long = long; is = rw none refl; losses-are = filling-none l }
+    record { within = omega arith; long = long; is = rw none refl; reasons-are = filling-none l }
 
-module _ {t : Tables} {c : ℕ} {stations codes₀ losses₀ codes losses : List ℕ} {i : ℕ}
-    (s : RowsSoFar t c stations codes₀ losses₀ codes losses i) where
+module _ {t : Tables} {c : ℕ} {stations codes₀ losses₀ codes reasons : List ℕ} {i : ℕ}
+    (s : RowsSoFar t c stations codes₀ losses₀ codes reasons i) where
   abbrev m : ℕ
   m = length (t .asks)
 
@@ -233,7 +233,7 @@ module _ {t : Tables} {c : ℕ} {stations codes₀ losses₀ codes losses : List
       → ((j : ℕ) → j < m → f j ≡ codeAt t c i j)
       → (codes′ ≡ paste codes (i * m) (list m f) m) × (top ≡ greatest m f)
       → v ≡ only (getD stations i 0 =? 0) top
-      → RowsSoFar t c stations codes₀ losses₀ codes′ (set losses i v) (i + 1)
+      → RowsSoFar t c stations codes₀ losses₀ codes′ (set reasons i v) (i + 1)
   unfolding joined
   rows-turn {f} l h (e, q) p =
       let next : (i + 1) * m ≡ i * m + m = omega arith in
@@ -243,11 +243,11 @@ module _ {t : Tables} {c : ℕ} {stations codes₀ losses₀ codes losses : List
         long = s .long;
         is = rw (next, add-one) (e ∙ ap₂ (λ l r. paste l (i * m) r m) (s .is) row
             ∙ paste-next (joined i rows) codes₀ (rows i) (i * m) m before-long (length-list m (codeAt t c i)));
-        losses-are = filling-turn (s .losses-are) l
+        reasons-are = filling-turn (s .reasons-are) l
             (p ∙ ap (only (getD stations i 0 =? 0)) (q ∙ greatest-cong m f (codeAt t c i) h));
       }
 
-  pub rows-end : length (t .amounts) ≤ i → CodesAtCut t c stations codes losses
+  pub rows-end : length (t .amounts) ≤ i → CodesAtCut t c stations codes reasons
   rows-end l =
       let all : i ≡ length (t .amounts) = omega (arith, s .within) in
       let whole : i * m ≡ length codes₀ = rw all (sym (s .long)) in
@@ -255,5 +255,5 @@ module _ {t : Tables} {c : ℕ} {stations codes₀ losses₀ codes losses : List
         codes-are = s .is ∙ ap (λ k. joined i rows ++ drop k codes₀) whole
             ∙ ap (λ l. joined i rows ++ l) (drop-length codes₀) ∙ append-nil (joined i rows)
             ∙ ap (λ k. joined k rows) all;
-        losses-are = filling-end (s .losses-are) l;
+        reasons-are = filling-end (s .reasons-are) l;
       }

@@ -12,7 +12,7 @@ use Rattle.model.specs.declared.reason.Reason.the-variants.{NoBid, NotOpen, Bel
 use Rattle.model.specs.declared.reason.GuestResult.the-variants.{Win, Loss}
 use Rattle.model.proofs.Tests.{is-eq, not-eq, eq-or-ne, is-lt, not-lt}
 use Rattle.explain.specs.Outcomes.{reasonOf, recordOf, mills, recordAt}
-use Rattle.explain.specs.declared.explained.Telling.{Telling}
+use Rattle.explain.specs.declared.explained.OutcomeArrays.{OutcomeArrays}
 
 -- ---- the reason of a code
 
@@ -78,13 +78,13 @@ module _ (station : ℕ) (charge : Mills) (loss : ℕ) where
 
 -- ---- guest i's record
 
-module _ (e : Telling) (i : ℕ) where
+module _ (e : OutcomeArrays) (i : ℕ) where
   pub record-in :
       {charge : Mills} → i < maxGuests → charge .0 ≡ getD (e .charges) i 0
-      → recordOf (getD (e .stations) i 0) charge (getD (e .losses) i 0) ≡ recordAt e i
+      → recordOf (getD (e .stations) i 0) charge (getD (e .reasons) i 0) ≡ recordAt e i
   unfolding recordAt only
   record-in l q =
-      rw (is-lt i maxGuests l) (ap (λ (x : ℕ). recordOf (getD (e .stations) i 0) (mills x) (getD (e .losses) i 0)) q)
+      rw (is-lt i maxGuests l) (ap (λ (x : ℕ). recordOf (getD (e .stations) i 0) (mills x) (getD (e .reasons) i 0)) q)
 
   pub record-past : {charge : Mills} → maxGuests ≤ i → charge .0 ≡ 0 → recordOf 0 charge 0 ≡ recordAt e i
   unfolding recordAt only

@@ -12,8 +12,8 @@ use Rattle.model.specs.market.Mechanism.{at, charge, charged}
 use Rattle.model.specs.market.Outcome.{outcomeBy, screened, decision, outcome}
 use Rattle.model.specs.market.Faults.{Accepted, unknownRule, verdict, marketFaults, counts, lengths}
 use Rattle.model.specs.market.Faults.{explainedLengths, explainedFaults, explainingFaults}
-use Rattle.model.specs.market.Reasons.{code, codes, highestCode, tellings, outcomeLengths, shownAs, loss}
-use Rattle.model.specs.market.Reasons.{Shown, guestOutcomes}
+use Rattle.model.specs.market.Reasons.{code, codes, highestCode, outcomeTable, outcomeLengths, explanation, loss}
+use Rattle.model.specs.market.Reasons.{Explanation, guestOutcomes}
 use Rattle.model.specs.market.Rules.{ruleOf}
 use Rattle.model.specs.claims.Calls.{ClearedCall}
 use Rattle.model.specs.claims.Reasons.{CodeTells, CodesTellFacts, OutcomeTells, OutcomesTellWinsAndLosses}
@@ -54,7 +54,7 @@ module _ (rule : Rule) (t : Tables) (i : ℕ) (li : i < length (t .amounts)) whe
   unfolding guestOutcomes outcome outcomeBy screened screen market marketBy
   charge-at = getD-list (length (t .amounts)) _ i li
 
-  pub loss-at : getD ((guestOutcomes rule t) .losses) i 0 ≡ loss rule t i
+  pub loss-at : getD ((guestOutcomes rule t) .reasons) i 0 ≡ loss rule t i
   unfolding guestOutcomes
   loss-at = getD-list (length (t .amounts)) _ i li
 
@@ -69,9 +69,9 @@ module _ (rule : Rule) (t : Tables) (i : ℕ) (li : i < length (t .amounts)) whe
       (λ (p : loss rule t i ≤ 0). omega arith)
       (lt-or-le 0 (loss rule t i))
 
-pub outcomes-tell-wins-and-losses : OutcomesTellWinsAndLosses
+pub outcomes-tell-wins-and-reasons : OutcomesTellWinsAndLosses
 unfolding at
-outcomes-tell-wins-and-losses rule t a i li =
+outcomes-tell-wins-and-reasons rule t a i li =
     let m = accepted-iff-within-limits t .0 a .shape .stations-least in
     record {
       won = λ j e. (
@@ -143,15 +143,15 @@ explained-iff-within-limits rule t entry exit number c = (
   where
     found : number ≡ 0 → firstFault (explaining rule t entry .faults) ≡ accepted tt
     found z =
-        zero-is-accepted Unit Shown (explaining rule t) entry exit tt tt
+        zero-is-accepted Unit Explanation (explaining rule t) entry exit tt tt
         (faults-numbered-from-one .of-explaining rule t entry) (rw z at c) .0
 
 -- tables as long as they have to be
 module _ (t : Tables) where
-  room : Shown
+  room : Explanation
   room =
       let n = length (t .amounts) in
-      shownAs (replicate (n * length (t .asks)) 0) (tellings (replicate n 0) (replicate n 0) (replicate n 0))
+      explanation (replicate (n * length (t .asks)) 0) (outcomeTable (replicate n 0) (replicate n 0) (replicate n 0))
 
   room-long : (k : ℕ) → k < 3 → getD (outcomeLengths (room .outcomes)) k 0 ≡ length (t .amounts)
   unfolding room
@@ -164,7 +164,7 @@ pub explained-call-exists : ExplainedCallExists
 unfolding explaining room
 explained-call-exists rule t r a = record {
   entry = room t;
-  exit = shownAs (codes (ruleOf rule) t) (guestOutcomes (ruleOf rule) t);
+  exit = explanation (codes (ruleOf rule) t) (guestOutcomes (ruleOf rule) t);
   call = keeps-zero tt (explaining-accept rule t _ _ (record {
     rule-known = r;
     market-accepted = a;
@@ -178,7 +178,7 @@ module _ (rule : ℕ) (t : Tables) (e : ExplainedCall rule t) where
       (firstFault (explaining rule t (e .entry) .faults) ≡ accepted tt)
       × (e .exit ≡ explaining rule t (e .entry) .leaves)
   accepted-here =
-      let (v, left, _) = zero-is-accepted Unit Shown (explaining rule t) (e .entry) (e .exit) tt tt
+      let (v, left, _) = zero-is-accepted Unit Explanation (explaining rule t) (e .entry) (e .exit) tt tt
       (faults-numbered-from-one .of-explaining rule t (e .entry)) (e .call) in
       (v, left)
 
@@ -200,10 +200,10 @@ pub codes-tell-facts-calls : CodesTellFactsCalls
 codes-tell-facts-calls rule t e i j li lj =
     subst (CodeTells (ruleOf rule) t i j) (sym (code-here rule t e i j li lj)) (code-tells (ruleOf rule) t i j)
 
-pub outcomes-tell-wins-and-losses-calls : OutcomesTellWinsAndLossesCalls
-outcomes-tell-wins-and-losses-calls rule t e i li =
+pub outcomes-tell-wins-and-reasons-calls : OutcomesTellWinsAndLossesCalls
+outcomes-tell-wins-and-reasons-calls rule t e i li =
     subst (λ o. OutcomeTells (ruleOf rule) t o i) (sym (outcomes-here rule t e))
-    (outcomes-tell-wins-and-losses (ruleOf rule) t (market-here rule t e) i li)
+    (outcomes-tell-wins-and-reasons (ruleOf rule) t (market-here rule t e) i li)
 
 module _ (rule : ℕ) (t : Tables) (e : ExplainedCall rule t) (k : ClearedCall rule t) (i : ℕ)
     (li : i < length (t .amounts)) where
@@ -227,19 +227,19 @@ module _ (rule : ℕ) (t : Tables) (e : ExplainedCall rule t) (k : ClearedCall r
       ∙ station-same
 
   tells : OutcomeTells (ruleOf rule) t (e .exit .outcomes) i
-  tells = outcomes-tell-wins-and-losses-calls rule t e i li
+  tells = outcomes-tell-wins-and-reasons-calls rule t e i li
 
   loses-as :
       getD (k .exit .stations) i 0 ≡ 0
-      → (getD (e .exit .outcomes .losses) i 0 ≡ greatest (length (t .asks)) (codeIn t (e .exit) i))
-      × (1 ≤ getD (e .exit .outcomes .losses) i 0) × (getD (e .exit .outcomes .losses) i 0 ≤ 4)
+      → (getD (e .exit .outcomes .reasons) i 0 ≡ greatest (length (t .asks)) (codeIn t (e .exit) i))
+      × (1 ≤ getD (e .exit .outcomes .reasons) i 0) × (getD (e .exit .outcomes .reasons) i 0 ≤ 4)
   unfolding highestCode
   loses-as z =
       let (_, _, is, least, most) = tells .lost (assigned-as ∙ z) in
       (is ∙ greatest-cong (length (t .asks)) _ _ (λ j lj. sym (code-here rule t e i j li lj)), least, most)
 
   wins-as : (s : ℕ) → getD (k .exit .stations) i 0 ≡ s
-      → (getD (e .exit .outcomes .losses) i 0 ≡ 0) ↔ (1 ≤ getD (k .exit .stations) i 0)
+      → (getD (e .exit .outcomes .reasons) i 0 ≡ 0) ↔ (1 ≤ getD (k .exit .stations) i 0)
   wins-as zero z = (λ w. absurd (omega (arith, loses-as z .1)), λ l. absurd (omega arith))
   wins-as (suc j) z = (λ _. omega arith, λ _. tells .won j (assigned-as ∙ z) .2)
 

@@ -9,7 +9,7 @@ use Rattle.model.specs.Counting.{_<?_, _=?_, _and_, only, greatest}
 use Rattle.model.specs.Verdicts.{firstFault, numberOf}
 use Rattle.model.specs.market.Market.{Tables, bidAt, marketBy, market, cut, opens, screen, queue, provisional}
 use Rattle.model.specs.market.Outcome.{screened, decision}
-use Rattle.model.specs.market.Reasons.{reasons, code, highestCode, loss}
+use Rattle.model.specs.market.Reasons.{conditions, code, highestCode, loss}
 use Rattle.model.specs.claims.Reasons.{NoBid, NotOpen, BelowCut, Outbid, PlaceHeld, CodeTells}
 use Rattle.model.specs.declared.rule.Rule.{Rule}
 use Rattle.model.proofs.Tests.{decide, clash, both, first, second, lt-yes, lt-no, le-yes, is-le, eq-yes, eq-no}
@@ -51,7 +51,7 @@ module _ (rule : Rule) (t : Tables) (i j : ℕ) where
   is-candidate o r = both o (is-le _ _ r)
 
   decided : Decided rule t i j
-  unfolding code reasons firstFault numberOf screened screen market marketBy _and_
+  unfolding code conditions firstFault numberOf screened screen market marketBy _and_
   decided = ⊎-elim
       (λ (n : (bidAt t i j =? 0) ≡ true). no-bid (eq-yes _ _ n) (rw n refl))
       (λ (n : (bidAt t i j =? 0) ≡ false). ⊎-elim
@@ -115,7 +115,7 @@ module _ (rule : Rule) (t : Tables) (i j : ℕ) where
   pub code-tells : CodeTells rule t i j (code (market rule t) i j)
   code-tells = tells decided
 
--- ---- losses
+-- ---- reasons
 
 module _ (rule : Rule) (t : Tables) (i : ℕ) where
   pub highest-most : highestCode rule t i ≤ 4

@@ -9,7 +9,7 @@ use Rattle.model.specs.cases.Cases.{tableI, caseE, pair, numbered, singl
 use Rattle.model.specs.market.Market.{Tables, regular}
 use Rattle.model.specs.market.Faults.{explainingFaults}
 use Rattle.model.specs.cases.Sheets.{sheetE}
-use Rattle.model.specs.market.Reasons.{codes, tellings, guestOutcomes}
+use Rattle.model.specs.market.Reasons.{codes, outcomeTable, guestOutcomes}
 use Rattle.model.specs.text.Printed.{printed}
 use Rattle.model.specs.declared.rule.Rule.the-variants.{Median, TwoThirds}
 use Rattle.model.specs.declared.page.Page.the-variants.{Reasons}
@@ -39,20 +39,20 @@ pub record ReasonsHold : Type 0 where
       ∷ 1 ∷ 1 ∷ 2 ∷ 4 ∷ 2 ∷ []
   pub outcomes-1 :
       guestOutcomes Median tableI
-      ≡ tellings (4 ∷ 0 ∷ 2 ∷ 0 ∷ 0 ∷ []) (15 ∷ 0 ∷ 18 ∷ 0 ∷ 0 ∷ []) (0 ∷ 3 ∷ 0 ∷ 4 ∷ 4 ∷ [])
+      ≡ outcomeTable (4 ∷ 0 ∷ 2 ∷ 0 ∷ 0 ∷ []) (15 ∷ 0 ∷ 18 ∷ 0 ∷ 0 ∷ []) (0 ∷ 3 ∷ 0 ∷ 4 ∷ 4 ∷ [])
   pub codes-e : codes Median caseE ≡ 0 ∷ 1 ∷ 4 ∷ 1 ∷ []
-  pub outcomes-e : guestOutcomes Median caseE ≡ tellings (1 ∷ 0 ∷ []) (24 ∷ 0 ∷ []) (0 ∷ 4 ∷ [])
+  pub outcomes-e : guestOutcomes Median caseE ≡ outcomeTable (1 ∷ 0 ∷ []) (24 ∷ 0 ∷ []) (0 ∷ 4 ∷ [])
   pub page-e : printed (Reasons Median) 38 sheetE ≡ reasonsE
   pub codes-rule-1 : codes Median sixTwice ≡ 0 ∷ 1 ∷ 1 ∷ 2 ∷ 1 ∷ 1 ∷ []
-  pub outcomes-rule-1 : guestOutcomes Median sixTwice ≡ tellings (1 ∷ []) (4 ∷ []) (0 ∷ [])
+  pub outcomes-rule-1 : guestOutcomes Median sixTwice ≡ outcomeTable (1 ∷ []) (4 ∷ []) (0 ∷ [])
   pub codes-rule-2 : codes TwoThirds sixTwice ≡ 3 ∷ 1 ∷ 1 ∷ 0 ∷ 1 ∷ 1 ∷ []
-  pub outcomes-rule-2 : guestOutcomes TwoThirds sixTwice ≡ tellings (4 ∷ []) (5 ∷ []) (0 ∷ [])
+  pub outcomes-rule-2 : guestOutcomes TwoThirds sixTwice ≡ outcomeTable (4 ∷ []) (5 ∷ []) (0 ∷ [])
 
 -- a call under the rule of this number, with a code table of so many places and lists of so many stations, charges and
--- losses
-unfoldable pub judged : (rule : ℕ) → Tables → (codes stations charges losses : ℕ) → Verdict
-judged rule t codes stations charges losses =
-    firstFault (explainingFaults rule t codes (stations ∷ charges ∷ losses ∷ []))
+-- reasons
+unfoldable pub judged : (rule : ℕ) → Tables → (codes stations charges reasons : ℕ) → Verdict
+judged rule t codes stations charges reasons =
+    firstFault (explainingFaults rule t codes (stations ∷ charges ∷ reasons ∷ []))
 
 -- either rule; each table too short and too long; and the order of each number and the next: 18 before 2, 2 before 5, 5
 -- before 10, 10 before 6, 6 to 9 in turn, and 15

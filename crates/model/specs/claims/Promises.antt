@@ -9,7 +9,7 @@ use Rattle.model.specs.Verdicts.{Answer, accepted, refused, Row, _gives_
 use Rattle.model.specs.contracts.EntryPoints.{clearing, reading, writing, placing, explaining, entering}
 use Rattle.model.specs.market.Market.{Tables}
 use Rattle.model.specs.market.Outcome.{Results, Outcome}
-use Rattle.model.specs.market.Reasons.{Shown}
+use Rattle.model.specs.market.Reasons.{Explanation}
 use Rattle.model.specs.sheet.Lent.{LentTables}
 use Rattle.model.specs.places.Bids.{Places}
 use Rattle.model.specs.book.PlainBook.{PlainBook}
@@ -63,5 +63,5 @@ pub record FaultsNumberedFromOne : Type 0 where
   pub of-writing : (t : Tables) (entry : List ℕ) → numberedFromOne (writing t entry .faults) ≡ true
   pub of-placing : (p : Places) (entry : List ℕ) → numberedFromOne (placing p entry .faults) ≡ true
   pub of-explaining :
-      (rule : ℕ) (t : Tables) (entry : Shown) → numberedFromOne (explaining rule t entry .faults) ≡ true
+      (rule : ℕ) (t : Tables) (entry : Explanation) → numberedFromOne (explaining rule t entry .faults) ≡ true
   pub of-entering : (p : Posting) (entry : PlainBook) → numberedFromOne (entering p entry .faults) ≡ true

@@ -13,7 +13,8 @@ use Rattle.model.specs.market.Market.{Tables, bidAt, market, cut, opens,
 use Rattle.model.specs.market.Mechanism.{charge}
 use Rattle.model.specs.market.Outcome.{Results, screened, decision}
 use Rattle.model.specs.market.Faults.{Accepted, explainingFaults}
-use Rattle.model.specs.market.Reasons.{codes, highestCode, Told, outcomeLengths, guestOutcomes, Shown}
+use Rattle.model.specs.market.Reasons.{codes, highestCode, OutcomeTable, outcomeLengths, guestOutcomes}
+use Rattle.model.specs.market.Reasons.{Explanation}
 use Rattle.model.specs.market.Rules.{ruleOf}
 use Rattle.model.specs.claims.Calls.{ClearedCall}
 use Rattle.model.specs.claims.Meaning.{NamesRule}
@@ -55,15 +56,15 @@ CodesTellFacts =
 
 -- guest i's outcome is a win exactly where it is assigned, with its station and charge, else a loss with its highest
 -- code, which is 1 to 4
-pub record OutcomeTells (rule : Rule) (t : Tables) (o : Told) (i : ℕ) : Type 0 where
+pub record OutcomeTells (rule : Rule) (t : Tables) (o : OutcomeTable) (i : ℕ) : Type 0 where
   pub won :
       (j : ℕ) → (decision rule t) .assigned i ≡ suc j
       → (getD (o .stations) i 0 ≡ suc j) × (getD (o .charges) i 0 ≡ charge (screened rule t) (decision rule t) i j)
-      × (getD (o .losses) i 0 ≡ 0)
+      × (getD (o .reasons) i 0 ≡ 0)
   pub lost :
       (decision rule t) .assigned i ≡ 0
-      → (getD (o .stations) i 0 ≡ 0) × (getD (o .charges) i 0 ≡ 0) × (getD (o .losses) i 0 ≡ highestCode rule t i)
-      × (1 ≤ getD (o .losses) i 0) × (getD (o .losses) i 0 ≤ 4)
+      → (getD (o .stations) i 0 ≡ 0) × (getD (o .charges) i 0 ≡ 0) × (getD (o .reasons) i 0 ≡ highestCode rule t i)
+      × (1 ≤ getD (o .reasons) i 0) × (getD (o .reasons) i 0 ≤ 4)
 
 abbrev pub OutcomesTellWinsAndLosses : Type 0
 OutcomesTellWinsAndLosses =
@@ -89,13 +90,13 @@ ExplainingAcceptedIffWithinLimits =
 -- it answers 0 exactly within these limits, its outcome table in three lists
 abbrev pub ExplainedIffWithinLimits : Type 0
 ExplainedIffWithinLimits =
-    (rule : ℕ) (t : Tables) (entry exit : Shown) (number : ℕ) → RepliesOut (explaining rule t) entry number exit
+    (rule : ℕ) (t : Tables) (entry exit : Explanation) (number : ℕ) → RepliesOut (explaining rule t) entry number exit
     → (number ≡ 0) ↔ ExplainingWithinLimits rule t (length (entry .codes)) (outcomeLengths (entry .outcomes))
 
 -- a call that answered 0, whatever its tables held before
 pub record ExplainedCall (rule : ℕ) (t : Tables) : Type 0 where
-  pub entry : Shown
-  pub exit : Shown
+  pub entry : Explanation
+  pub exit : Explanation
   pub call : RepliesOut (explaining rule t) entry 0 exit
 
 -- there is one for every accepted market, under either rule
@@ -103,7 +104,7 @@ abbrev pub ExplainedCallExists : Type 0
 ExplainedCallExists = (rule : ℕ) (t : Tables) → NamesRule rule → Accepted t → ExplainedCall rule t
 
 -- the code at the place of guest i and station j
-unfoldable pub codeIn : Tables → Shown → (i j : ℕ) → ℕ
+unfoldable pub codeIn : Tables → Explanation → (i j : ℕ) → ℕ
 codeIn t e i j = getD (e .codes) (i * length (t .asks) + j) 0
 
 abbrev pub CodesTellFactsCalls : Type 0
@@ -118,14 +119,14 @@ OutcomesTellWinsAndLossesCalls =
 
 -- beside a call of `clear` on the same tables under the same rule: the station and the charge are the clearing's; a win
 -- exactly where it has a station, and where it has none a loss with the greatest code of the row
-pub record TellsClearing (t : Tables) (e : Shown) (r : Results) (i : ℕ) : Type 0 where
+pub record TellsClearing (t : Tables) (e : Explanation) (r : Results) (i : ℕ) : Type 0 where
   pub station-is : getD (e .outcomes .stations) i 0 ≡ getD (r .stations) i 0
   pub charge-is : getD (e .outcomes .charges) i 0 ≡ getD (r .charges) i 0
-  pub wins : (getD (e .outcomes .losses) i 0 ≡ 0) ↔ (1 ≤ getD (r .stations) i 0)
+  pub wins : (getD (e .outcomes .reasons) i 0 ≡ 0) ↔ (1 ≤ getD (r .stations) i 0)
   pub loses :
       getD (r .stations) i 0 ≡ 0
-      → (getD (e .outcomes .losses) i 0 ≡ greatest (length (t .asks)) (codeIn t e i))
-      × (1 ≤ getD (e .outcomes .losses) i 0) × (getD (e .outcomes .losses) i 0 ≤ 4)
+      → (getD (e .outcomes .reasons) i 0 ≡ greatest (length (t .asks)) (codeIn t e i))
+      × (1 ≤ getD (e .outcomes .reasons) i 0) × (getD (e .outcomes .reasons) i 0 ≤ 4)
 
 abbrev pub ExplainTellsClear : Type 0
 ExplainTellsClear =

@@ -9,7 +9,7 @@ use Rattle.model.specs.Verdicts.{Verdict}
 use Rattle.model.specs.market.Market.{Tables}
 use Rattle.model.specs.market.Faults.{tableFaults, clearingFaults, explainingFaults}
 use Rattle.model.specs.market.Outcome.{Results, Outcome, outcome, efficientOutcome}
-use Rattle.model.specs.market.Reasons.{codes, outcomeLengths, guestOutcomes, Shown, shownAs}
+use Rattle.model.specs.market.Reasons.{codes, outcomeLengths, guestOutcomes, Explanation, explanation}
 use Rattle.model.specs.market.Rules.{ruleOf}
 use Rattle.model.specs.sheet.Content.{guests, stations, tablesOf}
 use Rattle.model.specs.sheet.Lent.{LentTables, readingFaults, filled}
@@ -87,11 +87,11 @@ PlacesBids p entry answer exit = Keeps (placing p) entry (answerOfVerdict answer
 
 -- ---- the exported `explain`: no value
 
-unfoldable pub explaining : (rule : ℕ) (t : Tables) (entry : Shown) → Promise Unit Shown
+unfoldable pub explaining : (rule : ℕ) (t : Tables) (entry : Explanation) → Promise Unit Explanation
 explaining rule t entry = record {
   faults = explainingFaults rule t (length (entry .codes)) (outcomeLengths (entry .outcomes));
   value = tt;
-  leaves = shownAs (codes (ruleOf rule) t) (guestOutcomes (ruleOf rule) t);
+  leaves = explanation (codes (ruleOf rule) t) (guestOutcomes (ruleOf rule) t);
 }
 
 -- ---- `post`: no value; its book is held to the plain one

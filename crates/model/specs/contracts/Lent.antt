@@ -7,7 +7,7 @@ use denote.Triple.Both.{Both}
 use Rattle.model.specs.market.Market.{Tables, tables, regular}
 use Rattle.model.specs.market.Outcome.{Results, results}
 use Rattle.model.specs.book.Book.{Book, book}
-use Rattle.model.specs.market.Reasons.{Told, tellings, Shown, shownAs}
+use Rattle.model.specs.market.Reasons.{OutcomeTable, outcomeTable, Explanation, explanation}
 use Rattle.model.specs.sheet.Lent.{LentTables, lentTables}
 use Rattle.model.specs.places.Bids.{Places, places}
 use Rattle.model.specs.declared.account.StationAccount.{StationAccount}
@@ -69,14 +69,14 @@ placesIn prices falls guestFirst guestSecond stationFirst stationSecond =
     (stationSecond .entry)
 
 -- an outcome table in three lists, and a code table with it
-abbrev pub tellingsIn : (stations charges losses : Lent (List ℕ)) → Told
-tellingsIn stations charges losses = tellings (now (stations .entry)) (now (charges .entry)) (now (losses .entry))
+abbrev pub outcomesIn : (stations charges reasons : Lent (List ℕ)) → OutcomeTable
+outcomesIn stations charges reasons = outcomeTable (now (stations .entry)) (now (charges .entry)) (now (reasons .entry))
 
-abbrev pub tellingsOut : (stations charges losses : Lent (List ℕ)) → Told
-tellingsOut stations charges losses = tellings (now (stations .exit)) (now (charges .exit)) (now (losses .exit))
+abbrev pub outcomesOut : (stations charges reasons : Lent (List ℕ)) → OutcomeTable
+outcomesOut stations charges reasons = outcomeTable (now (stations .exit)) (now (charges .exit)) (now (reasons .exit))
 
-abbrev pub shownIn : (codes stations charges losses : Lent (List ℕ)) → Shown
-shownIn codes stations charges losses = shownAs (now (codes .entry)) (tellingsIn stations charges losses)
+abbrev pub explanationIn : (codes stations charges reasons : Lent (List ℕ)) → Explanation
+explanationIn codes stations charges reasons = explanation (now (codes .entry)) (outcomesIn stations charges reasons)
 
-abbrev pub shownOut : (codes stations charges losses : Lent (List ℕ)) → Shown
-shownOut codes stations charges losses = shownAs (now (codes .exit)) (tellingsOut stations charges losses)
+abbrev pub explanationOut : (codes stations charges reasons : Lent (List ℕ)) → Explanation
+explanationOut codes stations charges reasons = explanation (now (codes .exit)) (outcomesOut stations charges reasons)

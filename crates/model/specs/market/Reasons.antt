@@ -11,8 +11,8 @@ use Rattle.model.specs.market.Outcome.{decision, outcome}
 use Rattle.model.specs.declared.rule.Rule.{Rule}
 
 -- for guest i and station j: no bid, station not open, bid below the cut, outbid (a candidate without a place)
-unfoldable pub reasons : Market → (i j : ℕ) → List Row
-reasons M i j =
+unfoldable pub conditions : Market → (i j : ℕ) → List Row
+conditions M i j =
     (M .bid i j =? 0 gives 1)
     ∷ (not (opens M j) gives 2)
     ∷ (M .bid i j <? cut M gives 3)
@@ -21,7 +21,7 @@ reasons M i j =
 
 -- the code: the first of 1 to 4 that applies, or 0: place held
 unfoldable pub code : Market → (i j : ℕ) → ℕ
-code M i j = numberOf (firstFault (reasons M i j))
+code M i j = numberOf (firstFault (conditions M i j))
 
 -- the code table, row after row as the bids
 unfoldable pub codes : Rule → Tables → List ℕ
@@ -32,32 +32,32 @@ unfoldable pub highestCode : Rule → Tables → (i : ℕ) → ℕ
 highestCode rule t i = greatest (length (t .asks)) (code (market rule t) i)
 
 -- an outcome table, as three lists: the station and charge of each win, the code of each loss; 0 where there is none
-pub record Told : Type 0 where
+pub record OutcomeTable : Type 0 where
   pub stations : List ℕ
   pub charges : List ℕ
-  pub losses : List ℕ
+  pub reasons : List ℕ
 
-abbrev pub tellings : (stations charges losses : List ℕ) → Told
-tellings stations charges losses = record { stations = stations; charges = charges; losses = losses }
+abbrev pub outcomeTable : (stations charges reasons : List ℕ) → OutcomeTable
+outcomeTable stations charges reasons = record { stations = stations; charges = charges; reasons = reasons }
 
 -- how long they are
-abbrev pub outcomeLengths : Told → List ℕ
-outcomeLengths o = length (o .stations) ∷ length (o .charges) ∷ length (o .losses) ∷ []
+abbrev pub outcomeLengths : OutcomeTable → List ℕ
+outcomeLengths o = length (o .stations) ∷ length (o .charges) ∷ length (o .reasons) ∷ []
 
 -- the code table and the outcome table that a call is lent
-pub record Shown : Type 0 where
+pub record Explanation : Type 0 where
   pub codes : List ℕ
-  pub outcomes : Told
+  pub outcomes : OutcomeTable
 
-abbrev pub shownAs : (codes : List ℕ) (outcomes : Told) → Shown
-shownAs codes outcomes = record { codes = codes; outcomes = outcomes }
+abbrev pub explanation : (codes : List ℕ) (outcomes : OutcomeTable) → Explanation
+explanation codes outcomes = record { codes = codes; outcomes = outcomes }
 
 -- guest i's loss: its highest code, 0 where it is assigned
 unfoldable pub loss : Rule → Tables → (i : ℕ) → ℕ
 loss rule t i = only ((decision rule t) .assigned i =? 0) (highestCode rule t i)
 
 -- each guest's outcome: a win with the clearing's station and charge, or a loss that carries its highest code
-unfoldable pub guestOutcomes : Rule → Tables → Told
+unfoldable pub guestOutcomes : Rule → Tables → OutcomeTable
 guestOutcomes rule t =
-    tellings ((outcome rule t) .results .stations) ((outcome rule t) .results .charges)
+    outcomeTable ((outcome rule t) .results .stations) ((outcome rule t) .results .charges)
     (list (length (t .amounts)) (loss rule t))

@@ -6,7 +6,7 @@ use Rattle.model.specs.Verdicts.{Verdict, accepted, refused, firstFault}
 use Rattle.model.specs.market.Market.{Tables}
 use Rattle.model.specs.market.Outcome.{Outcome, outcome, efficientOutcome}
 use Rattle.model.specs.market.Faults.{verdict}
-use Rattle.model.specs.market.Reasons.{Told, guestOutcomes}
+use Rattle.model.specs.market.Reasons.{OutcomeTable, guestOutcomes}
 use Rattle.model.specs.sheet.Shortest.{shortest, writingFaults}
 use Rattle.model.specs.text.ReasonsText.{reasonsText}
 use Rattle.model.specs.text.Text.{text, refusalText}
@@ -21,12 +21,12 @@ marketText (refused k) o = refusalText k
 unfoldable pub marketTextOf : (made : Tables → Outcome) → Tables → List ℕ
 marketTextOf made t = marketText (verdict t) (made t)
 
-unfoldable pub reasonsPage : Verdict → Told → List ℕ
+unfoldable pub reasonsPage : Verdict → OutcomeTable → List ℕ
 reasonsPage (accepted _) o = reasonsText o
 reasonsPage (refused k) o = refusalText k
 
 -- of a market whose guests' outcomes are `made t`
-unfoldable pub reasonsPageOf : (made : Tables → Told) → Tables → List ℕ
+unfoldable pub reasonsPageOf : (made : Tables → OutcomeTable) → Tables → List ℕ
 reasonsPageOf made t = reasonsPage (verdict t) (made t)
 
 unfoldable pub sheetPage : Verdict → Tables → List ℕ

@@ -4,7 +4,7 @@ use mathlib.Core.Bool.{cond}
 use mathlib.Core.List.{List, [], _∷_, _++_}
 use lib.ListN.{getD, length}
 use Rattle.model.specs.Counting.{_=?_, joined}
-use Rattle.model.specs.market.Reasons.{Told}
+use Rattle.model.specs.market.Reasons.{OutcomeTable}
 use Rattle.model.specs.text.Decimal.{field}
 use Rattle.model.specs.text.Lines.{guestWord, chargeWord, lineEnd}
 
@@ -42,9 +42,9 @@ unfoldable pub outcomeLine : (guest station charge loss : ℕ) → List ℕ
 outcomeLine guest station charge loss = cond (loss =? 0) (winLine guest station charge) (lossLine guest loss)
 
 -- guests by number, from 1
-unfoldable pub outcomeLines : Told → ℕ → List ℕ
+unfoldable pub outcomeLines : OutcomeTable → ℕ → List ℕ
 outcomeLines o n =
-    joined n (λ k. outcomeLine (k + 1) (getD (o .stations) k 0) (getD (o .charges) k 0) (getD (o .losses) k 0))
+    joined n (λ k. outcomeLine (k + 1) (getD (o .stations) k 0) (getD (o .charges) k 0) (getD (o .reasons) k 0))
 
-unfoldable pub reasonsText : Told → List ℕ
+unfoldable pub reasonsText : OutcomeTable → List ℕ
 reasonsText o = outcomeLines o (length (o .stations))

@@ -32,7 +32,7 @@ use Rattle.model.proofs.sheet.Joined.{joined-cong}
 use Rattle.sheet.specs.Wrote.{Wrote}
 use Rattle.explain.specs.Explained.{toldBy, ExplainedUnder}
 use Rattle.explain.specs.Outcomes.{recordAt}
-use Rattle.explain.specs.declared.explained.Telling.{Telling}
+use Rattle.explain.specs.declared.explained.OutcomeArrays.{OutcomeArrays}
 use Rattle.explain.proofs.Answers.{market-verdict, shows-station, shows-charge, shows-loss, outcomes-long}
 use Rattle.report.specs.Records.{recordLine}
 use Rattle.report.proofs.text.Fields.{length-field}
@@ -114,13 +114,13 @@ record-short g o = go (o .result)
 
 -- ---- the page
 
-module _ (rule : Rule) (t : Tables) (e : Telling) (few : e .guests ≤ maxGuests)
+module _ (rule : Rule) (t : Tables) (e : OutcomeArrays) (few : e .guests ≤ maxGuests)
     (guests : e .guests ≡ length (t .amounts)) (is : toldBy e ≡ guestOutcomes rule t) where
   line-is :
       (k : ℕ) → k < length (t .amounts)
       → recordLine (k + 1) (recordAt e k)
       ≡ outcomeLine (k + 1) (getD ((guestOutcomes rule t) .stations) k 0)
-      (getD ((guestOutcomes rule t) .charges) k 0) (getD ((guestOutcomes rule t) .losses) k 0)
+      (getD ((guestOutcomes rule t) .charges) k 0) (getD ((guestOutcomes rule t) .reasons) k 0)
   unfolding recordLine
   line-is k l = λ x. outcomeLine (k + 1) (shows-station rule t e few guests is k l x)
       (shows-charge rule t e few guests is k l x) (shows-loss rule t e few guests is k l x)
@@ -133,7 +133,7 @@ module _ (rule : Rule) (t : Tables) (e : Telling) (few : e .guests ≤ maxGuests
       ∙ joined-cong (length (t .amounts)) _ _ (λ k l. line-is k l)
       ∙ ap (outcomeLines (guestOutcomes rule t)) (sym (outcomes-long rule t .0))
 
-module _ (rule : Rule) (t : Tables) (n : ℕ) (table : List ℕ) (e : Telling) (table′ : List ℕ)
+module _ (rule : Rule) (t : Tables) (n : ℕ) (table : List ℕ) (e : OutcomeArrays) (table′ : List ℕ)
     (codes : length table ≡ length (t .amounts) * length (t .asks)) (outcomes : n ≡ length (t .amounts))
     (s : ExplainedUnder rule t n table e table′) where
   judged : answerOfVerdict (e .reply) ≡ verdict t

@@ -1,5 +1,5 @@
 use borrow.Author.Needs.{needs}
-use Rattle.model.specs.market.Reasons.{tellings}
+use Rattle.model.specs.market.Reasons.{outcomeTable}
 use Rattle.bay_market.proofs.Explained.{room, charges-low, explains-out}
 use Rattle.bay_market.proofs.reasons.bay_market_explain.Statement.{statement}
 use Rattle.bay_market.proofs.reasons.bay_market_explain.Tie as tie
@@ -20,7 +20,7 @@ lay-out-requires c κs =
     let same = at-explained .before .before .table-length .ensures in
     let told = at-explained .explained .ensures in
     let args = entry-before-explained at-explained .args in
-    let lists = tellings (args .stations .now) (args .charges .now) (args .reasons .now) in
+    let lists = outcomeTable (args .stations .now) (args .charges .now) (args .reasons .now) in
     (room _ _ _ lists _ same _ _ told, charges-low _ _ _ lists _ same _ _ told)
 
 returns : tie.Need-returns
@@ -29,8 +29,8 @@ returns c =
     let at-explained = explained-before-lay-out (at-lay-out .before) in
     let same = at-explained .before .before .table-length .ensures in
     let args = entry-before-explained at-explained .args in
-    let lists = tellings (args .stations .now) (args .charges .now) (args .reasons .now) in
-    explains-out _ _ _ lists _ same _ _ (at-explained .explained .ensures) (tellings _ _ _)
+    let lists = outcomeTable (args .stations .now) (args .charges .now) (args .reasons .now) in
+    explains-out _ _ _ lists _ same _ _ (at-explained .explained .ensures) (outcomeTable _ _ _)
     (at-lay-out .lay-out .ensures) (c .reply-number .ensures)
 
 pub bay-market-explain-spec : {M : Type 1} → statement M

@@ -39,7 +39,7 @@ module _ (c : tie.In-loop Inv-loop μ-loop) where
   in-charges = omega (arith, c .loop-test .taken, entry .pre .0 .2, c .before .loop .inv .charges-are .same)
 
   in-reasons : c .before .loop .i < length (c .before .loop .reasons)
-  in-reasons = omega (arith, c .loop-test .taken, entry .pre .0 .3, c .before .loop .inv .losses-are .same)
+  in-reasons = omega (arith, c .loop-test .taken, entry .pre .0 .3, c .before .loop .inv .reasons-are .same)
 
   in-limits : c .before .loop .i < maxGuests
   in-limits = omega (arith, c .loop-test .taken, entry .pre .0 .0)
@@ -94,4 +94,4 @@ lay-out-spec =
     (λ c. in-stations (test-before-outcome (c .before))) (λ c κs. search needs) narrow-requires (λ c. search needs)
     slice-write-charges (λ c κs. search needs) slice-write-reasons (λ c. search needs) (λ c. search needs) loop-again
     (λ c. c .before .loop .inv .stations-are .same) (λ c. c .before .loop .inv .charges-are .same)
-    (λ c. c .before .loop .inv .losses-are .same) (λ c. laying-end (c .before .loop .inv) (c .loop-test .left)))
+    (λ c. c .before .loop .inv .reasons-are .same) (λ c. laying-end (c .before .loop .inv) (c .loop-test .left)))

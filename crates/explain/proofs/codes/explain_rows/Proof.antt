@@ -1,4 +1,4 @@
--- The loop: the rows of the first i guests are written, and their losses.
+-- The loop: the rows of the first i guests are written, and their reasons.
 use Prim.Native.Nat.{_-_}
 use mathlib.Core.Path.{_∙_}
 use native.Mathlib.Omega.{arith}
@@ -11,11 +11,11 @@ use Rattle.explain.proofs.codes.explain_rows.Statement.{statement}
 use Rattle.explain.proofs.codes.explain_rows.Tie as tie
 
 abbrev Inv-loop : tie.InvT-loop
-Inv-loop asks bays amounts tickets bids cut criticals bounds stations codes₀ losses₀ m i₀ codes losses i =
-    RowsSoFar (regular asks bays amounts tickets bids) (cut .0) stations codes₀ losses₀ codes losses i
+Inv-loop asks bays amounts tickets bids cut criticals bounds stations codes₀ losses₀ m i₀ codes reasons i =
+    RowsSoFar (regular asks bays amounts tickets bids) (cut .0) stations codes₀ losses₀ codes reasons i
 
 abbrev μ-loop : tie.MeasureT-loop
-μ-loop asks bays amounts tickets bids cut criticals bounds stations codes₀ losses₀ m i₀ codes losses i =
+μ-loop asks bays amounts tickets bids cut criticals bounds stations codes₀ losses₀ m i₀ codes reasons i =
     length amounts - i
 
 abbrev entry-before-first-turn : tie.After-slice-known2 Inv-loop μ-loop → tie.Start Inv-loop μ-loop
@@ -57,11 +57,11 @@ shared-slice-read-loss c =
     let at-test = view-before-row (c .before .before .before) .before in
     omega (arith, at-test .loop-test .taken, entry-before-test at-test .pre .1 .1 .0)
 
-slice-write-losses : tie.Need-slice-write-losses Inv-loop μ-loop
-slice-write-losses c =
+slice-write-reasons : tie.Need-slice-write-reasons Inv-loop μ-loop
+slice-write-reasons c =
     let at-test = view-before-row (c .before .before .before .before) .before in
-    let losses = at-test .before .loop .inv .losses-are in
-    omega (arith, at-test .loop-test .taken, losses .filled .same, losses .long)
+    let reasons = at-test .before .loop .inv .reasons-are in
+    omega (arith, at-test .loop-test .taken, reasons .filled .same, reasons .long)
 
 loop-again : tie.Need-loop-again Inv-loop μ-loop
 loop-again c =
@@ -78,6 +78,6 @@ pub explain-rows-spec : {M : Type 1} → statement M
 explain-rows-spec =
     tie.close (tie.spec Inv-loop μ-loop loop-holds (λ c. search needs) (λ c κs. search needs) (λ c. search needs)
     (λ c. search needs) (λ c. search needs) shared-slice-read-explain-row-2 mul-explain-row-3 explain-row-requires
-    (λ c. search needs) shared-slice-read-loss (λ c κs. search needs) slice-write-losses (λ c. search needs)
+    (λ c. search needs) shared-slice-read-loss (λ c κs. search needs) slice-write-reasons (λ c. search needs)
     (λ c. search needs) loop-again (λ c. rows-same (c .before .loop .inv))
-    (λ c. c .before .loop .inv .losses-are .filled .same) (λ c. rows-end (c .before .loop .inv) (c .loop-test .left)))
+    (λ c. c .before .loop .inv .reasons-are .filled .same) (λ c. rows-end (c .before .loop .inv) (c .loop-test .left)))

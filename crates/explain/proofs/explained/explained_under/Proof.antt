@@ -36,8 +36,8 @@ few c = within c .0 .shape .guests-most
 array-borrow-prefix-charges : tie.Need-array-borrow-prefix-charges
 array-borrow-prefix-charges c = few (c .before)
 
-array-borrow-prefix-losses : tie.Need-array-borrow-prefix-losses
-array-borrow-prefix-losses c = few (c .before .before)
+array-borrow-prefix-reasons : tie.Need-array-borrow-prefix-reasons
+array-borrow-prefix-reasons c = few (c .before .before)
 
 slice-aggregate-explain-accepted : tie.Need-slice-aggregate-explain-accepted
 slice-aggregate-explain-accepted c = zeros-long maxGuests _ (few (c .before))
@@ -75,5 +75,5 @@ pub explained-under-spec : {M : Type 1} → statement M
 explained-under-spec =
     tie.close (tie.spec (λ c κs. search needs) (λ c. search needs) (λ c κs. search needs) (λ c. search needs)
     (λ c κs. search needs) few slice-aggregate-explain-accepted array-borrow-prefix-charges
-    slice-aggregate-explain-accepted-2 array-borrow-prefix-losses slice-aggregate-explain-accepted-3
+    slice-aggregate-explain-accepted-2 array-borrow-prefix-reasons slice-aggregate-explain-accepted-3
     explain-accepted-requires returns (λ c. search needs) returns-2)
