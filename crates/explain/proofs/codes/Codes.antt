@@ -194,12 +194,12 @@ abbrev lossAt : (t : Tables) (c : ℕ) (stations : List ℕ) → ℕ → ℕ
 lossAt t c stations i = only (getD stations i 0 =? 0) (greatest (length (t .asks)) (codeAt t c i))
 
 -- the rows of the first i guests, then what was there; and their reasons
-pub record RowsSoFar (t : Tables) (c : ℕ) (stations codes₀ losses₀ codes reasons : List ℕ) (i : ℕ) : Type 0 where
+pub record RowsSoFar (t : Tables) (c : ℕ) (stations codes₀ reasons₀ codes reasons : List ℕ) (i : ℕ) : Type 0 where
   pub within : i ≤ length (t .amounts)
   pub long : length codes₀ ≡ length (t .amounts) * length (t .asks)
   pub is :
       codes ≡ joined i (λ k. list (length (t .asks)) (codeAt t c k)) ++ drop (i * length (t .asks)) codes₀
-  pub reasons-are : Filling (length (t .amounts)) (lossAt t c stations) losses₀ reasons i
+  pub reasons-are : Filling (length (t .amounts)) (lossAt t c stations) reasons₀ reasons i
 
 pub rows-none :
     {t : Tables} {c : ℕ} {stations codes reasons : List ℕ} → length codes ≡ length (t .amounts) * length (t .asks)
@@ -209,8 +209,8 @@ rows-none {t} long l =
     let none : 0 * length (t .asks) ≡ 0 = omega arith in
     record { within = omega arith; long = long; is = rw none refl; reasons-are = filling-none l }
 
-module _ {t : Tables} {c : ℕ} {stations codes₀ losses₀ codes reasons : List ℕ} {i : ℕ}
-    (s : RowsSoFar t c stations codes₀ losses₀ codes reasons i) where
+module _ {t : Tables} {c : ℕ} {stations codes₀ reasons₀ codes reasons : List ℕ} {i : ℕ}
+    (s : RowsSoFar t c stations codes₀ reasons₀ codes reasons i) where
   abbrev m : ℕ
   m = length (t .asks)
 
@@ -233,7 +233,7 @@ module _ {t : Tables} {c : ℕ} {stations codes₀ losses₀ codes reasons : Lis
       → ((j : ℕ) → j < m → f j ≡ codeAt t c i j)
       → (codes′ ≡ paste codes (i * m) (list m f) m) × (top ≡ greatest m f)
       → v ≡ only (getD stations i 0 =? 0) top
-      → RowsSoFar t c stations codes₀ losses₀ codes′ (set reasons i v) (i + 1)
+      → RowsSoFar t c stations codes₀ reasons₀ codes′ (set reasons i v) (i + 1)
   unfolding joined
   rows-turn {f} l h (e, q) p =
       let next : (i + 1) * m ≡ i * m + m = omega arith in

@@ -11,11 +11,11 @@ use Rattle.explain.proofs.codes.explain_rows.Statement.{statement}
 use Rattle.explain.proofs.codes.explain_rows.Tie as tie
 
 abbrev Inv-loop : tie.InvT-loop
-Inv-loop asks bays amounts tickets bids cut criticals bounds stations codes₀ losses₀ m i₀ codes reasons i =
-    RowsSoFar (regular asks bays amounts tickets bids) (cut .0) stations codes₀ losses₀ codes reasons i
+Inv-loop asks bays amounts tickets bids cut criticals bounds stations codes₀ reasons₀ m i₀ codes reasons i =
+    RowsSoFar (regular asks bays amounts tickets bids) (cut .0) stations codes₀ reasons₀ codes reasons i
 
 abbrev μ-loop : tie.MeasureT-loop
-μ-loop asks bays amounts tickets bids cut criticals bounds stations codes₀ losses₀ m i₀ codes reasons i =
+μ-loop asks bays amounts tickets bids cut criticals bounds stations codes₀ reasons₀ m i₀ codes reasons i =
     length amounts - i
 
 abbrev entry-before-first-turn : tie.After-slice-known2 Inv-loop μ-loop → tie.Start Inv-loop μ-loop

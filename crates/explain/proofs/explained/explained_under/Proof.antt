@@ -14,7 +14,7 @@ use Rattle.explain.proofs.explained.explained_under.Tie as tie
 abbrev entry-before-call : tie.After-explain-accepted-arg → tie.Start
 entry-before-call p = p .before .before .before .before .before .before .before .before .before .before .before
 
-abbrev accepted-before-end : tie.After-losses2 → tie.After-explain-accepted
+abbrev accepted-before-end : tie.After-reasons2 → tie.After-explain-accepted
 accepted-before-end p = p .before .before .before .before .before
 
 -- the market is within the limits, and the code table as long as it has to be
