@@ -102,6 +102,7 @@ expect 0 "$reasons" '' "./clear --why $work/reasons"
 expect 0 $'cut 3\nstation 1 *' '' "./clear $work/nobody"
 expect 0 '' '' "./clear --why $work/nobody"
 [ ! -s "$work/out" ]
+expect 0 '' 'clear: no guests' "$(scripts/current)/clear --why <$work/nobody"
 
 # case E with a set bit for a bid of 0: the same clearing, and 4 bytes more than are written
 {
@@ -300,13 +301,20 @@ expect 0 "$case_e" '' "PATH=/usr/bin:/bin $copy/clear $copy/examples/case_e.shee
 chmod -R a-w "$copy"
 expect 0 "$case_e" '' "$copy/clear $copy/examples/case_e.sheet"
 chmod -R u+w "$copy"
-# a program that fails
-for program in 'kill -9 $$' 'exit 1' 'echo oops >&2'; do
+# a program that fails, and one that writes nothing and says no word
+for program in 'kill -9 $$' 'exit 1' 'exit 0' 'echo oops >&2'; do
     printf '#!/bin/sh\n%s\n' "$program" >"$copy/prebuilt/x86_64-linux/clear"
     expect 3 '' 'clear: the program failed: *' "$copy/clear $copy/examples/case_e.sheet"
     expect 3 '' 'clear: the program failed: *' "$copy/clear --write $copy/examples/case_e.sheet"
     expect 3 '' 'clear: the program failed: *' "$copy/clear --quiet $copy/examples/case_e.sheet"
     expect 3 '' 'clear: the program failed: *' "$copy/clear --why $copy/examples/case_e.sheet"
+done
+# one that ends inside the page
+for program in 'echo cut 6' 'echo cut 6; kill -9 $$' 'echo guest 1 loses: outbid; kill -9 $$'; do
+    printf '#!/bin/sh\n%s\n' "$program" >"$copy/prebuilt/x86_64-linux/clear"
+    for page in '' --quiet --why; do
+        expect 3 '' 'clear: the program failed: *' "$copy/clear $page $copy/examples/case_e.sheet"
+    done
 done
 # one that prints another page than was asked for
 printf '#!/bin/sh\necho cut 6\n' >"$copy/prebuilt/x86_64-linux/clear"

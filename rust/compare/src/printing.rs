@@ -1,6 +1,7 @@
 //! The clearing program, target/dist/clear or the one that BAY_MARKET_PROGRAM names, against the reference's text, with
 //! --quiet against its text of the efficient clearing, with --why against that of what decided, each by rule 2 with
-//! --rule 2, and with --write against its sheet. It ends with 0 and writes nothing to standard error, whatever the sheet.
+//! --rule 2, and with --write against its sheet. It ends with 0 and writes nothing to standard error, whatever the sheet,
+//! but that there are no guests where its page is empty.
 
 use crate::Tally;
 use crate::markets::{accepted, hex, shapes, small};
@@ -17,8 +18,9 @@ use std::{env, thread};
 
 const PAUSE: Duration = Duration::from_millis(3);
 
-/// Runs the program on an input that comes through a pipe in two pieces, the second after the first was likely read.
-fn run_program(program: &Path, arguments: &[&str], input: &[u8], first: usize) -> Result<Vec<u8>, String> {
+/// Runs the program on an input that comes through a pipe in two pieces, the second after the first was likely read. It
+/// has to say this on standard error.
+fn run_program(program: &Path, arguments: &[&str], input: &[u8], first: usize, says: &str) -> Result<Vec<u8>, String> {
     let mut child = Command::new(program)
         .args(arguments)
         .stdin(Stdio::piped())
@@ -37,7 +39,7 @@ fn run_program(program: &Path, arguments: &[&str], input: &[u8], first: usize) -
     });
     let output = child.wait_with_output().map_err(|error| error.to_string())?;
     writer.join().expect("the writer");
-    if !output.status.success() || !output.stderr.is_empty() {
+    if !output.status.success() || output.stderr != says.as_bytes() {
         let said = String::from_utf8_lossy(&output.stderr);
         return Err(format!("the program ended with {} and said {said:?}", output.status));
     }
@@ -99,7 +101,8 @@ pub fn run(random: &mut Random, tally: &mut Tally, cases: usize) -> Result<(), S
         for (arguments, expected) in asked {
             tally.count(&number.map_or(Ok(()), Err));
             let first = random.below(sheet.len() + 1);
-            let output = run_program(&program, arguments, &sheet, first)?;
+            let says = if expected.is_empty() { "clear: no guests\n" } else { "" };
+            let output = run_program(&program, arguments, &sheet, first, says)?;
             if output != expected {
                 let [output, expected] = [output, expected].map(|bytes| bytes.escape_ascii().to_string().replace("\\n", "\n"));
                 return Err(format!(

@@ -7,7 +7,7 @@ use native.Mathlib.Omega.{arith}
 use Rattle.model.specs.Counting.{_≤?_, _and_, joined}
 use Rattle.model.specs.Verdicts.{Row, _gives_, accepted, firstFault, numberOf}
 use Rattle.model.specs.claims.Promises.{RefusedLeaves, PromiseDetermines, ExportDetermines, PromiseCanBeKept}
-use Rattle.model.specs.claims.Promises.{numberedFromOne, ZeroIsAccepted, FaultsNumberedFromOne}
+use Rattle.model.specs.claims.Promises.{ExportCanKeep, numberedFromOne, ZeroIsAccepted, FaultsNumberedFromOne}
 use Rattle.model.specs.contracts.EntryPoints.{clearing, reading, writing, placing, explaining, entering}
 use Rattle.model.specs.market.Faults.{unknownRule, counts, lengths, listLengths, values, marketFaults}
 use Rattle.model.specs.market.Faults.{tableFaults, clearingFaults, explainedLengths, explainedFaults}
@@ -35,6 +35,9 @@ export-determines A L p entry out number number′ exit exit′ out′ out″ c 
 
 pub promise-can-be-kept : PromiseCanBeKept
 promise-can-be-kept A L p entry = (_, _, record { answered = refl; left = refl })
+
+pub export-can-keep : ExportCanKeep
+export-can-keep A L p entry out = (_, _, _, record { number-is = refl; left = refl; out-is = refl })
 
 -- ---- 0 means accepted
 

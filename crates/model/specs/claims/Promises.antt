@@ -40,6 +40,11 @@ PromiseCanBeKept =
     (A L : Type 0) (p : L → Promise A L) (entry : L)
     → (answer : Answer A) × (exit : L) × Keeps p entry answer exit
 
+abbrev pub ExportCanKeep : Type 1
+ExportCanKeep =
+    (A L : Type 0) (p : L → Promise A L) (entry : L) (out : A)
+    → (number : ℕ) × (exit : L) × (out′ : A) × KeepsOut p entry out number exit out′
+
 -- ---- 0 means accepted
 
 -- every number of a table of faults is 1 or more
