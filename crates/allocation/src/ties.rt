@@ -19,12 +19,13 @@ fn tally(s: u32, x: Mills, t: Mills) -> u32
     if x.0 == t.0 { s + 1 } else { s }
 }
 
-// Compared in 32 bits: the processor compares four such numbers at once.
-fn tied_below(total: Mills, t: Mills, ticket: u32, x: u32) -> bool
-    requires { ⌜ (total .0 < 2 ^ 32) × (t .0 < 2 ^ 32) ⌝ }
+// A total in 32 bits: the processor compares four of them at once.
+struct Total(u32);
+
+fn tied_below(total: Total, t: Total, ticket: u32, x: u32) -> bool
     ensures { λ r. ⌜ r ≡ (total .0 =? t .0 and ticket <? x) ⌝ }
 {
-    (total.narrow() == t.narrow()) & (ticket < x)
+    (total.0 == t.0) & (ticket < x)
 }
 
 // How many at t have a ticket below x.
@@ -33,10 +34,12 @@ fn count_ties(totals: &[u32], tickets: &[u32], t: Mills, x: u32) -> u32
         × (t .0 ≤ maxTotal) ⌝ }
     ensures { λ r. ⌜ r ≡ tiesBelow (now (totals .entry)) (now (tickets .entry)) (t .0) x ⌝ }
 {
+    let at = t.narrow();
     let mut n: u32 = 0;
     let mut i = 0;
     while i < totals.len() {
-        if tied_below(Mills::wide(totals[i]), t, tickets[i], x) {
+        let total = totals[i];
+        if tied_below(Total(total), Total(at), tickets[i], x) {
             n += 1;
         }
         i += 1;
