@@ -188,7 +188,7 @@ finds 'clear_efficient sold first accepted' 'sold other kWh' truth_efficient
 export BAY_MARKET_PROGRAM=$PWD/tests/wrong_program BAY_MARKET_REAL=$real/clear
 BAY_MARKET_FAULT='' "$compare" $seed print >/dev/null
 for fault in text refusal repeat stderr line status quiet truthful rule sheet byte refused-sheet repeat-sheet why \
-    why-rule why-refusal why-clearing why-empty; do
+    why-rule why-refusal why-clearing why-empty silent; do
     finds $fault 'differs' print
 done
 status=0
