@@ -134,7 +134,7 @@ module _ (t : Tables) (c : ℕ) {criticals bounds row : List ℕ} (w : WithinLim
   pub row-ready :
       {codes : List ℕ} → length codes ≡ length (t .amounts) * length (t .asks)
       → RowReady (t .asks) row (getD (t .amounts) i 0) criticals bounds (i * length (t .asks)) codes
-  row-ready {codes} long =
+  row-ready {codes} room =
       let end : i * length (t .asks) + length (t .asks) ≤ length (t .amounts) * length (t .asks)
       = omega (arith, mul-le-mul-right (length (t .asks)) li) in
       record {
