@@ -5,7 +5,7 @@ use mathlib.Core.List.{List, [], _∷_}
 use mathlib.Core.Path.{_≡_, refl, subst}
 use native.Mathlib.Omega.{arith}
 use lib.ListN.{take}
-use Rattle.model.specs.Counting.{_=?_, _and_}
+use Rattle.model.specs.Counting.{_=?_}
 use Rattle.model.specs.text.Asked.{quietWord, whyWord, writeWord, ruleWord, oneWord, twoWord, _spells_, ruleSpelt}
 use Rattle.model.specs.text.Asked.{ruleAsked, byRule, sheetAsked, asked}
 use Rattle.model.specs.declared.page.Page.the-variants as page
