@@ -39,7 +39,7 @@ use Rattle.allocation.specs.Stages.{AtCut}
 use Rattle.allocation.specs.Assignment.{Assigned}
 use Rattle.allocation.specs.Screens.{screenedAt}
 use Rattle.clearing.specs.Decided.{decided}
-use Rattle.model.specs.contracts.EntryPoints.{clearing, clearingUnder, ClearsUnder, ClearsBy}
+use Rattle.model.specs.contracts.EntryPoints.{clearing, clearingUnder, ClearsUnder, Clears}
 use Rattle.clearing.specs.ClearsAccepted.{ClearsAccepted}
 use Rattle.model.specs.declared.answers.Clearing.{Clearing}
 use Rattle.model.specs.declared.answers.Clearing.the-variants as clearings
@@ -196,13 +196,13 @@ clear-accepted-clears made asks bays amounts tickets bids width r e q s =
 
 pub unknown-clears :
     (made : Rule → Tables → Outcome) (rule : ℕ) (t : Tables) (r : Results) → Unknown ≡ named rule
-    → ClearsBy made rule t r (clearings.Refused UnknownRule) r
+    → Clears made rule t r (clearings.Refused UnknownRule) r
 unfolding answerOfClearing clearing clearingFaults unknownRule isUnknown firstFault
 unknown-clears made rule t r e = keeps-refused (rw (← e) refl)
 
 pub known-clears :
     (made : Rule → Tables → Outcome) (rule : ℕ) (known : Rule) (t : Tables) (r : Results) (answer : Clearing)
     {exit : Results} → Known known ≡ named rule → ClearsUnder (made known) t r answer exit
-    → ClearsBy made rule t r answer exit
+    → Clears made rule t r answer exit
 unfolding clearing clearingUnder clearingFaults unknownRule isUnknown ruleIn firstFault
 known-clears made rule known t r answer e c = record { answered = rw (← e) (c .answered); left = rw (← e) (c .left) }

@@ -9,7 +9,7 @@ use model::refusal::Refusal;
 use model::rule::NamedRule;
 use model::rule::Rule;
 ghost use Rattle.model.specs.market.Outcome.{outcomeIn};
-ghost use Rattle.model.specs.contracts.EntryPoints.{ClearsUnder, ClearsBy};
+ghost use Rattle.model.specs.contracts.EntryPoints.{ClearsUnder, Clears};
 ghost use Rattle.model.specs.contracts.Lent.{tablesIn, resultsIn, resultsOut};
 
 // Clears a market by a mechanism under a rule, or refuses it and writes nothing.
@@ -78,7 +78,7 @@ pub fn clear(
     sold: &mut [u32],
     paid: &mut [u64],
 ) -> Clearing
-    ensures { λ r. ⌜ ClearsBy (outcomeIn mechanism) rule (tablesIn asks bays amounts tickets bids width)
+    ensures { λ r. ⌜ Clears (outcomeIn mechanism) rule (tablesIn asks bays amounts tickets bids width)
         (resultsIn stations charges sold paid) r (resultsOut stations charges sold paid) ⌝ }
 {
     match NamedRule::named(rule) {

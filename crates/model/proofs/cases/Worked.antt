@@ -12,7 +12,7 @@ use Rattle.model.specs.market.Mechanism.{at}
 use Rattle.model.specs.market.Outcome.{Results, Outcome, results}
 use Rattle.model.specs.claims.Truth.{AlikeButForGuest, AlikeButForStation}
 use Rattle.model.specs.declared.rule.Rule.{Rule}
-use Rattle.model.specs.contracts.EntryPoints.{clearing, ClearsBy}
+use Rattle.model.specs.contracts.EntryPoints.{clearing, Clears}
 use Rattle.model.specs.Numbers.{answerOfClearing}
 use Rattle.model.specs.declared.answers.Clearing.{Clearing}
 use Rattle.model.specs.claims.Calls.{ClearedCallBy, ClearedCall, EfficientCall, guestGainIn, stationGainIn}
@@ -43,7 +43,7 @@ cleared cut margin = Cleared (record { 0 = cut }) (record { 0 = margin })
 -- the three calls, by computation
 abbrev pub called :
     {made : Rule → Tables → Outcome} (t : Tables) (cut margin : ℕ) (exit : Results)
-    → ClearsBy made 1 t lists (cleared cut margin) exit → ClearedCallBy made 1 t
+    → Clears made 1 t lists (cleared cut margin) exit → ClearedCallBy made 1 t
 unfolding answerOfClearing
 called t cut margin exit c =
     record {

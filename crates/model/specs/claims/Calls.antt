@@ -13,7 +13,7 @@ use Rattle.model.specs.market.Outcome.{Results, Outcome, outcome, effici
 use Rattle.model.specs.market.Faults.{Accepted}
 use Rattle.model.specs.claims.Meaning.{NamesRule}
 use Rattle.model.specs.claims.Truth.{AlikeButForGuest, AlikeButForStation}
-use Rattle.model.specs.contracts.EntryPoints.{ClearsBy}
+use Rattle.model.specs.contracts.EntryPoints.{Clears}
 use Rattle.model.specs.Numbers.{answerOfClearing}
 use Rattle.model.specs.Verdicts.{accepted}
 use Rattle.model.specs.declared.rule.Rule.{Rule}
@@ -26,7 +26,7 @@ pub record ClearedCallBy (made : Rule → Tables → Outcome) (rule : ℕ) (t : 
   pub cut : ℕ
   pub margin : ℕ
   pub exit : Results
-  pub call : ClearsBy made rule t entry answer exit
+  pub call : Clears made rule t entry answer exit
   pub cleared : answerOfClearing answer ≡ accepted (cut, margin)
 
 -- a truthful one, and an efficient one

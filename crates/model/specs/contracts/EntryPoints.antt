@@ -8,7 +8,7 @@ use Rattle.model.specs.Promises.{Promise, Keeps}
 use Rattle.model.specs.Verdicts.{Verdict}
 use Rattle.model.specs.market.Market.{Tables}
 use Rattle.model.specs.market.Faults.{tableFaults, clearingFaults, explainingFaults}
-use Rattle.model.specs.market.Outcome.{Results, Outcome, outcome, efficientOutcome}
+use Rattle.model.specs.market.Outcome.{Results, Outcome}
 use Rattle.model.specs.market.Reasons.{codes, outcomeLengths, guestOutcomes, Explanation, explanation}
 use Rattle.model.specs.market.Rules.{ruleOf}
 use Rattle.model.specs.sheet.Content.{guests, stations, tablesOf}
@@ -35,17 +35,9 @@ clearing made rule t entry = record {
   leaves = (made (ruleOf rule) t) .results;
 }
 
-abbrev pub ClearsBy : (made : Rule → Tables → Outcome) (rule : ℕ) (t : Tables) (entry : Results) (answer : Clearing)
+abbrev pub Clears : (made : Rule → Tables → Outcome) (rule : ℕ) (t : Tables) (entry : Results) (answer : Clearing)
     (exit : Results) → Type 0
-ClearsBy made rule t entry answer exit = Keeps (clearing made rule t) entry (answerOfClearing answer) exit
-
--- of `clear` with the truthful mechanism
-abbrev pub Clears : (rule : ℕ) (t : Tables) (entry : Results) (answer : Clearing) (exit : Results) → Type 0
-Clears = ClearsBy outcome
-
--- and with the efficient one
-abbrev pub ClearsEfficient : (rule : ℕ) (t : Tables) (entry : Results) (answer : Clearing) (exit : Results) → Type 0
-ClearsEfficient = ClearsBy efficientOutcome
+Clears made rule t entry answer exit = Keeps (clearing made rule t) entry (answerOfClearing answer) exit
 
 -- of `clear_under`: the rule is known, so that the tables decide
 unfoldable pub clearingUnder : (made : Tables → Outcome) (t : Tables) (entry : Results) → Promise (ℕ × ℕ) Results

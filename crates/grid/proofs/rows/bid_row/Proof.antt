@@ -1,9 +1,8 @@
 -- The loop: the first j places of the row hold the first j bids.
-use Prim.Native.Nat.{_+_, _-_, _<_}
+use Prim.Native.Nat.{_-_}
 use native.Mathlib.Omega.{arith}
 use lib.ListN.{length}
 use borrow.Author.Needs.{needs}
-use Rattle.model.specs.Limits.{maxSquaredDistance}
 use Rattle.grid.proofs.rows.Rows.{squares-long, square-is, in-table, loss-fits, bid-is, RowSoFar}
 use Rattle.grid.proofs.rows.Rows.{row-none, row-same, row-turn, row-end}
 use Rattle.grid.proofs.rows.bid_row.Statement.{statement}
