@@ -1,5 +1,5 @@
 -- Laws of `sum`, `count`, `greatest`, `some`, `any` and `list`.
-use Prim.Native.Nat.{ℕ, zero, suc, _+_, _*_, _≤_, _<_, max}
+use Prim.Native.Nat.{ℕ, zero, suc, _+_, _*_, _-_, _≤_, _<_, max}
 use mathlib.Core.Bool.{Bool, true, false}
 use mathlib.Core.Logic.{_⊎_, inl, inr, ⊎-elim}
 use mathlib.Core.Path.{_≡_, refl, sym, ap, ap₂, _∙_}
@@ -179,6 +179,19 @@ count-all (suc n) f e k l = ⊎-elim
     (λ (t : f n ≡ false). absurd (omega (arith, rw t at e, count-most n f)))
     (decide (f n))
 
+-- the k-th that passes
+pub count-place :
+    (n : ℕ) (f : ℕ → Bool) (k : ℕ) → k < count n f → (j : ℕ) × (j < n) × (f j ≡ true) × (count j f ≡ k)
+unfolding count sum only
+count-place zero f k l = absurd (not-suc-le-zero l)
+count-place (suc n) f k l = ⊎-elim
+    (λ (h : k < count n f). let (j, lj, t, e) = count-place n f k h in (j, up lj, t, e))
+    (λ (h : count n f ≤ k). ⊎-elim
+    (λ (t : f n ≡ true). (n, here, t, omega (arith, rw t at l)))
+    (λ (t : f n ≡ false). absurd (omega (arith, rw t at l)))
+    (decide (f n)))
+    (lt-or-le k (count n f))
+
 pub count-front : (n : ℕ) (f : ℕ → Bool) → count (suc n) f ≡ only (f 0) 1 + count n (λ k. f (suc k))
 unfolding count
 count-front n f = sum-front n (λ k. only (f k) 1)
@@ -237,6 +250,10 @@ count-step i f = rw add-one refl
 pub count-yes : (i : ℕ) (f : ℕ → Bool) → f i ≡ true → count (i + 1) f ≡ count i f + 1
 count-yes i f e = count-step i f ∙ ap (λ x. count i f + x) (only-yes _ 1 e)
 
+-- before one that passes there are fewer
+pub count-less : (n : ℕ) (f : ℕ → Bool) (k : ℕ) → k < n → f k ≡ true → count k f < count n f
+count-less n f k l e = omega (arith, count-yes k f e, count-up (k + 1) n f (omega arith))
+
 pub count-not : (i : ℕ) (f : ℕ → Bool) → f i ≡ false → count (i + 1) f ≡ count i f
 count-not i f e = count-step i f ∙ ap (λ x. count i f + x) (only-no _ 1 e) ∙ add-zero (count i f)
 
@@ -266,6 +283,22 @@ pub none-some : (n : ℕ) (f : ℕ → Bool) → ((k : ℕ) → k < n → f k �
 unfolding some
 none-some zero f h = refl
 none-some (suc n) f h = neither (none-some n f (λ k l. h k (up l))) (h n here)
+
+-- among the first i, or among the k from p on, which begin there or before
+pub some-joined :
+    (f : ℕ → Bool) (i p k : ℕ) → p ≤ i → i ≤ p + k → (some i f or some k (λ j. f (p + j))) ≡ some (p + k) f
+some-joined f i p k a b = ⊎-elim
+    (λ (e : some (p + k) f ≡ true). ⊎-elim
+    (λ (h : (some i f or some k (λ j. f (p + j))) ≡ true). h ∙ sym e)
+    (λ (h : (some i f or some k (λ j. f (p + j))) ≡ false). absurd (clash e (none-some (p + k) f (λ j l. ⊎-elim
+    (λ (m : j < i). some-no i f (or-no _ _ h .0) j m)
+    (λ (m : i ≤ j).
+    let q : p + (j - p) ≡ j = omega arith in rw q at (some-no k _ (or-no _ _ h .1) (j - p) (omega arith)))
+    (lt-or-le j i)))))
+    (decide _))
+    (λ (e : some (p + k) f ≡ false). neither (none-some i f (λ j l. some-no (p + k) f e j (omega arith)))
+    (none-some k _ (λ j l. some-no (p + k) f e (p + j) (omega arith))) ∙ sym e)
+    (decide (some (p + k) f))
 
 pub some-cong : (n : ℕ) (f g : ℕ → Bool) → ((k : ℕ) → k < n → f k ≡ g k) → some n f ≡ some n g
 unfolding some

@@ -1,12 +1,16 @@
 -- Laws of the first fault of a table and of two tables in turn, and of the answers that it gives.
-use Prim.Native.Nat.{ℕ}
+use Prim.Native.Nat.{ℕ, zero, suc, _<_}
 use mathlib.Core.Bool.{Bool, true, false}
 use mathlib.Core.List.{List, [], _∷_, _++_}
+use mathlib.Core.Logic.{_⊎_, inl, inr, ⊎-elim}
 use mathlib.Core.Path.{_≡_, refl, sym, ap, _∙_}
+use native.Mathlib.Nat.{not-suc-le-zero, eq-or-lt-of-le, le-of-suc-le-suc}
 use native.Mathlib.Omega.{arith}
+use Rattle.model.specs.Counting.{joined}
 use Rattle.model.specs.Numbers.{answerOfVerdict}
 use Rattle.model.specs.declared.answers.Verdict.{Verdict as Coded}
 use Rattle.model.specs.Verdicts.{Row, _gives_, Verdict, accepted, refused, firstFault, giving, updated, numberOf}
+use Rattle.model.proofs.Counting.{up, here}
 
 pub fault-here : {b : Bool} {r : ℕ} (rows : List Row) → b ≡ true → firstFault ((b gives r) ∷ rows) ≡ refused r
 unfolding firstFault
@@ -53,6 +57,64 @@ pub fault-free :
     → firstFault ((b gives r) ∷ rows) ≡ accepted tt
 unfolding firstFault
 fault-free r rows p e = rw p e
+
+-- ---- tables one after the other
+module _ (f : ℕ → List Row) where
+  pub faults-none : firstFault (joined 0 f) ≡ accepted tt
+  unfolding joined
+  faults-none = fault-none
+
+  -- after i tables with no fault the next one decides
+  pub faults-suc : (i : ℕ) → firstFault (joined i f) ≡ accepted tt → firstFault (joined (suc i) f) ≡ firstFault (f i)
+  unfolding joined
+  faults-suc i e = fault-second (joined i f) _ e
+
+  faults-still : (i : ℕ) {r : ℕ} → firstFault (joined i f) ≡ refused r → firstFault (joined (suc i) f) ≡ refused r
+  unfolding joined
+  faults-still i e = fault-first (joined i f) _ e
+
+  pub faults-split :
+      (i : ℕ) → firstFault (joined (suc i) f) ≡ accepted tt
+      → (firstFault (joined i f) ≡ accepted tt) × (firstFault (f i) ≡ accepted tt)
+  unfolding joined
+  faults-split i e = no-faults (joined i f) _ e
+
+  -- the first fault of one table is that of all
+  pub faults-first :
+      (n i : ℕ) {r : ℕ} → i < n → firstFault (joined i f) ≡ accepted tt → firstFault (f i) ≡ refused r
+      → firstFault (joined n f) ≡ refused r
+  faults-first zero i l e g = absurd (not-suc-le-zero l)
+  faults-first (suc n) i l e g = ⊎-elim
+      (λ (h : i ≡ n). rw (← h) (faults-suc i e ∙ g))
+      (λ (h : i < n). faults-still n (faults-first n i h e g))
+      (eq-or-lt-of-le (le-of-suc-le-suc l))
+
+  -- no fault in all is none in each
+  pub faults-each : (n i : ℕ) → firstFault (joined n f) ≡ accepted tt → i < n → firstFault (f i) ≡ accepted tt
+  faults-each zero i e l = absurd (not-suc-le-zero l)
+  faults-each (suc n) i e l = ⊎-elim
+      (λ (h : i ≡ n). rw h (faults-split n e .1))
+      (λ (h : i < n). faults-each n i (faults-split n e .0) h)
+      (eq-or-lt-of-le (le-of-suc-le-suc l))
+
+  pub faults-all :
+      (n : ℕ) → ((i : ℕ) → i < n → firstFault (f i) ≡ accepted tt) → firstFault (joined n f) ≡ accepted tt
+  faults-all zero h = faults-none
+  faults-all (suc n) h = faults-suc n (faults-all n (λ i l. h i (up l))) ∙ h n here
+
+  -- where no table has another fault than r, all have none or r
+  pub faults-either :
+      (n : ℕ) {r : ℕ}
+      → ((i : ℕ) → i < n → (firstFault (f i) ≡ accepted tt) ⊎ (firstFault (f i) ≡ refused r))
+      → (firstFault (joined n f) ≡ accepted tt) ⊎ (firstFault (joined n f) ≡ refused r)
+  faults-either zero h = inl faults-none
+  faults-either (suc n) {r} h = ⊎-elim
+      (λ (e : firstFault (joined n f) ≡ accepted tt). ⊎-elim
+      (λ (g : firstFault (f n) ≡ accepted tt). inl (faults-suc n e ∙ g))
+      (λ (g : firstFault (f n) ≡ refused r). inr (faults-suc n e ∙ g))
+      (h n here))
+      (λ (e : firstFault (joined n f) ≡ refused r). inr (faults-still n e))
+      (faults-either n (λ i l. h i (up l)))
 
 -- ---- what an answer gives, by its verdict
 

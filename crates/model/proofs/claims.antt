@@ -2,6 +2,7 @@ pub mod Asked
 pub mod Calls
 pub mod Efficient
 pub mod Existence
+pub mod OneSheet
 pub mod Places
 pub mod Postings
 pub mod Promises

@@ -1,6 +1,7 @@
 pub mod Calls
 pub mod Efficient
 pub mod Meaning
+pub mod OneSheet
 pub mod Places
 pub mod Postings
 pub mod Promises

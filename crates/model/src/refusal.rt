@@ -22,6 +22,7 @@ pub enum Refusal {
     CellOffGrid,
     PriceOrFallOutOfRange,
     UnknownRule,
+    EmptyBid,
 }
 
 impl Refusal {
@@ -48,6 +49,7 @@ impl Refusal {
             Refusal::CellOffGrid => 16,
             Refusal::PriceOrFallOutOfRange => 17,
             Refusal::UnknownRule => 18,
+            Refusal::EmptyBid => 19,
         }
     }
 }

@@ -21,10 +21,10 @@ use Rattle.model.specs.book.PlainBook.{answer, after, answers, final}
 use Rattle.model.specs.book.Book.{soldOf, paidOf, emptyBook, plain}
 use Rattle.model.specs.sheet.Fields.{littleEndian, mapWidth, hasBit}
 use Rattle.model.specs.sheet.Rows.{mapAt, bidsAt, nextAt, rowAt, askOf, baysOf, amountOf, ticketOf, bidBy, bidOf}
-use Rattle.model.specs.sheet.Rows.{rowFaults, rowsFaults}
+use Rattle.model.specs.sheet.Rows.{bidFaults, bidsFaults, rowFaults, rowsFaults}
 use Rattle.model.specs.sheet.Content.{guests, stations, tablesOf, sheetFaults, readSheet}
-use Rattle.model.specs.sheet.Layout.{bytesOf, pack, station, stated, row, layout}
-use Rattle.model.specs.sheet.Shortest.{bidden, shortest, writingFaults}
+use Rattle.model.specs.sheet.Layout.{bytesOf, pack, station, stated, row, layout, bidden}
+use Rattle.model.specs.sheet.Shortest.{shortest, writingFaults}
 use Rattle.model.specs.places.Bids.{difference, squaredDistance, walk, bidBetween, guestCell, stationCell}
 use Rattle.model.specs.places.Bids.{placedBid, placedBids}
 use Rattle.model.specs.places.Faults.{placeLengths, placeValues, placingFaults}
@@ -58,7 +58,8 @@ posting-computes = tt
 
 unfoldable pub reading-computes : Unit {0}
 unfolding counting-computes counts littleEndian mapWidth hasBit mapAt bidsAt nextAt rowAt askOf baysOf amountOf ticketOf
-    bidBy bidOf rowFaults rowsFaults guests stations tablesOf sheetFaults readSheet tableLengths readingFaults
+    bidBy bidOf bidFaults bidsFaults rowFaults rowsFaults guests stations tablesOf sheetFaults readSheet tableLengths
+    readingFaults
 reading-computes = tt
 
 unfoldable pub writing-computes : Unit {0}

@@ -2,9 +2,9 @@
 use mathlib.Core.Path.{refl}
 use Rattle.model.specs.cases.Cases.{pair, caseE, single}
 use Rattle.model.specs.cases.Sheets.{sheetE, sheetE0}
-use Rattle.model.specs.cases.Texts.{textE, textNine, TextsHold}
+use Rattle.model.specs.cases.Texts.{textE, textNine, textNineteen, TextsHold}
 use Rattle.model.proofs.cases.Computing.{printing-computes}
 
 pub texts-hold : TextsHold
-unfolding printing-computes pair caseE single textE textNine sheetE sheetE0
-texts-hold = record { case-e = refl; sheet-e = refl; bid-too-high = refl }
+unfolding printing-computes pair caseE single textE textNine textNineteen sheetE sheetE0
+texts-hold = record { case-e = refl; sheet-e = refl; empty-bid = refl; bid-too-high = refl }

@@ -14,7 +14,7 @@ use Rattle.model.specs.market.Faults.{tableFaults, clearingFaults, expla
 use Rattle.model.specs.market.Faults.{explainingFaults}
 use Rattle.model.specs.sheet.Content.{sheetFaults}
 use Rattle.model.specs.sheet.Lent.{tableLengths, readingFaults}
-use Rattle.model.specs.sheet.Rows.{rowFaults, rowsFaults}
+use Rattle.model.specs.sheet.Rows.{bidFaults, bidsFaults, rowFaults, rowsFaults}
 use Rattle.model.specs.sheet.Shortest.{writingFaults}
 use Rattle.model.specs.places.Faults.{placeLengths, placeValues, placingFaults}
 use Rattle.model.specs.book.PlainBook.{bookSize, outOfTurn, postingFaults}
@@ -67,9 +67,13 @@ unfolding joined numberedFromOne
 numbered-all zero f h = refl
 numbered-all (suc n) f h = numbered-both (joined n f) (f n) (numbered-all n f h) (h n)
 
+bids-numbered : (s : List ℕ) (q k : ℕ) → numberedFromOne (bidsFaults s q k) ≡ true
+unfolding numberedFromOne _≤?_ _and_ bidsFaults bidFaults
+bids-numbered s q k = numbered-all k _ (λ i. refl)
+
 rows-numbered : (s : List ℕ) (m n : ℕ) → numberedFromOne (rowsFaults s m n) ≡ true
 unfolding numberedFromOne _≤?_ _and_ rowsFaults rowFaults
-rows-numbered s m n = numbered-all n _ (λ i. refl)
+rows-numbered s m n = numbered-all n _ (λ i. bids-numbered s _ _)
 
 pub faults-numbered-from-one : FaultsNumberedFromOne
 unfolding numberedFromOne _≤?_ _and_ clearing reading writing placing explaining entering clearingFaults tableFaults

@@ -30,7 +30,7 @@ module _ (s : List ℕ) (entry exit : LentTables) (answer : Reading) (c : Reads 
     left = c .left ∙ updated-accepted _ _ v;
   }
 
-sheet-verdict :
+pub sheet-verdict :
     (s : List ℕ) (l : LentTables) → RightSizes l → firstFault (readingFaults l s) ≡ firstFault (sheetFaults s)
 unfolding readingFaults tableLengths
 sheet-verdict s l z =
@@ -54,11 +54,11 @@ read-is-stated s entry exit answer n m y c e =
 
 -- ---- there are such calls
 
-zeros : LentTables
+pub zeros : LentTables
 zeros = lentTables (replicate maxGuests 0) (replicate maxGuests 0) (replicate maxStations 0) (replicate maxStations 0)
     (replicate maxBids 0)
 
-zeros-sized : RightSizes zeros
+pub zeros-sized : RightSizes zeros
 unfolding zeros
 zeros-sized = record {
   amounts-long = length-replicate {A = ℕ} maxGuests 0;

@@ -11,18 +11,18 @@ use Rattle.model.specs.Verdicts.{accepted}
 use Rattle.model.specs.market.Market.{Tables}
 use Rattle.model.specs.market.Faults.{Accepted, marketFaults, verdict}
 use Rattle.model.specs.sheet.Content.{tablesOf, readSheet}
-use Rattle.model.specs.sheet.Layout.{States}
+use Rattle.model.specs.sheet.Layout.{States, Bytes}
 use Rattle.model.specs.sheet.Shortest.{shortest, writingFaults, written}
 use Rattle.model.specs.sheet.Lent.{LentTables, readingFaults, tableLengths, filled}
 use Rattle.model.specs.contracts.EntryPoints.{reading, writing}
 use Rattle.model.specs.claims.Writings.{WritingAcceptedIffWithinLimits, Gave, marketIn, Took, WrittenIsRead}
-use Rattle.model.specs.claims.Writings.{WritingIsNoLonger, SecondAltersNothing, GaveExists, TookExists}
+use Rattle.model.specs.claims.Writings.{WrittenAsRead, SecondAltersNothing, GaveExists, TookExists}
 use Rattle.model.specs.declared.answers.Writing.the-variants.{Written}
 use Rattle.model.proofs.Tests.{lt-no, not-lt}
 use Rattle.model.proofs.Verdicts.{fault-none, no-fault, no-faults, fault-second, fault-free, giving-accepted}
 use Rattle.model.proofs.Promises.{keeps-accepted, was-accepted}
 use Rattle.model.proofs.claims.Sheets.{stated-is-read, read-call-exists}
-use Rattle.model.proofs.sheet.Shortest.{shortest-states, shortest-is-read, shortest-is-least}
+use Rattle.model.proofs.sheet.Shortest.{shortest-states, shortest-is-read, stated-is-shortest}
 use Rattle.model.proofs.sheet.Truth.{tables-are, reads-exactly-what-is-stated}
 
 pub writing-accepted-iff-within-limits : WritingAcceptedIffWithinLimits
@@ -40,7 +40,7 @@ first-places xs l n e =
 
 -- ---- what a call of `write` gave
 
-gave : (t : Tables) (s : List ℕ) → Gave t s → Accepted t × (s ≡ shortest t)
+pub gave : (t : Tables) (s : List ℕ) → Gave t s → Accepted t × (s ≡ shortest t)
 unfolding writing written
 gave t s g =
     let (v, long, full) = was-accepted (g .called) (g .answered) in (
@@ -65,7 +65,7 @@ market-filled t l n m e f tickets bays bids width = λ i. record {
   width = (f ∙ sym width) i;
 }
 
-took : (s : List ℕ) (t : Tables) → Took s t → readSheet s ≡ accepted t
+pub took : (s : List ℕ) (t : Tables) → Took s t → readSheet s ≡ accepted t
 unfolding reading readSheet readingFaults tableLengths
 took s t c =
     let (v, counts, filled-in) = was-accepted (c .called) (c .answered) in
@@ -83,11 +83,12 @@ written-is-read t s entry exit answer g z c =
     let (a, e) = gave t s g in
     stated-is-read s t entry exit answer z c (subst (λ s. States s t) (sym e) (shortest-states t a (g .tickets-are)))
 
-pub writing-is-no-longer : WritingIsNoLonger
-writing-is-no-longer s s′ t y c g =
-    let (short, same) = shortest-is-least s t (reads-exactly-what-is-stated s t y .0 (took s t c)) in
-    let (a, e) = gave t s′ g in
-    rw e (short, λ q. sym (same (sym q)))
+-- a sheet that was read states what was taken
+pub took-states : (s : List ℕ) (t : Tables) → Bytes s → Took s t → States s t
+took-states s t y c = reads-exactly-what-is-stated s t y .0 (took s t c)
+
+pub written-as-read : WrittenAsRead
+written-as-read s s′ t y c g = gave t s′ g .1 ∙ sym (stated-is-shortest s t (took-states s t y c))
 
 pub second-alters-nothing : SecondAltersNothing
 second-alters-nothing t u s s′ g c h =

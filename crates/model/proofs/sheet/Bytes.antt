@@ -8,7 +8,7 @@ use native.Mathlib.Omega.{arith}
 use lib.ListN.{length}
 use Rattle.model.specs.Counting.{joined}
 use Rattle.model.specs.market.Market.{Tables}
-use Rattle.model.specs.sheet.Layout.{bytesOf, station, stated, row, layout, Bytes, StatedIsBytes}
+use Rattle.model.specs.sheet.Layout.{bytesOf, station, stated, row, layout, bidden, Bytes, StatedIsBytes}
 
 record Low (s : List ℕ) : Type 0 where
   low : Bytes s
@@ -52,4 +52,4 @@ low-layout t set =
     (low-both (low-number _ _) (low-joined (length (t .asks)) (λ j. low-stated (set i j) _))))))))
 
 pub stated-is-bytes : StatedIsBytes
-stated-is-bytes s t h = subst Bytes (sym (h .is)) (low-layout t (h .set) .low)
+stated-is-bytes s t h = subst Bytes (sym (h .is)) (low-layout t (bidden t) .low)

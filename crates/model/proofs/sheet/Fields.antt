@@ -52,13 +52,14 @@ bytes-pow (suc k) =
 pub number-four : (s : List ℕ) → ((i : ℕ) → getD s i 0 < 256) → (p k : ℕ) → k ≤ 4 → littleEndian s p k < 4294967296
 number-four s h p k l = omega (arith, number-low s h p k, bytes-pow k, pow-mono {i = 8 * k} {j = 32} (omega arith))
 
-pub number-halves :
-    (s : List ℕ) (p a b : ℕ) → a ≡ littleEndian s p 2 → b ≡ littleEndian s (p + 2) 2
-    → a + 65536 * b ≡ littleEndian s p 4
+pub number-bytes :
+    (s : List ℕ) (p a b c d : ℕ) → a ≡ getD s p 0 → b ≡ getD s (p + 1) 0 → c ≡ getD s (p + 2) 0 → d ≡ getD s (p + 3) 0
+    → a + 256 * b + 65536 * c + 16777216 * d ≡ littleEndian s p 4
 unfolding littleEndian
-number-halves s p a b e f =
+number-bytes s p a b c d e f g h =
     let e1 : p + 1 + 1 ≡ p + 2 = omega arith in
-    rw e1 (omega arith)
+    let e2 : p + 2 + 1 ≡ p + 3 = omega arith in
+    rw (e1, e2) (omega arith)
 
 pub moved : (s : List ℕ) (k p q : ℕ) {v : ℕ} → v ≡ littleEndian s p k → p ≡ q → v ≡ littleEndian s q k
 moved s k p q e f = rw (← f) e

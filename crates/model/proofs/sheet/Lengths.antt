@@ -8,8 +8,8 @@ use lib.ListN.{length, getD, length-append}
 use Rattle.model.specs.Counting.{_<?_, only, sum, count, joined}
 use Rattle.model.specs.market.Market.{Tables, bidAt}
 use Rattle.model.specs.sheet.Fields.{mapWidth}
-use Rattle.model.specs.sheet.Layout.{pack, station, stated, row, layout}
-use Rattle.model.specs.sheet.Shortest.{bidden, shortest}
+use Rattle.model.specs.sheet.Layout.{pack, station, stated, row, layout, bidden}
+use Rattle.model.specs.sheet.Shortest.{shortest}
 use Rattle.model.proofs.Counting.{sum-cong, sum-add, sum-scale, sum-rows}
 use Rattle.model.proofs.sheet.Holds.{bytes-length}
 

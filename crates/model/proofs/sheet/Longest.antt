@@ -7,7 +7,7 @@ use lib.ListN.{length}
 use Rattle.model.specs.market.Market.{Tables}
 use Rattle.model.specs.sheet.Fields.{mapWidth}
 use Rattle.model.specs.Limits.{maxGuests, maxStations, maxSheet}
-use Rattle.model.specs.sheet.Layout.{layout, SheetsAreShort}
+use Rattle.model.specs.sheet.Layout.{layout, bidden, SheetsAreShort}
 use Rattle.model.proofs.Counting.{sum-most, count-most}
 use Rattle.model.proofs.market.Acceptance.{product-fits}
 use Rattle.model.proofs.sheet.Lengths.{rowHead, layout-length}
@@ -27,4 +27,4 @@ layout-short t set few narrow =
 
 pub sheets-are-short : SheetsAreShort
 sheets-are-short s t w =
-    rw (w .is) (layout-short t (w .set) (w .fitting .shape .guests-most) (w .fitting .shape .stations-most))
+    rw (w .is) (layout-short t (bidden t) (w .fitting .shape .guests-most) (w .fitting .shape .stations-most))

@@ -1,27 +1,25 @@
 -- The shortest sheet of an accepted market states it, and no other that does is as short.
 use Prim.Native.Nat.{ℕ, _+_, _*_, _≤_, _<_}
 use mathlib.Core.Bool.{Bool, true, false}
-use mathlib.Core.List.{List, _++_}
 use mathlib.Core.Logic.{⊎-elim}
-use mathlib.Core.Path.{_≡_, refl, sym, ap, ap₂, _∙_}
+use mathlib.Core.Path.{_≡_, refl, sym, ap, _∙_}
 use native.Mathlib.Omega.{arith}
-use lib.ListN.{length, getD, List·getD-eq-default}
-use Rattle.model.specs.Counting.{sum, count, joined}
+use lib.ListN.{length, List·getD-eq-default}
+use Rattle.model.specs.Counting.{count}
 use Rattle.model.specs.market.Market.{Tables, bidAt}
 use Rattle.model.specs.Verdicts.{accepted}
 use Rattle.model.specs.claims.Meaning.{WithinLimits}
-use Rattle.model.specs.sheet.Fields.{mapWidth}
-use Rattle.model.specs.sheet.Layout.{bytesOf, pack, stated, row, station, layout, Fitting, States, Words}
-use Rattle.model.specs.sheet.Shortest.{bidden, shortest, ShortestIsRead, ShortestIsLeast, SecondChangesNothing}
-use Rattle.model.specs.sheet.Shortest.{ShortestStates, ShortestFits}
-use Rattle.model.proofs.Tests.{decide, clash, same-test, lt-no, not-lt, lt-or-le}
+use Rattle.model.specs.sheet.Layout.{layout, bidden, Fitting, Words}
+use Rattle.model.specs.sheet.Content.{readSheet}
+use Rattle.model.specs.sheet.Shortest.{shortest, ShortestIsRead, ShortestIsLeast, SecondChangesNothing}
+use Rattle.model.specs.sheet.Shortest.{ShortestStates, ShortestFits, StatedIsShortest, AcceptedExactlyIfWritten}
+use Rattle.model.proofs.Tests.{decide, clash, same-test, not-lt, lt-or-le}
 use Rattle.model.proofs.Counting.{sum-mono, sum-strict, count-mono, count-strict}
 use Rattle.model.proofs.Loops.{in-table}
 use Rattle.model.proofs.market.Acceptance.{accepted-iff-within-limits}
-use Rattle.model.proofs.sheet.Holds.{pack-cong}
-use Rattle.model.proofs.sheet.Joined.{joined-cong}
 use Rattle.model.proofs.sheet.Lengths.{layout-length}
 use Rattle.model.proofs.sheet.Longest.{layout-short}
+use Rattle.model.proofs.sheet.Stated.{layout-cong}
 use Rattle.model.proofs.sheet.Truth.{states-read, reads-exactly-what-is-stated}
 
 -- ---- an accepted market's numbers fit their fields
@@ -41,15 +39,11 @@ fitting t w y = record {
 }
 
 -- and the tickets of a market in fields of 4 bytes have 32 bits
-words : (t : Tables) → Fitting t → Words (t .tickets)
+pub words : (t : Tables) → Fitting t → Words (t .tickets)
 words t w k = ⊎-elim
     (λ (l : k < length (t .tickets)). w .ticket-fits k (omega (arith, w .shape .tickets-length)))
     (λ (l : length (t .tickets) ≤ k). rw (List·getD-eq-default (t .tickets) 0 l) (omega arith))
     (lt-or-le k (length (t .tickets)))
-
-no-bid : (t : Tables) (i j : ℕ) → bidden t i j ≡ false → bidAt t i j ≡ 0
-unfolding bidden
-no-bid t i j e = omega (arith, lt-no 0 (bidAt t i j) e)
 
 not-bidden : (t : Tables) (i j : ℕ) → bidAt t i j ≡ 0 → bidden t i j ≡ false
 unfolding bidden
@@ -59,8 +53,6 @@ pub shortest-states : ShortestStates
 unfolding shortest
 shortest-states t a y = record {
   fitting = fitting t (accepted-iff-within-limits t .0 a) y;
-  set = bidden t;
-  covers = λ i j _ _ e. no-bid t i j e;
   is = refl;
 }
 
@@ -79,27 +71,7 @@ second-changes-nothing s t u y e a f =
     let g : accepted u ≡ accepted t = sym f ∙ shortest-is-read t a (words t (w .fitting)) in
     let h : u ≡ t = cc in (h, ap shortest h)
 
--- ---- sheets with the same bits are one
-
-module _ (t : Tables) (a b : ℕ → ℕ → Bool)
-    (same : (i j : ℕ) → i < length (t .amounts) → j < length (t .asks) → a i j ≡ b i j) where
-  row-cong : (i : ℕ) → i < length (t .amounts) → row t a i ≡ row t b i
-  unfolding row
-  row-cong i l =
-      ap₂ (λ x y. bytesOf 2 (getD (t .amounts) i 0)
-      ++ (bytesOf 4 (getD (t .tickets) i 0) ++ (bytesOf (mapWidth (length (t .asks))) x ++ y)))
-      (pack-cong (length (t .asks)) (a i) (b i) (λ j k. same i j l k))
-      (joined-cong (length (t .asks)) (λ j. stated (a i j) (bidAt t i j)) (λ j. stated (b i j) (bidAt t i j))
-      (λ j k. ap (λ c. stated c (bidAt t i j)) (same i j l k)))
-
-  layout-cong : layout t a ≡ layout t b
-  unfolding layout
-  layout-cong =
-      ap (λ x. bytesOf 2 (length (t .amounts))
-      ++ (bytesOf 2 (length (t .asks)) ++ (joined (length (t .asks)) (station t) ++ x)))
-      (joined-cong (length (t .amounts)) (row t a) (row t b) row-cong)
-
--- ---- no sheet that states the market is shorter
+-- ---- no layout with more set bits is as short
 
 module _ (t : Tables) (set : ℕ → ℕ → Bool)
     (covers : (i j : ℕ) → i < length (t .amounts) → j < length (t .asks) → set i j ≡ false → bidAt t i j ≡ 0) where
@@ -140,4 +112,17 @@ module _ (t : Tables) (set : ℕ → ℕ → Bool)
 
 pub shortest-is-least : ShortestIsLeast
 unfolding shortest
-shortest-is-least s t w = rw (w .is) (no-longer t (w .set) (w .covers), same-bits t (w .set) (w .covers))
+shortest-is-least t set covers = (no-longer t set covers, same-bits t set covers)
+
+-- ---- the one sheet that states a market
+
+pub stated-is-shortest : StatedIsShortest
+unfolding shortest
+stated-is-shortest s t w = w .is
+
+pub accepted-exactly-if-written : AcceptedExactlyIfWritten
+accepted-exactly-if-written s t y = (
+  (λ w. let states = reads-exactly-what-is-stated s t y .0 (w .0) in
+      (w .1, words t (states .fitting), stated-is-shortest s t states)),
+  (λ w. (ap readSheet (w .2) ∙ shortest-is-read t (w .0) (w .1), w .0)),
+)

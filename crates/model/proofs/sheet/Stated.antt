@@ -2,7 +2,7 @@
 use Prim.Native.Nat.{ℕ, suc, _+_, _*_, _^_, _<_}
 use mathlib.Core.Bool.{Bool, true, false}
 use mathlib.Core.List.{List, _++_}
-use mathlib.Core.Path.{_≡_, refl, sym, ap, _∙_, subst}
+use mathlib.Core.Path.{_≡_, refl, sym, ap, ap₂, _∙_, subst}
 use native.Mathlib.Omega.{arith}
 use lib.ListN.{length, getD, length-append}
 use Rattle.model.specs.Counting.{only, sum, count, joined}
@@ -16,7 +16,8 @@ use Rattle.model.specs.sheet.Content.{guests, stations}
 use Rattle.model.specs.sheet.Layout.{bytesOf, pack, station, stated, row, layout, Fitting, Bytes}
 use Rattle.model.proofs.sheet.Holds.{Holds, holds-left, holds-then, holds-next, holds-all, holds-self}
 use Rattle.model.proofs.sheet.Holds.{bytes-length, holds-number, number-holds, joined-place, joined-holds}
-use Rattle.model.proofs.sheet.Holds.{joined-each, pack-bit, pack-fits}
+use Rattle.model.proofs.sheet.Holds.{joined-each, pack-bit, pack-cong, pack-fits}
+use Rattle.model.proofs.sheet.Joined.{joined-cong}
 use Rattle.model.proofs.sheet.Lengths.{stated-length, station-length}
 
 -- the market's counts
@@ -265,3 +266,23 @@ module _ (s : List ℕ) (t : Tables) (set : ℕ → ℕ → Bool) where
       end = joined-place s (rowAt s (m t)) (row t set) (n t) (λ i l. row-step i (map-at i l))
           ∙ sym (layout-long _ refl) ∙ ap length (sym e);
     }
+
+-- ---- sheets with the same bits are one
+
+module _ (t : Tables) (a b : ℕ → ℕ → Bool)
+    (same : (i j : ℕ) → i < length (t .amounts) → j < length (t .asks) → a i j ≡ b i j) where
+  row-cong : (i : ℕ) → i < length (t .amounts) → row t a i ≡ row t b i
+  unfolding row
+  row-cong i l =
+      ap₂ (λ x y. bytesOf 2 (getD (t .amounts) i 0)
+      ++ (bytesOf 4 (getD (t .tickets) i 0) ++ (bytesOf (mapWidth (length (t .asks))) x ++ y)))
+      (pack-cong (length (t .asks)) (a i) (b i) (λ j k. same i j l k))
+      (joined-cong (length (t .asks)) (λ j. stated (a i j) (bidAt t i j)) (λ j. stated (b i j) (bidAt t i j))
+      (λ j k. ap (λ c. stated c (bidAt t i j)) (same i j l k)))
+
+  pub layout-cong : layout t a ≡ layout t b
+  unfolding layout
+  layout-cong =
+      ap (λ x. bytesOf 2 (length (t .amounts))
+      ++ (bytesOf 2 (length (t .asks)) ++ (joined (length (t .asks)) (station t) ++ x)))
+      (joined-cong (length (t .amounts)) (row t a) (row t b) row-cong)

@@ -1,4 +1,4 @@
--- What is printed of case E, of its sheet with a bid of 0, and of a market that is refused, byte by byte.
+-- What is printed of case E, of its sheet and that with a bid of 0, and of a market that is refused, byte by byte.
 use Prim.Native.Nat.{ℕ}
 use mathlib.Core.List.{List, [], _∷_}
 use mathlib.Core.Path.{_≡_}
@@ -34,7 +34,12 @@ textE =
 unfoldable pub textNine : List ℕ
 textNine = 114 ∷ 101 ∷ 102 ∷ 117 ∷ 115 ∷ 101 ∷ 100 ∷ 32 ∷ 57 ∷ 10 ∷ []
 
+-- refused 19
+unfoldable pub textNineteen : List ℕ
+textNineteen = 114 ∷ 101 ∷ 102 ∷ 117 ∷ 115 ∷ 101 ∷ 100 ∷ 32 ∷ 49 ∷ 57 ∷ 10 ∷ []
+
 pub record TextsHold : Type 0 where
   pub case-e : marketTextOf (outcome Median) caseE ≡ textE
-  pub sheet-e : printed Sheet 38 sheetE0 ≡ sheetE
+  pub sheet-e : printed Sheet 38 sheetE ≡ sheetE
+  pub empty-bid : printed Sheet 42 sheetE0 ≡ textNineteen
   pub bid-too-high : marketTextOf (outcome Median) (single 1 1 1 1_000_001) ≡ textNine

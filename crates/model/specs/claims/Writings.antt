@@ -54,11 +54,9 @@ WrittenIsRead =
     (t : Tables) (s : List ℕ) (entry exit : LentTables) (answer : Reading) → Gave t s → RightSizes entry
     → Reads s entry answer exit → ReadAs t entry answer exit
 
--- writing what was read is never longer than the sheet, and as long only where it is that sheet
-abbrev pub WritingIsNoLonger : Type 0
-WritingIsNoLonger =
-    (s s′ : List ℕ) (t : Tables) → Bytes s → Took s t → Gave t s′
-    → (length s′ ≤ length s) × (length s′ ≡ length s → s′ ≡ s)
+-- writing what was read is never longer than the sheet: it is that sheet
+abbrev pub WrittenAsRead : Type 0
+WrittenAsRead = (s s′ : List ℕ) (t : Tables) → Bytes s → Took s t → Gave t s′ → s′ ≡ s
 
 -- a second reading and writing alters nothing
 abbrev pub SecondAltersNothing : Type 0

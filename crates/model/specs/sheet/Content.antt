@@ -33,8 +33,7 @@ tablesOf s = record {
   width = stations s;
 }
 
--- ---- faults, in the order of the table. Fields with no other fault between them share a row: those of the stations,
--- the bids of a guest (`rowFaults`)
+-- ---- faults, in the order of the table. Fields with no other fault between them share a row: those of the stations
 
 unfoldable pub sheetFaults : List ℕ → List Row
 sheetFaults s =

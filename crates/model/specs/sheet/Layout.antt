@@ -5,11 +5,11 @@ use mathlib.Core.List.{List, [], _∷_, _++_}
 use mathlib.Core.Path.{_≡_}
 use lib.ListN.{length, getD}
 use Rattle.model.specs.Limits.{maxSheet}
-use Rattle.model.specs.Counting.{only, joined}
+use Rattle.model.specs.Counting.{_<?_, only, joined}
 use Rattle.model.specs.market.Market.{Tables, bidAt}
 use Rattle.model.specs.market.Shape.{Shaped}
 use Rattle.model.specs.sheet.Fields.{mapWidth}
-use Rattle.model.specs.Verdicts.{accepted}
+use Rattle.model.specs.Verdicts.{accepted, refused}
 use Rattle.model.specs.sheet.Content.{readSheet}
 
 -- x in k bytes, lowest byte first
@@ -52,12 +52,14 @@ pub record Fitting (t : Tables) : Type 0 where
   pub ticket-fits : (i : ℕ) → i < length (t .amounts) → getD (t .tickets) i 0 < 256 ^ 4
   pub bid-fits : (i j : ℕ) → i < length (t .amounts) → j < length (t .asks) → bidAt t i j < 256 ^ 4
 
--- s states t: it is t's layout with some choice of set bits, among which is each bid that is not 0
+-- whether guest i bids for station j: a bid of 0 is none
+unfoldable pub bidden : Tables → (i j : ℕ) → Bool
+bidden t i j = 0 <? bidAt t i j
+
+-- s states t: it is t's layout with a set bit for each bid that is not 0, and for no other
 pub record States (s : List ℕ) (t : Tables) : Type 0 where
   pub fitting : Fitting t
-  pub set : ℕ → ℕ → Bool
-  pub covers : (i j : ℕ) → i < length (t .amounts) → j < length (t .asks) → set i j ≡ false → bidAt t i j ≡ 0
-  pub is : s ≡ layout t set
+  pub is : s ≡ layout t (bidden t)
 
 abbrev pub Bytes : List ℕ → Type 0
 Bytes s = (k : ℕ) → getD s k 0 < 256
@@ -81,6 +83,17 @@ StatedIsBytes = (s : List ℕ) (t : Tables) → States s t → Bytes s
 -- two markets never share a sheet
 abbrev pub StatesOneMarket : Type 0
 StatesOneMarket = (s : List ℕ) (t u : Tables) → States s t → States s u → t ≡ u
+
+-- and two sheets never share a market: 'Two desks' sheets for one market must match byte for byte' (document 02,
+-- request 8)
+abbrev pub StatedByOneSheet : Type 0
+StatedByOneSheet = (s s′ : List ℕ) (t : Tables) → States s t → States s′ t → s′ ≡ s
+
+-- 'A set bit whose bid is 0 is refused', whatever other bits are set
+abbrev pub EmptyBidIsRefused : Type 0
+EmptyBidIsRefused =
+    (t : Tables) (set : ℕ → ℕ → Bool) (i j : ℕ) → Fitting t → i < length (t .amounts) → j < length (t .asks)
+    → set i j ≡ true → bidAt t i j ≡ 0 → readSheet (layout t set) ≡ refused 19
 
 -- no sheet is longer than the largest
 abbrev pub SheetsAreShort : Type 0

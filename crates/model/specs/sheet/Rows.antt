@@ -2,9 +2,10 @@
 -- Document 01, 'The sheet' and the reader's rows of 'Refusals by place'.
 -- Guests and stations count from 0 here.
 use Prim.Native.Nat.{ℕ, zero, suc, _+_, _*_, _/_, _^_}
+use mathlib.Core.Bool.{Bool}
 use mathlib.Core.List.{List, [], _∷_}
 use lib.ListN.{length}
-use Rattle.model.specs.Counting.{_<?_, only, count, joined}
+use Rattle.model.specs.Counting.{_<?_, _=?_, only, count, joined}
 use Rattle.model.specs.Verdicts.{Row, _gives_}
 use Rattle.model.specs.sheet.Fields.{littleEndian, mapWidth, hasBit}
 
@@ -42,7 +43,19 @@ bidBy s map q j = only (hasBit map j) (littleEndian s (q + 4 * count j (hasBit m
 unfoldable pub bidOf : List ℕ → (m i j : ℕ) → ℕ
 bidOf s m i = bidBy s (mapAt s m (rowAt s m i)) (bidsAt m (rowAt s m i))
 
--- ---- faults, in the order of the table. The bids of a guest have no other fault between them and share a row
+-- ---- faults, in the order of the table
+
+-- 'a set bit whose bid is 0' (document 02, request 8): the bid field at p holds 0
+abbrev pub isEmpty : List ℕ → (p : ℕ) → Bool
+isEmpty s p = littleEndian s p 4 =? 0
+
+-- of the bid field at p
+unfoldable pub bidFaults : List ℕ → (p : ℕ) → List Row
+bidFaults s p = (length s <? p + 4 gives 1) ∷ (isEmpty s p gives 19) ∷ []
+
+-- of k bid fields, one after the other from q on: those of the set bits in turn
+unfoldable pub bidsFaults : List ℕ → (q k : ℕ) → List Row
+bidsFaults s q k = joined k (λ i. bidFaults s (q + 4 * i))
 
 unfoldable pub rowFaults : List ℕ → (m p : ℕ) → List Row
 rowFaults s m p =
@@ -50,8 +63,7 @@ rowFaults s m p =
     ∷ (length s <? p + 6 gives 1)
     ∷ (length s <? bidsAt m p gives 1)
     ∷ (0 <? mapAt s m p / 2 ^ m gives 3)
-    ∷ (length s <? nextAt s m p gives 1)
-    ∷ []
+    ∷ bidsFaults s (bidsAt m p) (count m (hasBit (mapAt s m p)))
 
 unfoldable pub rowsFaults : List ℕ → (m n : ℕ) → List Row
 rowsFaults s m n = joined n (λ i. rowFaults s m (rowAt s m i))

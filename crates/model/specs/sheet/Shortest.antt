@@ -1,7 +1,8 @@
--- The shortest sheet that states a market, and the faults of a call that writes it. Document 02, request 1.
-use Prim.Native.Nat.{ℕ, _≤_}
-use mathlib.Core.Bool.{Bool}
+-- The shortest sheet that states a market, and the faults of a call that writes it. Document 02, requests 1 and 8.
+use Prim.Native.Nat.{ℕ, _≤_, _<_}
+use mathlib.Core.Bool.{Bool, false}
 use mathlib.Core.List.{List, [], _∷_, _++_}
+use mathlib.Core.Logic.{_↔_}
 use mathlib.Core.Path.{_≡_}
 use lib.ListN.{length}
 use lib.Seq.{paste}
@@ -11,12 +12,9 @@ use Rattle.model.specs.market.Market.{Tables, bidAt}
 use Rattle.model.specs.market.Faults.{marketFaults, Accepted}
 use Rattle.model.specs.Verdicts.{Row, _gives_, accepted}
 use Rattle.model.specs.sheet.Content.{readSheet}
-use Rattle.model.specs.sheet.Layout.{layout, States, Bytes, Words}
+use Rattle.model.specs.sheet.Layout.{layout, bidden, States, Bytes, Words}
 
 -- 'with no set bit for a bid of 0'
-unfoldable pub bidden : Tables → (i j : ℕ) → Bool
-bidden t i j = 0 <? bidAt t i j
-
 unfoldable pub shortest : Tables → List ℕ
 shortest t = layout t (bidden t)
 
@@ -38,12 +36,13 @@ ShortestStates = (t : Tables) → Accepted t → Words (t .tickets) → States (
 abbrev pub ShortestIsRead : Type 0
 ShortestIsRead = (t : Tables) → Accepted t → Words (t .tickets) → readSheet (shortest t) ≡ accepted t
 
--- 'Where a sheet states an accepted market, writing what was read is never longer than that sheet'; as long it is that
--- sheet
+-- with other bits set beside those of the bids that are not 0 the layout is no shorter; as long it is the same
 abbrev pub ShortestIsLeast : Type 0
 ShortestIsLeast =
-    (s : List ℕ) (t : Tables) → States s t
-    → (length (shortest t) ≤ length s) × (length s ≡ length (shortest t) → s ≡ shortest t)
+    (t : Tables) (set : ℕ → ℕ → Bool)
+    → ((i j : ℕ) → i < length (t .amounts) → j < length (t .asks) → set i j ≡ false → bidAt t i j ≡ 0)
+    → (length (shortest t) ≤ length (layout t set))
+    × (length (layout t set) ≡ length (shortest t) → layout t set ≡ shortest t)
 
 -- 'a second reading and writing alters nothing'
 abbrev pub SecondChangesNothing : Type 0
@@ -54,3 +53,13 @@ SecondChangesNothing =
 -- an output as long as the largest sheet is never too short
 abbrev pub ShortestFits : Type 0
 ShortestFits = (t : Tables) → Accepted t → length (shortest t) ≤ maxSheet
+
+-- 'every sheet that states an accepted market is the one the writer makes' (request 8)
+abbrev pub StatedIsShortest : Type 0
+StatedIsShortest = (s : List ℕ) (t : Tables) → States s t → s ≡ shortest t
+
+-- the sheets that reader and clearing both accept are exactly those that the writer writes
+abbrev pub AcceptedExactlyIfWritten : Type 0
+AcceptedExactlyIfWritten =
+    (s : List ℕ) (t : Tables) → Bytes s
+    → ((readSheet s ≡ accepted t) × Accepted t) ↔ (Accepted t × Words (t .tickets) × (s ≡ shortest t))
