@@ -6,7 +6,7 @@ ghost use lib.ListN.{length};
 ghost use Rattle.model.specs.Limits.{maxStations};
 ghost use Rattle.model.specs.Counting.{_<?_};
 ghost use Rattle.model.specs.sheet.Fields.{littleEndian, mapWidth};
-ghost use Rattle.sheet.specs.Taken.{Taken, HeaderTaken};
+ghost use Rattle.sheet.specs.Taken.{Taken, HeaderTaken, Whole};
 
 // The place reached in a sheet. One is made at the sheet's start; all others come from it, by what is taken.
 pub struct Cursor {
@@ -94,6 +94,18 @@ impl Cursor {
         s.len() - self.at < k
     }
 
+    // How many of this many fields of 4 bytes the sheet does not end inside.
+    pub fn whole(self, s: &[u8], fields: usize) -> usize
+        requires { ⌜ self .at ≤ length (now s) ⌝ }
+        ensures { λ r. ⌜ Whole (now (s .entry)) (self .at) fields r ⌝ }
+    {
+        let most = (s.len() - self.at) / 4;
+        if most < fields {
+            return most;
+        }
+        fields
+    }
+
     // Past k bytes.
     pub fn skip(self, k: usize) -> Cursor
         requires { ⌜ self .at + k < 2 ^ 64 ⌝ }
@@ -114,17 +126,16 @@ impl Cursor {
         }
     }
 
-    // A field of 4 bytes.
+    // A field of 4 bytes, in one sum: a loop over fields then takes several a step.
     pub fn four(self, s: &[u8]) -> Long
         requires { ⌜ self .at + 4 ≤ length (now s) ⌝ }
         ensures { λ r. ⌜ Taken (now (s .entry)) (self .at) 4 (r .value) (r .next) ⌝ }
     {
-        let low = self.two(s);
-        let high = low.next.two(s);
-        let next = high.next;
+        let at = self.at;
+        let low = wide(s[at]) + 256 * wide(s[at + 1]);
         Long {
-            value: low.value as u32 + 65_536 * (high.value as u32),
-            next,
+            value: (low + 65_536 * wide(s[at + 2]) + 16_777_216 * wide(s[at + 3])) as u32,
+            next: self.skip(4),
         }
     }
 

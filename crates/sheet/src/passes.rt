@@ -1,4 +1,5 @@
 // The checking pass over the rows of a sheet, one after the other: where they end, or their first fault.
+use crate::empties;
 use crate::fields;
 use crate::fields::Cursor;
 use model::refusal::Refusal;
@@ -16,7 +17,8 @@ pub enum Step {
     Fault(Refusal),
 }
 
-// 2 bytes of amount and 4 of ticket, then the map. A stray bit is a fault before the bids are looked for.
+// 2 bytes of amount and 4 of ticket, then the map. A stray bit is a fault before the bids are looked for; of those a
+// bid of 0 is one before the sheet's end inside a later one.
 fn check_row(s: &[u8], c: Cursor, stations: usize) -> Step
     requires { ⌜ (stations ≤ maxStations) × (c .at ≤ length (now s)) ⌝ }
     ensures { λ r. ⌜ answerOfStep r ≡ giving (firstFault (rowFaults (now (s .entry)) stations (c .at)))
@@ -33,12 +35,16 @@ fn check_row(s: &[u8], c: Cursor, stations: usize) -> Step
     if 0 < map.bits >> stations {
         return Step::Fault(Refusal::StrayBit);
     }
-    let size = 4 * words::count(map.bits);
+    let fields = words::count(map.bits);
     let e = map.next;
-    if e.ends(s, size) {
+    let whole = e.whole(s, fields);
+    if empties::any_empty(s, e, whole) {
+        return Step::Fault(Refusal::EmptyBid);
+    }
+    if whole < fields {
         return Step::Fault(Refusal::SheetEnds);
     }
-    Step::Next(e.skip(size))
+    Step::Next(e.skip(4 * fields))
 }
 
 // The stations' fields are there, and c stands after them.

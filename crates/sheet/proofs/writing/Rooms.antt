@@ -10,8 +10,8 @@ use Rattle.model.specs.Counting.{_<?_, count, joined}
 use Rattle.model.specs.market.Market.{Tables, regular, bidAt}
 use Rattle.model.specs.market.Shape.{Shaped}
 use Rattle.model.specs.sheet.Fields.{mapWidth}
-use Rattle.model.specs.sheet.Layout.{bytesOf, station, row, layout}
-use Rattle.model.specs.sheet.Shortest.{bidden, shortest}
+use Rattle.model.specs.sheet.Layout.{bytesOf, station, row, layout, bidden}
+use Rattle.model.specs.sheet.Shortest.{shortest}
 use Rattle.model.specs.contracts.Rows.{rowOf as viewed}
 use Rattle.model.proofs.contracts.Rows.{row-long, row-shows}
 use Rattle.model.proofs.market.Acceptance.{product-fits}

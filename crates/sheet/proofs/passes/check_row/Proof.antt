@@ -1,11 +1,12 @@
 -- Each return is a row of `rowFaults`, in its order.
+use Prim.Native.Nat.{_≤_}
 use mathlib.Core.Path.{_∙_, sym}
+use native.Mathlib.Nat.{le-antisymm}
 use native.Mathlib.Omega.{arith}
 use borrow.Author.Needs.{needs}
 use Rattle.model.proofs.Tests.{lt-yes, lt-no}
-use Rattle.model.proofs.Counting.{count-most}
-use Rattle.model.specs.sheet.Fields.{hasBit}
-use Rattle.model.proofs.sheet.Rows.{MapTaken, head-ends, map-ends, stray, bids-end, row-good, next-is, bids-at}
+use Rattle.model.proofs.sheet.Rows.{MapTaken, head-ends, map-ends, stray, empty-bid, bids-end, row-good, next-is}
+use Rattle.model.proofs.sheet.Rows.{bids-at}
 use Rattle.sheet.proofs.fields.Rows.{map-taken}
 use Rattle.sheet.proofs.passes.Steps.{step-fault, step-next}
 use Rattle.sheet.proofs.passes.check_row.Statement.{statement}
@@ -30,6 +31,15 @@ taken c =
       lt-no _ _ (sym (c .before .before .ends2 .ensures) ∙ c .before .if2 .left),
       at-map-width .map-width .ensures,
     )) (c .map .ensures)
+
+few : (c : tie.After-map) →
+    let at-skip = c .before .before .before .before in
+    let entry = at-skip .before .before .before .before in
+    entry .args .stations ≤ 64
+few c =
+    let at-skip = c .before .before .before .before in
+    let entry = at-skip .before .before .before .before in
+    omega (arith, entry .pre .0)
 
 returns : tie.Need-returns
 returns c =
@@ -69,35 +79,46 @@ map-requires c κs = (
 returns-3 : tie.Need-returns-3
 returns-3 c = step-fault _ _ _ (stray (taken (c .before .before)) (omega (arith, c .if3 .taken)))
 
-mul-size : tie.Need-mul-size
-mul-size c =
-    omega (arith, c .count .ensures, count-most 64 (hasBit (c .before .before .before .map .result .bits)))
-
-ends-requires-3 : tie.Need-ends-requires-3
-ends-requires-3 c κs =
-    let after-map = c .before .before .before .before in
+whole-requires : tie.Need-whole-requires
+whole-requires c κs =
+    let after-map = map-before-count (c .before) in
     omega (arith, taken after-map .to, taken after-map .within)
 
 returns-4 : tie.Need-returns-4
 returns-4 c =
-    let counted = c .before .before .before .count in
-    let if3 = past-stray-before-count (c .before .before .before) .if3 in
-    let h = lt-yes _ _ (sym (c .before .ends3 .ensures) ∙ c .if4 .taken) in
-    step-fault _ _ _ (bids-end (taken (map-before-count (c .before .before .before))) (omega arith) (if3 .left)
-    (omega (arith, h, counted .ensures)))
-
-skip-requires-2 : tie.Need-skip-requires-2
-skip-requires-2 c κs = omega (arith, lt-no _ _ (sym (c .before .ends3 .ensures) ∙ c .if4 .left))
+    let at-whole = c .before .before in
+    let at-count = at-whole .before .before in
+    let w = at-whole .whole .ensures in
+    step-fault _ _ _ (empty-bid (taken (map-before-count at-count)) (few (map-before-count at-count))
+    (past-stray-before-count at-count .if3 .left) _ (w .within) (omega (arith, w .few, at-count .count .ensures))
+    (sym (c .before .any-empty .ensures) ∙ c .if4 .taken))
 
 returns-5 : tie.Need-returns-5
 returns-5 c =
-    let counted = c .before .before .before .before .count in
-    let if3 = past-stray-before-count (c .before .before .before .before) .if3 in
-    let h = lt-no _ _ (sym (c .before .before .ends3 .ensures) ∙ c .before .if4 .left) in
-    let n = counted .ensures in
-    let t = taken (map-before-count (c .before .before .before .before)) in
-    step-next _ _ _ (row-good t (omega arith) (if3 .left) (omega (arith, h, n)))
-    (omega (arith, c .skip2 .ensures, n, next-is t (omega arith) (if3 .left)))
+    let at-any-empty = c .before .before in
+    let at-whole = at-any-empty .before in
+    let at-count = at-whole .before .before in
+    let w = at-whole .whole .ensures in
+    step-fault _ _ _ (bids-end (taken (map-before-count at-count)) (few (map-before-count at-count))
+    (past-stray-before-count at-count .if3 .left) _ (w .within)
+    (omega (arith, c .if5 .taken, at-count .count .ensures))
+    (sym (at-any-empty .any-empty .ensures) ∙ c .before .if4 .left) (w .ends (c .if5 .taken)))
+
+returns-6 : tie.Need-returns-6
+returns-6 c =
+    let past-ends = c .before in
+    let past-empty = past-ends .before in
+    let at-any-empty = past-empty .before in
+    let at-whole = at-any-empty .before in
+    let at-count = at-whole .before .before in
+    let w = at-whole .whole .ensures in
+    let n = at-count .count .ensures in
+    let t = taken (map-before-count at-count) in
+    let narrow = few (map-before-count at-count) in
+    let if3 = past-stray-before-count at-count .if3 in
+    step-next _ _ _ (row-good t narrow (if3 .left) _ (w .within) (le-antisymm (w .few) (past-ends .if5 .left) ∙ n)
+    (sym (at-any-empty .any-empty .ensures) ∙ past-empty .if4 .left))
+    (omega (arith, c .skip2 .ensures, n, next-is t narrow (if3 .left)))
 
 pub check-row-spec : {M : Type 1} → statement M
 check-row-spec =
@@ -112,8 +133,9 @@ check-row-spec =
     (λ c. search needs)
     returns-3
     (λ c κs. search needs)
-    mul-size
-    ends-requires-3
+    whole-requires
+    (λ c κs. search needs)
     returns-4
-    skip-requires-2
-    returns-5)
+    returns-5
+    (λ c. search needs) (λ c κs. search needs)
+    returns-6)
