@@ -98,7 +98,8 @@ enum bay_market_refusal {
     BAY_MARKET_TICKETS_REPEAT = 15,             /* two guests have the same ticket */
     BAY_MARKET_CELL_OFF_GRID = 16,              /* a cell is off the grid: a coordinate is above 31 */
     BAY_MARKET_PRICE_OR_FALL_OUT_OF_RANGE = 17, /* a price or fall is above 1,000,000 */
-    BAY_MARKET_UNKNOWN_RULE = 18                /* the number names no rule: it is neither 1 nor 2 */
+    BAY_MARKET_UNKNOWN_RULE = 18,               /* the number names no rule: it is neither 1 nor 2 */
+    BAY_MARKET_EMPTY_BID = 19                   /* a set bit of the sheet has a bid of 0 */
 };
 
 /* What an answer says. */
@@ -124,6 +125,7 @@ static inline const char *bay_market_refusal_text(uint8_t answer)
     case BAY_MARKET_CELL_OFF_GRID: return "a cell is off the grid: a coordinate is above 31";
     case BAY_MARKET_PRICE_OR_FALL_OUT_OF_RANGE: return "a price or fall is above 1,000,000";
     case BAY_MARKET_UNKNOWN_RULE: return "the number names no rule: it is neither 1 nor 2";
+    case BAY_MARKET_EMPTY_BID: return "a set bit of the sheet has a bid of 0";
     default: return "not an answer of the engine";
     }
 }
@@ -143,7 +145,7 @@ struct bay_market_station_account {
  * clearing's business.
  *
  * Refusals in this order: 10 for another table length; 1 for fewer than 4 bytes; 2 for the counts;
- * then, field by field, 1 where the sheet ends and, after a bit map, 3; at the end 4.
+ * then, field by field, 1 where the sheet ends, after a bit map 3, and 19 for a bid of 0; at the end 4.
  */
 uint8_t bay_market_read(const uint8_t *sheet, size_t sheet_len,
                         uint16_t *amounts, size_t amounts_len,

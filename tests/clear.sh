@@ -104,15 +104,18 @@ expect 0 '' '' "./clear --why $work/nobody"
 [ ! -s "$work/out" ]
 expect 0 '' 'clear: no guests' "$(scripts/current)/clear --why <$work/nobody"
 
-# case E with a set bit for a bid of 0: the same clearing, and 4 bytes more than are written
+# case E with a set bit for a bid of 0; without it the sheet is written as it is
 {
     head -c 33 examples/case_e.sheet
     printf '\3\10\0\0\0\0\0\0\0'
 } >"$work/empty"
 [ "$(wc -c <"$work/empty")" = 42 ]
-expect 0 "$(cat examples/case_e.txt)" '' "./clear $work/empty"
-expect_sheet examples/case_e.sheet "./clear --write $work/empty"
-expect_sheet examples/case_e.sheet "./clear --write $work/empty | ./clear --write"
+expect 1 'refused 19' '' "./clear $work/empty"
+expect 1 'refused 19' '' "./clear --quiet $work/empty"
+expect 1 'refused 19' '' "./clear --why $work/empty"
+expect 1 'refused 19' '' "./clear --write $work/empty"
+expect_sheet examples/case_e.sheet "./clear --write examples/case_e.sheet"
+expect_sheet examples/case_e.sheet "./clear --write examples/case_e.sheet | ./clear --write"
 
 # case E with tickets 9 and 4, and with equal ones
 tickets() {
@@ -156,14 +159,15 @@ expect 1 'refused 1' '' './clear --quiet </dev/null'
 expect 0 $'guest 1 loses: station not open\n*guest 200 loses: station not open' '' "./clear --why $work/largest"
 expect 1 'refused 4' '' "{ cat $work/largest; printf x; } | ./clear --why"
 expect 1 'refused 1' '' './clear --why </dev/null'
-# all its bids 0
+# no bids, and a set bit for each of them
 {
     cat "$work/stations"
     for ticket in {1..200}; do
         printf '\1\0%b\0\0\0\0\0\0\0\0' "\\0$(printf %o "$ticket")"
     done
 } >"$work/no_bids"
-expect_sheet "$work/no_bids" "tr '\372' '\0' <$work/largest | ./clear --write"
+expect_sheet "$work/no_bids" "./clear --write $work/no_bids"
+expect 1 'refused 19' '' "tr '\372' '\0' <$work/largest | ./clear --write"
 
 # help, wrong use, no such file
 expect 0 'usage: ./clear*' '' './clear --help'

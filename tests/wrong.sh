@@ -81,11 +81,13 @@ for way in c slices owned; do
     finds 'write fit' 'answered 14, expected 0|owned sheet differs' write $way
     finds 'write empty' 'differs' write $way
     finds 'write second' 'differs' write $way
-    finds 'write empty' 'what was written is (longer than|as long as) the sheet' trip $way
+    finds 'write empty' 'answered 19, expected 0' trip $way
     finds 'write second' 'the second writing differs' trip $way
     finds 'write answer' 'answered 5, expected 0' trip $way
     finds 'read amounts first accepted' 'differs' trip $way
     finds 'read second' 'the second reading differs' trip $way
+    finds 'read empty' 'answered [0-9]+, expected 19|owned market differs' read $way
+    finds 'read empty-late' 'answered [134], expected 19|owned market differs' read $way
 done
 # faults of tickets
 for way in c slices owned; do
@@ -102,7 +104,7 @@ for way in c slices owned; do
         finds "read $fault" 'tickets differ|owned market differs' read $way
         finds "read $fault" 'differs|answered 15, expected 0' trip $way
     done
-    finds 'write order' 'what was written is as long as the sheet and differs' trip $way
+    finds 'write order' 'what was written differs from the sheet' trip $way
 done
 for way in c slices; do
     finds 'write repeat-late' 'answered 14, expected 15' write $way

@@ -50,6 +50,8 @@
  *   read place                   a ticket is read from the row's first bytes, where the amount stands
  *   read untouched               the tickets stay as they were
  *   read second                  every second market that is read has another first ask
+ *   read empty                   a bid of 0 with a set bit is taken, as a bid of 1
+ *   read empty-late              19 comes after every other fault of the sheet
  *   write order                  a ticket is written highest byte first
  *   write past                   a byte past the sheet is turned over
  *   write early                  14 for an output that no sheet fits into goes before the market's own faults
@@ -190,6 +192,47 @@ static size_t next_row(const uint8_t *sheet, size_t at, size_t m)
     return bids + 4 * set;
 }
 
+/* A copy of a sheet that is refused with 19, in which each bid of 0 with a set bit is 1. */
+static uint8_t *filled_in(const uint8_t *sheet, size_t sheet_len)
+{
+    uint8_t *copy = malloc(sheet_len);
+    size_t m = sheet[2], at = 4 + 6 * m, head = 2 + 4 + (m + 7) / 8;
+
+    if (copy == NULL) {
+        abort();
+    }
+    memcpy(copy, sheet, sheet_len);
+    for (size_t i = 0; i < sheet[0] && at + head <= sheet_len; i++) {
+        size_t next = next_row(sheet, at, m);
+        for (size_t bid = at + head; bid < next && bid + 4 <= sheet_len; bid += 4) {
+            copy[bid] |= memcmp(sheet + bid, "\0\0\0", 4) == 0;
+        }
+        at = next;
+    }
+    return copy;
+}
+
+/* The answer to a sheet with a bid of 0, by the way that such a bid is met. */
+static uint8_t without_empty(const char *way, uint8_t answer, READ_PARAMETERS)
+{
+    uint8_t *copy = filled_in(sheet, sheet_len);
+
+    if (strcmp(way, "empty") == 0) {
+        answer = REAL(bay_market_read)(copy, sheet_len, amounts, amounts_len, tickets, tickets_len, asks, asks_len,
+                                       bays, bays_len, bids, bids_len, n, m);
+    } else if (strcmp(way, "empty-late") == 0) {
+        static uint32_t others[BAY_MARKET_MAX_GUESTS * BAY_MARKET_MAX_STATIONS], other_tickets[BAY_MARKET_MAX_GUESTS];
+        uint32_t other_asks[BAY_MARKET_MAX_STATIONS];
+        uint16_t other_amounts[BAY_MARKET_MAX_GUESTS], other_bays[BAY_MARKET_MAX_STATIONS], counts[2];
+        uint8_t later = REAL(bay_market_read)(copy, sheet_len, other_amounts, amounts_len, other_tickets, tickets_len,
+                                              other_asks, asks_len, other_bays, bays_len, others, bids_len,
+                                              &counts[0], &counts[1]);
+        answer = later != 0 ? later : answer;
+    }
+    free(copy);
+    return answer;
+}
+
 uint8_t bay_market_read(READ_PARAMETERS)
 {
     const struct part parts[] = {READ_PARTS};
@@ -201,6 +244,9 @@ uint8_t bay_market_read(READ_PARAMETERS)
         memcpy(before, tickets, sizeof before);
     }
     uint8_t answer = REAL(bay_market_read)(READ_ARGUMENTS);
+    if (answer == BAY_MARKET_EMPTY_BID && fault("read", words)) {
+        answer = without_empty(words[1], answer, READ_ARGUMENTS);
+    }
     if (answer == 0 && fault("read", words)) {
         taken++;
         if (strcmp(words[1], "second") == 0 && taken % 2 == 0) {

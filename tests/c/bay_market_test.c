@@ -54,7 +54,7 @@ static void test_read(void)
     expect(bids[0] == 8 && bids[1] == 0 && bids[2] == 8 && bids[3] == 0, "bids");
 }
 
-/* Writes what was read, with one set bit more in the sheet than in what is written. */
+/* Writes what was read. A sheet with one set bit more, for a bid of 0, is refused. */
 static void test_write(void)
 {
     static const uint8_t empty[] = {
@@ -65,7 +65,8 @@ static void test_write(void)
     uint8_t output[sizeof sheet + 2];
     size_t length = 77;
 
-    expect(read_sheet(empty, sizeof empty) == BAY_MARKET_ACCEPTED, "a set bit for a bid of 0 is read");
+    expect(read_sheet(empty, sizeof empty) == BAY_MARKET_EMPTY_BID, "a set bit for a bid of 0 is refused");
+    expect(read_sheet(sheet, sizeof sheet) == BAY_MARKET_ACCEPTED, "case E is read");
     memset(output, 77, sizeof output);
     expect(bay_market_write(asks, m, bays, m, amounts, n, tickets, n, bids, 4, 1, output, 0, &length)
            == BAY_MARKET_LENGTHS_DIFFER, "the market is looked at before the output");
@@ -434,7 +435,7 @@ static void test_null(void)
 
 static void test_texts(void)
 {
-    const uint8_t beyond = BAY_MARKET_UNKNOWN_RULE + 1;
+    const uint8_t beyond = BAY_MARKET_EMPTY_BID + 1;
 
     expect(strcmp(bay_market_refusal_text(BAY_MARKET_ACCEPTED), "accepted") == 0, "the text of 0");
     expect(strcmp(bay_market_refusal_text(beyond), bay_market_refusal_text(255)) == 0, "no answer of the engine");

@@ -93,12 +93,12 @@ impl Market {
     /// ```
     /// use bay_market::{Market, Refusal};
     ///
-    /// // one guest, with a set bit and a bid of 0
-    /// let sheet = [1, 0, 1, 0, 5, 0, 0, 0, 2, 0, 3, 0, 7, 0, 0, 0, 1, 0, 0, 0, 0];
-    /// let market = Market::read(&sheet)?;
-    /// let shortest = market.to_sheet()?;
-    /// assert_eq!(shortest, [1, 0, 1, 0, 5, 0, 0, 0, 2, 0, 3, 0, 7, 0, 0, 0, 0]);
-    /// assert_eq!(Market::read(&shortest)?, market);
+    /// // one guest, with no bid: the one sheet that states it
+    /// let sheet = [1, 0, 1, 0, 5, 0, 0, 0, 2, 0, 3, 0, 7, 0, 0, 0, 0];
+    /// assert_eq!(Market::read(&sheet)?.to_sheet()?, sheet);
+    /// // and with a set bit and a bid of 0
+    /// let empty = [1, 0, 1, 0, 5, 0, 0, 0, 2, 0, 3, 0, 7, 0, 0, 0, 1, 0, 0, 0, 0];
+    /// assert_eq!(Market::read(&empty), Err(Refusal::EmptyBid));
     /// # Ok::<(), Refusal>(())
     /// ```
     pub fn to_sheet(&self) -> Result<Vec<u8>, Refusal> {

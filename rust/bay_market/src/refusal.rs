@@ -40,11 +40,13 @@ pub enum Refusal {
     PriceOrFallOutOfRange = 17,
     /// the number names no rule: it is neither 1 nor 2
     UnknownRule = 18,
+    /// a set bit of the sheet has a bid of 0
+    EmptyBid = 19,
 }
 
 impl Refusal {
     /// All refusals, by rising number.
-    pub const ALL: [Refusal; 18] = [
+    pub const ALL: [Refusal; 19] = [
         Refusal::SheetEnds,
         Refusal::CountsOutOfRange,
         Refusal::StrayBit,
@@ -63,6 +65,7 @@ impl Refusal {
         Refusal::CellOffGrid,
         Refusal::PriceOrFallOutOfRange,
         Refusal::UnknownRule,
+        Refusal::EmptyBid,
     ];
 
     /// What the refusal says.
@@ -86,6 +89,7 @@ impl Refusal {
             Refusal::CellOffGrid => "a cell is off the grid: a coordinate is above 31",
             Refusal::PriceOrFallOutOfRange => "a price or fall is above 1,000,000",
             Refusal::UnknownRule => "the number names no rule: it is neither 1 nor 2",
+            Refusal::EmptyBid => "a set bit of the sheet has a bid of 0",
         }
     }
 }

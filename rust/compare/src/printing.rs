@@ -9,7 +9,7 @@ use crate::reading::{any_sheet, damaged};
 use reference::faults::{MAX_AMOUNT, MAX_BAYS, MAX_PRICE};
 use reference::random::{Random, Shape};
 use reference::report::{printed, printed_quiet, printed_why, written};
-use reference::sheet::{shortest, stating};
+use reference::sheet::shortest;
 use std::io::Write;
 use std::path::{Path, PathBuf};
 use std::process::{Command, Stdio};
@@ -63,6 +63,11 @@ fn out_of_range(random: &mut Random, which: usize) -> Vec<u8> {
     shortest(&market)
 }
 
+/// Whose sheet has every bit set.
+fn largest() -> Shape {
+    Shape { bids: 1..=1_000_000, ..Shape::full() }
+}
+
 pub fn run(random: &mut Random, tally: &mut Tally, cases: usize) -> Result<(), String> {
     let program = env::var_os("BAY_MARKET_PROGRAM")
         .map_or_else(|| Path::new(env!("CARGO_MANIFEST_DIR")).join("../../target/dist/clear"), PathBuf::from);
@@ -77,8 +82,8 @@ pub fn run(random: &mut Random, tally: &mut Tally, cases: usize) -> Result<(), S
         }
         match case % 40 {
             // the largest sheet, and one byte more
-            1 => sheet = stating(&Shape::full().market(random), |_, _| true),
-            5 => sheet = [stating(&Shape::full().market(random), |_, _| true), vec![0]].concat(),
+            1 => sheet = shortest(&largest().market(random)),
+            5 => sheet = [shortest(&largest().market(random)), vec![0]].concat(),
             // more than a pipe holds
             9 => sheet.resize(200_000, 0),
             // an ask, bays, an amount or a bid out of range, or equal tickets
@@ -112,5 +117,5 @@ pub fn run(random: &mut Random, tally: &mut Tally, cases: usize) -> Result<(), S
             }
         }
     }
-    tally.require(&[0, 1, 2, 3, 4, 6, 7, 8, 9, 15])
+    tally.require(&[0, 1, 2, 3, 4, 6, 7, 8, 9, 15, 19])
 }

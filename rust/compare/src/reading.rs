@@ -1,9 +1,11 @@
-//! Reading against the reference: sheets as they should be and damaged ones; and the round trip of each.
+//! Reading against the reference: sheets as they should be, damaged ones and such with bids of 0; and the round trip of
+//! each: what is written is the sheet that was read.
 
 use crate::Tally;
 use crate::call;
 use crate::markets::{hex, middling, shapes};
 use reference::faults::market_fault;
+use reference::market::Market;
 use reference::random::{Random, Shape};
 use reference::sheet::{GREATEST, TableLengths, read, shortest, stating};
 
@@ -38,7 +40,7 @@ pub fn any_sheet(random: &mut Random, shape: &Shape) -> Vec<u8> {
             *bid = random.bits() as u32;
         }
     }
-    let percent = *random.pick(&[0, 10, 100]);
+    let percent = *random.pick(&[0, 0, 0, 1, 100]);
     stating(&market, |_, _| random.chance(percent))
 }
 
@@ -59,6 +61,58 @@ fn every_damage(random: &mut Random, visit: &mut Visit, sheet: &[u8]) -> Result<
         let mut longer = sheet.to_vec();
         longer.extend((0..random.within(1..=40)).map(|_| random.bits() as u8));
         visit(random, &longer, GREATEST)?;
+    }
+    Ok(())
+}
+
+/// Two guests with so many bids each, at random stations of 39 or 40.
+fn with_bids(random: &mut Random, bids: usize) -> Market {
+    let stations = if bids == 40 { 40 } else { random.within(39..=40) };
+    let shape = Shape { guests: 2..=2, stations: stations..=stations, bids: 1..=1_000_000, ..Shape::full() };
+    let mut market = shape.market(random);
+    for row in market.bids.chunks_mut(stations as usize) {
+        let mut places: Vec<usize> = (0..row.len()).collect();
+        for _ in bids..row.len() {
+            row[places.swap_remove(random.below(places.len()))] = 0;
+        }
+    }
+    market
+}
+
+/// A bid of 0 in place of each bid of rows with every number of bids: alone, with one bit of it set, with a second one, and
+/// beside the other faults that come before and after it.
+fn every_empty_bid(random: &mut Random, visit: &mut Visit) -> Result<(), String> {
+    for bids in 1..=40 {
+        let market = with_bids(random, bids);
+        let (sheet, stations) = (shortest(&market), market.stations());
+        let (rows, head) = (4 + 6 * stations, 6 + stations.div_ceil(8));
+        let row = head + 4 * bids;
+        for field in 0..2 * bids {
+            let at = rows + (field / bids + 1) * head + 4 * field;
+            let mut empty = sheet.clone();
+            empty[at..at + 4].fill(0);
+            visit(random, &empty, GREATEST)?;
+            for byte in at..at + 4 {
+                let mut other = empty.clone();
+                other[byte] = 1 << random.below(8);
+                visit(random, &other, GREATEST)?;
+            }
+            // the sheet ends before it, inside it, after it and inside what follows
+            for length in (at..at + 6).chain([at + 9, at + 13]).filter(|&length| length < empty.len()) {
+                visit(random, &empty[..length], GREATEST)?;
+            }
+            visit(random, &[&empty[..], &[0]].concat(), GREATEST)?;
+            let mut second = empty.clone();
+            let other = rows + random.below(2) * row + head + 4 * random.below(bids);
+            second[other..other + 4].fill(0);
+            visit(random, &second, GREATEST)?;
+            // a stray bit in its own row, and in the other
+            for map in [0, row].into_iter().filter(|_| stations < 40) {
+                let mut stray = empty.clone();
+                stray[rows + map + head - 1] |= 1 << 7;
+                visit(random, &stray, GREATEST)?;
+            }
+        }
     }
     Ok(())
 }
@@ -128,6 +182,7 @@ fn sheets(random: &mut Random, cases: usize, visit: &mut Visit) -> Result<(), St
         *bid = 0;
     }
     visit(random, &shortest(&market), GREATEST)?;
+    every_empty_bid(random, visit)?;
     // every header up to a little past the limits, alone and with zeros for what follows
     for n in (0..=3).chain(198..=203).chain([255, 256, 257, 65_535]) {
         for m in (0..=42).chain([255, 256, 257, 296, 65_535]) {
@@ -140,7 +195,7 @@ fn sheets(random: &mut Random, cases: usize, visit: &mut Visit) -> Result<(), St
         }
     }
     // the largest sheet, cut at random places
-    let largest = stating(&Shape { bids: 1..=9, empty: 0, ..Shape::full() }.market(random), |_, _| true);
+    let largest = shortest(&Shape { bids: 1..=9, empty: 0, ..Shape::full() }.market(random));
     for _ in 0..300 {
         let length = random.below(largest.len() + 1);
         visit(random, &largest[..length], GREATEST)?;
@@ -156,7 +211,7 @@ fn sheets(random: &mut Random, cases: usize, visit: &mut Visit) -> Result<(), St
 
 pub fn run(random: &mut Random, tally: &mut Tally, cases: usize) -> Result<(), String> {
     sheets(random, cases, &mut |random, sheet, lengths| check(random, tally, sheet, lengths))?;
-    tally.require(&[0, 1, 2, 3, 4, 10])
+    tally.require(&[0, 1, 2, 3, 4, 10, 19])
 }
 
 /// The round trip of each sheet.

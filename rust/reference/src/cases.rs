@@ -18,7 +18,8 @@ fn one_bay(asks: &[u32], amounts: &[u16], bids: &[u32]) -> Market {
 /// A market is accepted and is what its sheet states.
 fn accepted(market: &Market) {
     assert_eq!(read(&shortest(market), GREATEST).as_ref(), Ok(market));
-    assert_eq!(read(&stating(market, |_, _| true), GREATEST).as_ref(), Ok(market));
+    let all = if market.bids.contains(&0) { Err(&19) } else { Ok(market) };
+    assert_eq!(read(&stating(market, |_, _| true), GREATEST).as_ref(), all);
     assert_eq!(market_fault(market), Ok(()));
 }
 
@@ -314,12 +315,13 @@ fn sheet_e_and_its_text() {
     assert_eq!(report::printed(1, &SHEET_E[..3]), "refused 1\n");
     assert_eq!(report::printed_quiet(1, &SHEET_E), text);
     assert_eq!(report::printed_quiet(1, &SHEET_E[..3]), "refused 1\n");
-    assert_eq!(report::written(&stating(&samples::case_e(), |_, _| true)), SHEET_E);
+    assert_eq!(report::written(&SHEET_E), SHEET_E);
+    assert_eq!(report::written(&stating(&samples::case_e(), |_, _| true)), b"refused 19\n");
     assert_eq!(report::written(&SHEET_E[..3]), b"refused 1\n");
 }
 
 #[test]
-fn every_other_sheet_that_states_a_market_is_longer() {
+fn every_other_sheet_of_a_market_is_longer_and_refused() {
     let market = one_bay(&[2, 6, 1], &[3, 4, 5], &[0, 7, 0, 0, 0, 0, 8, 9, 1]);
     let empty = [(1, 1), (1, 3), (2, 1), (2, 2), (2, 3)];
     for choice in 0u32..1 << empty.len() {
@@ -327,7 +329,43 @@ fn every_other_sheet_that_states_a_market_is_longer() {
         let sheet = stating(&market, |guest, station| empty.iter().position(|&at| at == (guest, station)).is_some_and(bit));
         assert_eq!(sheet.len(), shortest(&market).len() + 4 * choice.count_ones() as usize);
         assert_eq!(sheet == shortest(&market), choice == 0);
-        assert_eq!(read(&sheet, GREATEST).as_ref(), Ok(&market));
+        assert_eq!(read(&sheet, GREATEST).as_ref(), if choice == 0 { Ok(&market) } else { Err(&19) });
+    }
+}
+
+#[test]
+fn empty_bids_are_refused_in_turn() {
+    let rows = |first: &[u8], second: &[u8]| [&SHEET_E[..22], first, &[3, 0, 2, 0, 0, 0], second].concat();
+    let both = |x: u8, y: u8| [3, x, 0, 0, 0, y, 0, 0, 0];
+    let refusal = |sheet: &[u8]| read(sheet, GREATEST).unwrap_err();
+    let market = one_bay(&[2, 6], &[3, 3], &[8, 8, 8, 8]);
+    assert_eq!(read(&rows(&both(8, 8), &both(8, 8)), GREATEST), Ok(market));
+    // the first and the last of row 1, and of row 2
+    assert_eq!(refusal(&rows(&both(0, 8), &both(8, 8))), 19);
+    assert_eq!(refusal(&rows(&both(8, 0), &both(8, 8))), 19);
+    assert_eq!(refusal(&rows(&both(8, 8), &both(0, 8))), 19);
+    let last = rows(&both(8, 8), &both(8, 0));
+    assert_eq!(refusal(&last), 19);
+    // before it: the sheet's end inside it, a stray bit of its row
+    for length in 42..46 {
+        assert_eq!(refusal(&last[..length]), 1);
+    }
+    assert_eq!(refusal(&rows(&[7, 0, 0, 0, 0], &[])), 3);
+    // after it: the sheet's end inside the next bid and the next row, a stray bit of that, a byte more
+    let first = rows(&both(0, 8), &[]);
+    for length in [27, 30, 32] {
+        assert_eq!(refusal(&first[..length]), 19);
+    }
+    assert_eq!(refusal(&rows(&both(8, 0), &[4])), 19);
+    assert_eq!(refusal(&[&last[..], &[0]].concat()), 19);
+    // one of forty
+    let market = Market::numbered(&[1; 40], &[1; 40], &[3], &[8; 40]);
+    let sheet = shortest(&market);
+    assert_eq!(read(&sheet, GREATEST), Ok(market));
+    for bid in 0..40 {
+        let mut empty = sheet.clone();
+        empty[4 + 6 * 40 + 11 + 4 * bid] = 0;
+        assert_eq!(refusal(&empty), 19);
     }
 }
 
@@ -360,7 +398,11 @@ fn reading_refuses_in_the_tables_order() {
     assert_eq!(refusal(&sheet), 3);
     sheet[65] = 0;
     assert_eq!(refusal(&sheet), 1);
-    sheet.extend([0; 5]);
+    sheet.extend([0; 3]);
+    assert_eq!(refusal(&sheet), 1);
+    sheet.extend([0; 2]);
+    assert_eq!(refusal(&sheet), 19);
+    sheet[68] = 1;
     assert_eq!(refusal(&sheet), 4);
     sheet.pop();
     assert_eq!(read(&sheet, GREATEST).map(|market| market.tickets), Ok(vec![0x0403_0201]));

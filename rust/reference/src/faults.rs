@@ -21,6 +21,7 @@ pub const TICKETS_REPEAT: u8 = 15;
 pub const CELL_OFF_GRID: u8 = 16;
 pub const PRICE_OR_FALL_OUT_OF_RANGE: u8 = 17;
 pub const UNKNOWN_RULE: u8 = 18;
+pub const EMPTY_BID: u8 = 19;
 
 pub const MAX_GUESTS: usize = 200;
 pub const MAX_STATIONS: usize = 40;

@@ -1,4 +1,5 @@
-//! Document 01, 'The sheet', with document 02's tickets in it, and document 02, 'Sheets we can send out'.
+//! Document 01, 'The sheet', with document 02's tickets in it, and document 02, 'Sheets we can send out' and 'No empty
+//! bids in a sheet'.
 
 use crate::faults::{self, MAX_GUESTS, MAX_STATIONS};
 use crate::market::Market;
@@ -45,6 +46,14 @@ impl<'a> Rest<'a> {
         Ok(u32::from_le_bytes([field[0], field[1], field[2], field[3]]))
     }
 
+    /// A bid that has a set bit.
+    fn bid(&mut self) -> Result<u32, u8> {
+        match self.number32()? {
+            0 => Err(faults::EMPTY_BID),
+            bid => Ok(bid),
+        }
+    }
+
     /// One bit for each station, and no other bit.
     fn bit_map(&mut self, stations: usize) -> Result<Vec<bool>, u8> {
         let mut bits = Vec::new();
@@ -85,7 +94,7 @@ pub fn read(sheet: &[u8], tables: TableLengths) -> Result<Market, u8> {
         market.amounts.push(rest.number16()?);
         market.tickets.push(rest.number32()?);
         for set in rest.bit_map(m)? {
-            market.bids.push(if set { rest.number32()? } else { 0 });
+            market.bids.push(if set { rest.bid()? } else { 0 });
         }
     }
     if !rest.0.is_empty() {
@@ -94,8 +103,8 @@ pub fn read(sheet: &[u8], tables: TableLengths) -> Result<Market, u8> {
     Ok(market)
 }
 
-/// A sheet that states the market, whose tables fit its counts. `empty` says for each guest and station, from 1,
-/// whether a bid of 0 gets a set bit.
+/// The sheet of a market whose tables fit its counts. `empty` says for each guest and station, from 1, whether a bid of 0
+/// gets a set bit; where one does, the reader refuses the sheet.
 pub fn stating(market: &Market, mut empty: impl FnMut(usize, usize) -> bool) -> Vec<u8> {
     let (n, m) = (market.guests(), market.stations());
     let mut sheet = Vec::new();
@@ -123,7 +132,7 @@ pub fn stating(market: &Market, mut empty: impl FnMut(usize, usize) -> bool) -> 
     sheet
 }
 
-/// The shortest sheet that states the market, whose tables fit its counts: no bid of 0 gets a set bit.
+/// The one sheet that states the market, whose tables fit its counts: no bid of 0 gets a set bit.
 pub fn shortest(market: &Market) -> Vec<u8> {
     stating(market, |_guest, _station| false)
 }
