@@ -10,7 +10,7 @@ ghost use mathlib.Core.Path.{_≡_};
 ghost use Rattle.model.specs.contracts.Lent.{tablesIn};
 ghost use Rattle.explain.specs.Explained.{refusing as refusingOf, ExplainedUnder, ExplainedBy};
 
-// Of so many guests, 0 where there is none.
+// Of so many guests; beyond them the arrays are open.
 pub struct OutcomeArrays {
     pub stations: [u16; MAX_GUESTS],
     pub charges: [u32; MAX_GUESTS],

@@ -5,9 +5,10 @@ use mathlib.Core.List.{List, [], _∷_, _++_}
 use mathlib.Core.Path.{_≡_, refl, sym, _∙_}
 use native.Mathlib.Omega.{arith}
 use Rattle.model.specs.Counting.{_≤?_, _and_, joined}
-use Rattle.model.specs.Verdicts.{Row, _gives_, accepted, firstFault, numberOf}
+use Rattle.model.specs.Verdicts.{Row, _gives_, Verdict, accepted, refused, firstFault, updated, numberOf}
 use Rattle.model.specs.claims.Promises.{RefusedLeaves, PromiseDetermines, ExportDetermines, PromiseCanBeKept}
-use Rattle.model.specs.claims.Promises.{ExportCanKeep, numberedFromOne, ZeroIsAccepted, FaultsNumberedFromOne}
+use Rattle.model.specs.claims.Promises.{RefusedExportLeaves, ExportCanKeep, numberedFromOne, ZeroIsAccepted}
+use Rattle.model.specs.claims.Promises.{FaultsNumberedFromOne}
 use Rattle.model.specs.contracts.EntryPoints.{clearing, reading, writing, placing, explaining, entering}
 use Rattle.model.specs.market.Faults.{unknownRule, counts, lengths, listLengths, values, marketFaults}
 use Rattle.model.specs.market.Faults.{tableFaults, clearingFaults, explainedLengths, explainedFaults}
@@ -24,6 +25,16 @@ use Rattle.model.proofs.Verdicts.{updated-accepted}
 
 pub refused-leaves : RefusedLeaves
 refused-leaves A L p entry exit answer k e c = was-refused c e .1
+
+-- what a refusal leaves
+kept : {B : Type 0} (v : Verdict) (new old : B) (k : ℕ) → suc k ≡ numberOf v → updated v new old ≡ old
+unfolding numberOf updated
+kept (accepted _) new old k e = absurd (omega (arith, e))
+kept (refused j) new old k e = refl
+
+pub refused-export-leaves : RefusedExportLeaves
+refused-export-leaves A L p entry exit out out′ k c =
+    (c .left ∙ kept _ _ _ k (c .number-is), c .out-is ∙ kept _ _ _ k (c .number-is))
 
 pub promise-determines : PromiseDetermines
 promise-determines A L p entry answer answer′ exit exit′ c d =

@@ -69,9 +69,9 @@ module _ (rule : Rule) (t : Tables) (i : ℕ) (li : i < length (t .amounts)) whe
       (λ (p : loss rule t i ≤ 0). omega arith)
       (lt-or-le 0 (loss rule t i))
 
-pub outcomes-tell-wins-and-reasons : OutcomesTellWinsAndLosses
+pub outcomes-tell-wins-and-losses : OutcomesTellWinsAndLosses
 unfolding at
-outcomes-tell-wins-and-reasons rule t a i li =
+outcomes-tell-wins-and-losses rule t a i li =
     let m = accepted-iff-within-limits t .0 a .shape .stations-least in
     record {
       won = λ j e. (
@@ -200,10 +200,10 @@ pub codes-tell-facts-calls : CodesTellFactsCalls
 codes-tell-facts-calls rule t e i j li lj =
     subst (CodeTells (ruleOf rule) t i j) (sym (code-here rule t e i j li lj)) (code-tells (ruleOf rule) t i j)
 
-pub outcomes-tell-wins-and-reasons-calls : OutcomesTellWinsAndLossesCalls
-outcomes-tell-wins-and-reasons-calls rule t e i li =
+pub outcomes-tell-wins-and-losses-calls : OutcomesTellWinsAndLossesCalls
+outcomes-tell-wins-and-losses-calls rule t e i li =
     subst (λ o. OutcomeTells (ruleOf rule) t o i) (sym (outcomes-here rule t e))
-    (outcomes-tell-wins-and-reasons (ruleOf rule) t (market-here rule t e) i li)
+    (outcomes-tell-wins-and-losses (ruleOf rule) t (market-here rule t e) i li)
 
 module _ (rule : ℕ) (t : Tables) (e : ExplainedCall rule t) (k : ClearedCall rule t) (i : ℕ)
     (li : i < length (t .amounts)) where
@@ -227,7 +227,7 @@ module _ (rule : ℕ) (t : Tables) (e : ExplainedCall rule t) (k : ClearedCall r
       ∙ station-same
 
   tells : OutcomeTells (ruleOf rule) t (e .exit .outcomes) i
-  tells = outcomes-tell-wins-and-reasons-calls rule t e i li
+  tells = outcomes-tell-wins-and-losses-calls rule t e i li
 
   loses-as :
       getD (k .exit .stations) i 0 ≡ 0

@@ -1,14 +1,17 @@
--- What is printed of case E, of its sheet and that with a bid of 0, and of a market that is refused, byte by byte.
+-- What is printed of case E, of its sheet and that with a bid of 0, and of a market that is refused, byte by byte; and
+-- which page some arguments ask for.
 use Prim.Native.Nat.{ℕ}
-use mathlib.Core.List.{List, [], _∷_}
+use mathlib.Core.List.{List, [], _∷_, map}
 use mathlib.Core.Path.{_≡_}
 use Rattle.model.specs.cases.Cases.{caseE, single}
 use Rattle.model.specs.cases.Sheets.{sheetE, sheetE0}
 use Rattle.model.specs.market.Outcome.{outcome}
 use Rattle.model.specs.text.MarketText.{marketTextOf}
 use Rattle.model.specs.text.Printed.{printed}
-use Rattle.model.specs.declared.rule.Rule.the-variants.{Median}
-use Rattle.model.specs.declared.page.Page.the-variants.{Sheet}
+use Rattle.model.specs.text.Asked.{quietWord, whyWord, writeWord, ruleWord, oneWord, twoWord, asked}
+use Rattle.model.specs.declared.rule.Rule.the-variants.{Median, TwoThirds}
+use Rattle.model.specs.declared.page.Page.the-variants.{Clearing, Efficient, Reasons, Sheet}
+use Rattle.model.specs.declared.page.Asked.the-variants.{For, Nothing}
 
 -- cut 6
 -- guest 1 station 1 charge 24
@@ -43,3 +46,14 @@ pub record TextsHold : Type 0 where
   pub sheet-e : printed Sheet 38 sheetE ≡ sheetE
   pub empty-bid : printed Sheet 42 sheetE0 ≡ textNineteen
   pub bid-too-high : marketTextOf (outcome Median) (single 1 1 1 1_000_001) ≡ textNine
+
+-- none; each page; a rule alone and after a page; a number of no rule, no number, `--write` with more, another word
+abbrev pub AskedHold : Type 0
+AskedHold = map asked (
+    [] ∷ (quietWord ∷ []) ∷ (whyWord ∷ []) ∷ (writeWord ∷ [])
+    ∷ (ruleWord ∷ oneWord ∷ []) ∷ (ruleWord ∷ twoWord ∷ []) ∷ (quietWord ∷ ruleWord ∷ twoWord ∷ [])
+    ∷ (whyWord ∷ ruleWord ∷ twoWord ∷ []) ∷ (ruleWord ∷ (51 ∷ []) ∷ []) ∷ (ruleWord ∷ [])
+    ∷ (writeWord ∷ ruleWord ∷ oneWord ∷ []) ∷ (twoWord ∷ []) ∷ [])
+    ≡ (For (Clearing Median) ∷ For (Efficient Median) ∷ For (Reasons Median) ∷ For Sheet
+    ∷ For (Clearing Median) ∷ For (Clearing TwoThirds) ∷ For (Efficient TwoThirds)
+    ∷ For (Reasons TwoThirds) ∷ Nothing ∷ Nothing ∷ Nothing ∷ Nothing ∷ [])

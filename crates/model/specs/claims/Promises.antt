@@ -1,5 +1,5 @@
 -- What follows from every promise, whichever call keeps it.
-use Prim.Native.Nat.{ℕ}
+use Prim.Native.Nat.{ℕ, suc}
 use mathlib.Core.Bool.{Bool, true}
 use mathlib.Core.List.{List, [], _∷_}
 use mathlib.Core.Path.{_≡_}
@@ -21,6 +21,12 @@ abbrev pub RefusedLeaves : Type 1
 RefusedLeaves =
     (A L : Type 0) (p : L → Promise A L) (entry exit : L) (answer : Answer A) (k : ℕ) → answer ≡ refused k
     → Keeps p entry answer exit → exit ≡ entry
+
+-- and an exported one, which answers another number than 0, its out parameters too
+abbrev pub RefusedExportLeaves : Type 1
+RefusedExportLeaves =
+    (A L : Type 0) (p : L → Promise A L) (entry exit : L) (out out′ : A) (k : ℕ)
+    → KeepsOut p entry out (suc k) exit out′ → (exit ≡ entry) × (out′ ≡ out)
 
 -- a promise leaves nothing open: two calls that keep it, lent the same, answer the same and leave the same
 abbrev pub PromiseDetermines : Type 1
