@@ -33,7 +33,7 @@
 extern "C" {
 #endif
 
-#define BAY_MARKET_VERSION "0.4.0"
+#define BAY_MARKET_VERSION "0.4.1"
 
 /* Limits. Amounts and bays are at least 1, and so is the number of stations. */
 #define BAY_MARKET_MAX_GUESTS 200
