@@ -81,7 +81,7 @@ sum-swap zero m f = sym (sum-zero m (λ j. 0) (λ k l. refl))
 sum-swap (suc n) m f = ap (λ x. x + sum m (f n)) (sum-swap n m f) ∙ sym (sum-add m (λ j. sum n (λ i. f i j)) (f n))
 
 -- in two parts, and row after row
-sum-parts : (n k : ℕ) (f : ℕ → ℕ) → sum (n + k) f ≡ sum n f + sum k (λ i. f (n + i))
+pub sum-parts : (n k : ℕ) (f : ℕ → ℕ) → sum (n + k) f ≡ sum n f + sum k (λ i. f (n + i))
 unfolding sum
 sum-parts n zero f = rw (add-zero n) (omega arith)
 sum-parts n (suc k) f = let e : n + suc k ≡ suc (n + k) = omega arith in rw e (omega (arith, sum-parts n k f))

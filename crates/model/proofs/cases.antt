@@ -1,6 +1,8 @@
 pub mod Cases
 pub mod Computing
 pub mod Example
+pub mod Gates
+pub mod GatesInstance
 pub mod Instances
 pub mod Places
 pub mod Reasons

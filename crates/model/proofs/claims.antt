@@ -2,12 +2,14 @@ pub mod Asked
 pub mod Calls
 pub mod Efficient
 pub mod Existence
+pub mod Gates
 pub mod OneSheet
 pub mod Places
 pub mod Postings
 pub mod Promises
 pub mod Reasons
 pub mod Sheets
+pub mod Shown
 pub mod Truth
 pub mod Words
 pub mod Writings

@@ -4,6 +4,8 @@ pub mod Choice
 pub mod Cut
 pub mod Decisions
 pub mod Efficient
+pub mod Gates
+pub mod Joining
 pub mod Limits
 pub mod Menus
 pub mod Order

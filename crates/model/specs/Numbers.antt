@@ -20,7 +20,7 @@ use Rattle.model.specs.declared.refusal.Refusal.the-variants.{BaysOutOfR
 use Rattle.model.specs.declared.refusal.Refusal.the-variants.{LentLengths, RoundOutOfTurn, AccountOverLimit}
 use Rattle.model.specs.declared.refusal.Refusal.the-variants.{BookSize, OutputTooShort, TicketsRepeat}
 use Rattle.model.specs.declared.refusal.Refusal.the-variants.{CellOffGrid, PriceOrFallOutOfRange, UnknownRule}
-use Rattle.model.specs.declared.refusal.Refusal.the-variants.{EmptyBid}
+use Rattle.model.specs.declared.refusal.Refusal.the-variants.{EmptyBid, StationsDiffer, TicketInBoth}
 
 abbrev pub number : Refusal → ℕ
 number SheetEnds = 1
@@ -42,6 +42,8 @@ number CellOffGrid = 16
 number PriceOrFallOutOfRange = 17
 number UnknownRule = 18
 number EmptyBid = 19
+number StationsDiffer = 20
+number TicketInBoth = 21
 
 -- of the reader: n and m
 unfoldable pub answerOfReading : Reading → Answer (ℕ × ℕ)

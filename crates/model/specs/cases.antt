@@ -1,4 +1,5 @@
 pub mod Cases
+pub mod Gates
 pub mod Instances
 pub mod Places
 pub mod Reasons

@@ -1,5 +1,6 @@
 pub mod Calls
 pub mod Efficient
+pub mod Gates
 pub mod Meaning
 pub mod OneSheet
 pub mod Places

@@ -1,6 +1,7 @@
 pub mod Efficient
 pub mod Faults
 pub mod Gains
+pub mod Gates
 pub mod Market
 pub mod Mechanism
 pub mod Outcome

@@ -23,6 +23,8 @@ pub enum Refusal {
     PriceOrFallOutOfRange,
     UnknownRule,
     EmptyBid,
+    StationsDiffer,
+    TicketInBoth,
 }
 
 impl Refusal {
@@ -50,6 +52,8 @@ impl Refusal {
             Refusal::PriceOrFallOutOfRange => 17,
             Refusal::UnknownRule => 18,
             Refusal::EmptyBid => 19,
+            Refusal::StationsDiffer => 20,
+            Refusal::TicketInBoth => 21,
         }
     }
 }

@@ -9,10 +9,12 @@ use Rattle.model.specs.Verdicts.{Row, _gives_, Verdict, accepted, refuse
 use Rattle.model.specs.claims.Promises.{RefusedLeaves, PromiseDetermines, ExportDetermines, PromiseCanBeKept}
 use Rattle.model.specs.claims.Promises.{RefusedExportLeaves, ExportCanKeep, numberedFromOne, ZeroIsAccepted}
 use Rattle.model.specs.claims.Promises.{FaultsNumberedFromOne}
-use Rattle.model.specs.contracts.EntryPoints.{clearing, reading, writing, placing, explaining, entering}
+use Rattle.model.specs.contracts.EntryPoints.{clearing, reading, writing, placing, explaining, joining}
+use Rattle.model.specs.contracts.EntryPoints.{entering}
 use Rattle.model.specs.market.Faults.{unknownRule, counts, lengths, listLengths, values, marketFaults}
 use Rattle.model.specs.market.Faults.{tableFaults, clearingFaults, explainedLengths, explainedFaults}
 use Rattle.model.specs.market.Faults.{explainingFaults}
+use Rattle.model.specs.market.Gates.{joinedLengths, pairFaults, joiningFaults}
 use Rattle.model.specs.sheet.Content.{sheetFaults}
 use Rattle.model.specs.sheet.Lent.{tableLengths, readingFaults}
 use Rattle.model.specs.sheet.Rows.{bidFaults, bidsFaults, rowFaults, rowsFaults}
@@ -87,15 +89,16 @@ unfolding numberedFromOne _≤?_ _and_ rowsFaults rowFaults
 rows-numbered s m n = numbered-all n _ (λ i. bids-numbered s _ _)
 
 pub faults-numbered-from-one : FaultsNumberedFromOne
-unfolding numberedFromOne _≤?_ _and_ clearing reading writing placing explaining entering clearingFaults tableFaults
-    unknownRule counts lengths listLengths values marketFaults readingFaults tableLengths sheetFaults writingFaults
-    placingFaults placeLengths placeValues explainingFaults explainedFaults explainedLengths postingFaults bookSize
-    outOfTurn
+unfolding numberedFromOne _≤?_ _and_ clearing reading writing placing explaining joining entering clearingFaults
+    tableFaults unknownRule counts lengths listLengths values marketFaults readingFaults tableLengths sheetFaults
+    writingFaults placingFaults placeLengths placeValues explainingFaults explainedFaults explainedLengths
+    joiningFaults pairFaults joinedLengths postingFaults bookSize outOfTurn
 faults-numbered-from-one = record {
   of-clearing = λ made rule t entry. refl;
   of-reading = λ s entry. numbered-both (rowsFaults s _ _) _ (rows-numbered s _ _) refl;
   of-writing = λ t entry. refl;
   of-placing = λ p entry. refl;
   of-explaining = λ rule t entry. refl;
+  of-joining = λ t u entry. refl;
   of-entering = λ p entry. refl;
 }

@@ -192,7 +192,7 @@ module _ (rule : ℕ) (t : Tables) (e : ExplainedCall rule t) where
   unfolding explaining codeIn
   code-here i j li lj = ap (λ s. codeIn t s i j) (accepted-here .1) ∙ code-at (ruleOf rule) t i j li lj
 
-  outcomes-here : e .exit .outcomes ≡ guestOutcomes (ruleOf rule) t
+  pub outcomes-here : e .exit .outcomes ≡ guestOutcomes (ruleOf rule) t
   unfolding explaining
   outcomes-here = ap (λ s. s .outcomes) (accepted-here .1)
 

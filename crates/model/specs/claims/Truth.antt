@@ -1,14 +1,16 @@
 -- Demand 3, first two sentences. Each statement is a type; its proof is a term of proofs/.
 use Prim.Native.Nat.{ℕ, suc, _+_, _*_, _-_, _≤_, _<_}
-use mathlib.Core.Bool.{Bool}
+use mathlib.Core.Bool.{Bool, true}
 use mathlib.Core.Logic.{_↔_}
 use mathlib.Core.Path.{_≡_}
 use lib.IntN.{subℕ}
 use lib.ListN.{getD, length}
 use lib.Signed.{_≤ℤ_}
 use Rattle.model.specs.Counting.{_≤?_, _=?_, _and_, only, sum}
-use Rattle.model.specs.market.Market.{Tables, bidAt, marketBy, market, opens, Screened, screen}
-use Rattle.model.specs.market.Mechanism.{Decision, at, charged, served, sold, paid, margin, best, truthful}
+use Rattle.model.specs.market.Market.{Tables, bidAt, marketBy, market, opens, Screened, screen, queue}
+use Rattle.model.specs.market.Market.{provisional}
+use Rattle.model.specs.market.Mechanism.{Decision, at, charge, charged, served, sold, paid, margin, best}
+use Rattle.model.specs.market.Mechanism.{truthful}
 use Rattle.model.specs.market.Outcome.{screened, decision}
 use Rattle.model.specs.market.Rules.{position}
 use Rattle.model.specs.declared.rule.Rule.{Rule}
@@ -35,6 +37,17 @@ pub record AlikeButForStation (t t′ : Tables) (j : ℕ) : Type 0 where
 -- what a mechanism sees under any rule for the position of the cut
 abbrev pub screenedBy : (rule : ℕ → ℕ) → Tables → Screened
 screenedBy rule t = screen (marketBy rule t)
+
+-- by document 01's mechanism under any such rule: whether guest i holds a place at station j, and its charge there,
+-- assigned there or not
+abbrev pub holdsBy : (rule : ℕ → ℕ) → Tables → (i j : ℕ) → Bool
+holdsBy rule t i j = provisional (queue (screenedBy rule t) j) i
+
+abbrev pub HoldsPlace : (rule : ℕ → ℕ) → Tables → (i j : ℕ) → Type 0
+HoldsPlace rule t i j = holdsBy rule t i j ≡ true
+
+abbrev pub chargeAt : (rule : ℕ → ℕ) → Tables → (i j : ℕ) → ℕ
+chargeAt rule t i j = charge (screenedBy rule t) (truthful (screenedBy rule t)) i j
 
 -- where t carries guest i's worths, i gains no more in t′
 abbrev pub GuestTruthfulBy : (mechanism : Screened → Decision) (rule : ℕ → ℕ) → Type 0

@@ -11,6 +11,7 @@ use Rattle.model.specs.market.Faults.{tableFaults, clearingFaults, expla
 use Rattle.model.specs.market.Outcome.{Results, Outcome}
 use Rattle.model.specs.market.Reasons.{codes, outcomeLengths, guestOutcomes, Explanation, explanation}
 use Rattle.model.specs.market.Rules.{ruleOf}
+use Rattle.model.specs.market.Gates.{joiningFaults, joinedTables}
 use Rattle.model.specs.sheet.Content.{guests, stations, tablesOf}
 use Rattle.model.specs.sheet.Lent.{LentTables, readingFaults, filled}
 use Rattle.model.specs.sheet.Shortest.{shortest, writingFaults, written}
@@ -85,6 +86,14 @@ explaining rule t entry = record {
   value = tt;
   leaves = explanation (codes (ruleOf rule) t) (guestOutcomes (ruleOf rule) t);
 }
+
+-- ---- `join`: no value
+
+unfoldable pub joining : (t u : Tables) (entry : LentTables) → Promise Unit LentTables
+joining t u entry = record { faults = joiningFaults t u entry; value = tt; leaves = joinedTables t u }
+
+abbrev pub Joins : (t u : Tables) (entry : LentTables) (answer : Coded) (exit : LentTables) → Type 0
+Joins t u entry answer exit = Keeps (joining t u) entry (answerOfVerdict answer) exit
 
 -- ---- `post`: no value; its book is held to the plain one
 
