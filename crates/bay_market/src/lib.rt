@@ -1,5 +1,6 @@
 // The engine for other languages, one archive: include/bay_market.h.
 mod clear;
+mod gates;
 mod places;
 mod post;
 mod read;
