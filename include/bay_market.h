@@ -1,6 +1,7 @@
 /*
- * The bay market: reading and writing market sheets, placing bids from parking places, clearing a market, in a truthful
- * round or in an efficient one for quiet days, telling guests what decided a truthful round, posting one to a ledger.
+ * The bay market: reading and writing market sheets, placing bids from parking places, joining two gates' markets,
+ * clearing a market, in a truthful round or in an efficient one for quiet days, telling guests what decided a truthful
+ * round, posting one to a ledger.
  *
  * For x86-64 Linux: link libbay_market.a, or libbay_market.so. Both need memcpy and memset of the C library and
  * nothing else. Nothing is allocated; a call takes at most BAY_MARKET_MAX_STACK bytes of stack.
@@ -14,9 +15,9 @@
  * Calls share no state, so threads may call at the same time on different memory.
  *
  * MIND THE ORDER OF ARGUMENTS. bay_market_read takes amounts, tickets, asks, bays, bids, as the sheet's reader fills
- * them; bay_market_write, bay_market_clear, bay_market_clear_efficient, bay_market_explain and bay_market_post take
- * asks, bays, amounts, tickets, bids, the last four after the rule's number. Amounts and bays have one type, tickets,
- * asks and bids another, so a compiler cannot see a swap.
+ * them; bay_market_write, bay_market_join, bay_market_clear, bay_market_clear_efficient, bay_market_explain and
+ * bay_market_post take asks, bays, amounts, tickets, bids, the last four after the rule's number. Amounts and bays have
+ * one type, tickets, asks and bids another, so a compiler cannot see a swap.
  * bay_market_place_bids takes prices, falls, then the guests' first and second coordinates, then the stations'.
  *
  * Prices are in mills (thousandths of the currency unit) per kWh, charges and payments in mills,
@@ -33,7 +34,7 @@
 extern "C" {
 #endif
 
-#define BAY_MARKET_VERSION "0.4.1"
+#define BAY_MARKET_VERSION "0.4.2"
 
 /* Limits. Amounts and bays are at least 1, and so is the number of stations. */
 #define BAY_MARKET_MAX_GUESTS 200
@@ -99,7 +100,9 @@ enum bay_market_refusal {
     BAY_MARKET_CELL_OFF_GRID = 16,              /* a cell is off the grid: a coordinate is above 31 */
     BAY_MARKET_PRICE_OR_FALL_OUT_OF_RANGE = 17, /* a price or fall is above 1,000,000 */
     BAY_MARKET_UNKNOWN_RULE = 18,               /* the number names no rule: it is neither 1 nor 2 */
-    BAY_MARKET_EMPTY_BID = 19                   /* a set bit of the sheet has a bid of 0 */
+    BAY_MARKET_EMPTY_BID = 19,                  /* a set bit of the sheet has a bid of 0 */
+    BAY_MARKET_STATIONS_DIFFER = 20,            /* two markets differ in their stations' count, asks or bays */
+    BAY_MARKET_TICKET_IN_BOTH = 21              /* a ticket is in both markets */
 };
 
 /* What an answer says. */
@@ -126,6 +129,8 @@ static inline const char *bay_market_refusal_text(uint8_t answer)
     case BAY_MARKET_PRICE_OR_FALL_OUT_OF_RANGE: return "a price or fall is above 1,000,000";
     case BAY_MARKET_UNKNOWN_RULE: return "the number names no rule: it is neither 1 nor 2";
     case BAY_MARKET_EMPTY_BID: return "a set bit of the sheet has a bid of 0";
+    case BAY_MARKET_STATIONS_DIFFER: return "two markets differ in their stations' count, asks or bays";
+    case BAY_MARKET_TICKET_IN_BOTH: return "a ticket is in both markets";
     default: return "not an answer of the engine";
     }
 }
@@ -188,6 +193,35 @@ uint8_t bay_market_place_bids(const uint32_t *prices, size_t prices_len,
                               const uint16_t *station_first, size_t station_first_len,
                               const uint16_t *station_second, size_t station_second_len,
                               uint32_t *bids, size_t bids_len);
+
+/*
+ * Joins two markets of the same stations, as of two gates, into one, which is cleared as any other: the asks and bays
+ * of the first, and the guests of both, the first market's in front. The lent tables are exactly as long as the joined
+ * market's: with n guests in both together and m stations, m asks and bays, n amounts and tickets, n times m bids, row
+ * after row, m wide. In truthful rounds by one rule whoever holds a place in the joined market held it in its own, and
+ * its charge at that station is no lower.
+ *
+ * Refusals in this order: 2, 5, 6 to 9 and 15 of the first market as in clearing, then those of the second; 20 where
+ * the counts of stations, their asks or their bays differ; 2 where both together have over 200 guests; 21 where a
+ * ticket is in both; 10 for a lent table of another length.
+ */
+uint8_t bay_market_join(const uint32_t *asks, size_t asks_len,
+                        const uint16_t *bays, size_t bays_len,
+                        const uint16_t *amounts, size_t amounts_len,
+                        const uint32_t *tickets, size_t tickets_len,
+                        const uint32_t *bids, size_t bids_len,
+                        size_t width,
+                        const uint32_t *asks2, size_t asks2_len,
+                        const uint16_t *bays2, size_t bays2_len,
+                        const uint16_t *amounts2, size_t amounts2_len,
+                        const uint32_t *tickets2, size_t tickets2_len,
+                        const uint32_t *bids2, size_t bids2_len,
+                        size_t width2,
+                        uint32_t *joined_asks, size_t joined_asks_len,
+                        uint16_t *joined_bays, size_t joined_bays_len,
+                        uint16_t *joined_amounts, size_t joined_amounts_len,
+                        uint32_t *joined_tickets, size_t joined_tickets_len,
+                        uint32_t *joined_bids, size_t joined_bids_len);
 
 /*
  * Clears a market in a truthful round: no guest and no station gains by a false report. n is amounts_len and m is

@@ -39,6 +39,24 @@ uint8_t real_bay_market_explain(uint8_t rule,
                                 uint32_t *charges, size_t charges_len,
                                 uint8_t *reasons, size_t reasons_len);
 
+uint8_t real_bay_market_join(const uint32_t *asks, size_t asks_len,
+                             const uint16_t *bays, size_t bays_len,
+                             const uint16_t *amounts, size_t amounts_len,
+                             const uint32_t *tickets, size_t tickets_len,
+                             const uint32_t *bids, size_t bids_len,
+                             size_t width,
+                             const uint32_t *asks2, size_t asks2_len,
+                             const uint16_t *bays2, size_t bays2_len,
+                             const uint16_t *amounts2, size_t amounts2_len,
+                             const uint32_t *tickets2, size_t tickets2_len,
+                             const uint32_t *bids2, size_t bids2_len,
+                             size_t width2,
+                             uint32_t *joined_asks, size_t joined_asks_len,
+                             uint16_t *joined_bays, size_t joined_bays_len,
+                             uint16_t *joined_amounts, size_t joined_amounts_len,
+                             uint32_t *joined_tickets, size_t joined_tickets_len,
+                             uint32_t *joined_bids, size_t joined_bids_len);
+
 uint8_t real_bay_market_place_bids(const uint32_t *prices, size_t prices_len,
                                    const uint32_t *falls, size_t falls_len,
                                    const uint16_t *guest_first, size_t guest_first_len,
@@ -127,6 +145,21 @@ uint8_t real_bay_market_write(const uint32_t *asks, size_t asks_len,
     bids_len, width, codes, codes_len, stations, stations_len, charges, charges_len, reasons, reasons_len
 #define EXPLAIN_PARTS LIST(asks), LIST(bays), LIST(amounts), LIST(tickets), LIST(bids), LIST(codes), LIST(stations), \
     LIST(charges), LIST(reasons)
+
+#define JOIN_PARAMETERS const uint32_t *asks, size_t asks_len, const uint16_t *bays, size_t bays_len, \
+    const uint16_t *amounts, size_t amounts_len, const uint32_t *tickets, size_t tickets_len, const uint32_t *bids, \
+    size_t bids_len, size_t width, const uint32_t *asks2, size_t asks2_len, const uint16_t *bays2, size_t bays2_len, \
+    const uint16_t *amounts2, size_t amounts2_len, const uint32_t *tickets2, size_t tickets2_len, \
+    const uint32_t *bids2, size_t bids2_len, size_t width2, uint32_t *joined_asks, size_t joined_asks_len, \
+    uint16_t *joined_bays, size_t joined_bays_len, uint16_t *joined_amounts, size_t joined_amounts_len, \
+    uint32_t *joined_tickets, size_t joined_tickets_len, uint32_t *joined_bids, size_t joined_bids_len
+#define JOIN_ARGUMENTS asks, asks_len, bays, bays_len, amounts, amounts_len, tickets, tickets_len, bids, bids_len, \
+    width, asks2, asks2_len, bays2, bays2_len, amounts2, amounts2_len, tickets2, tickets2_len, bids2, bids2_len, \
+    width2, joined_asks, joined_asks_len, joined_bays, joined_bays_len, joined_amounts, joined_amounts_len, \
+    joined_tickets, joined_tickets_len, joined_bids, joined_bids_len
+#define JOIN_PARTS LIST(asks), LIST(bays), LIST(amounts), LIST(tickets), LIST(bids), LIST(asks2), LIST(bays2), \
+    LIST(amounts2), LIST(tickets2), LIST(bids2), LIST(joined_asks), LIST(joined_bays), LIST(joined_amounts), \
+    LIST(joined_tickets), LIST(joined_bids)
 
 #define PLACE_BIDS_PARAMETERS const uint32_t *prices, size_t prices_len, const uint32_t *falls, size_t falls_len, \
     const uint16_t *guest_first, size_t guest_first_len, const uint16_t *guest_second, size_t guest_second_len, \

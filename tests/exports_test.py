@@ -1,6 +1,6 @@
 #!/usr/bin/env python3
-"""The shared library through tools/exports_table.py, at the path given: case E read, cleared, explained, posted and
-written, and a call that is refused and leaves what it was lent."""
+"""The shared library through tools/exports_table.py, at the path given: case E read, cleared, explained, joined of two
+gates, posted and written, and a call that is refused and leaves what it was lent."""
 import pathlib
 import sys
 
@@ -30,6 +30,12 @@ expect('clear', 0, cleared, rule=1, **MARKET, **RESULTS)
 expect('clear', 18, RESULTS, rule=3, **MARKET, **RESULTS)
 told = {'codes': [0, 1, 4, 1], 'stations': [1, 0], 'charges': [24, 0], 'reasons': [0, 4]}
 expect('explain', 0, told, rule=1, **MARKET, **{name: [7] * len(held) for name, held in told.items()})
+north = {'asks': [2, 6], 'bays': [1, 1], 'amounts': [3], 'tickets': [1], 'bids': [8, 0], 'width': 2}
+south = {f'{name}2': held for name, held in {**north, 'tickets': [2]}.items()}
+joined = {f'joined_{name}': held for name, held in MARKET.items() if name != 'width'}
+lent = {name: [7] * len(held) for name, held in joined.items()}
+expect('join', 0, joined, **north, **south, **lent)
+expect('join', 21, lent, **north, **{**south, 'tickets2': [1]}, **lent)
 expect('write', 0, {'sheet': [*SHEET, 5, 5], 'length': len(SHEET)}, **MARKET, sheet=[5] * (len(SHEET) + 2), length=0)
 
 account = exports_table.TYPES['StationAccount']

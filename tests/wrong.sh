@@ -34,7 +34,7 @@ finds() {
     found=$((found + 1))
 }
 
-for part in read write trip place_bids clear clear_efficient explain facts post truth truth_efficient; do
+for part in read write trip place_bids join gates clear clear_efficient explain facts post truth truth_efficient; do
     BAY_MARKET_FAULT='' "$compare" $seed $part >/dev/null
 done
 # what has the faults of efficient clearing and of telling is right without one
@@ -175,6 +175,26 @@ for way in c slices; do
         finds "place_bids $list short taken" 'answered 0, expected 5' place_bids $way
     done
 done
+# faults of joining; the types that own their lists make the joined tables
+for way in c slices owned; do
+    for fault in front last; do
+        finds "join $fault" 'joined tables differ|owned market differs' join $way
+    done
+    finds 'join ticket' 'answered 0, expected 21|owned market differs' join $way
+    finds 'join bays' 'answered [0-9]+, expected 20|owned market differs' join $way
+    finds 'join asks' 'answered [0-9]+, expected 20|owned market differs' join $way
+    finds 'join ticket-early' 'answered 21, expected 2|owned market differs' join $way
+done
+for way in c slices; do
+    finds 'join crowd' 'answered [0-9]+, expected 2' join $way
+    finds 'join list-early' 'answered 10, expected 21' join $way
+    for list in $(filled join); do
+        finds "join $list long taken" 'answered 0, expected 10' join $way
+        finds "join $list short taken" 'answered 0, expected 10' join $way
+    done
+done
+finds 'explain seated' 'holds a place that joining gave|is charged less' gates
+finds 'join front' 'holds a place that joining gave|is charged less' gates
 finds 'clear bid' 'guest [0-9]+ gains by' truth
 finds 'clear ask' 'station [0-9]+ gains by' truth
 finds 'clear charges first accepted' 'charge' truth

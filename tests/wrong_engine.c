@@ -66,6 +66,15 @@
  *   place_bids stated            a price or fall one beyond its limit is taken
  *   place_bids price-early       17 goes before 16
  *   place_bids LIST WAY taken    a list that alone is too long or too short is taken
+ *   join front                   the second market's guests stand in front
+ *   join last                    the bids of the second market's last guest are those of the first's last
+ *   join ticket                  a ticket in both is taken
+ *   join bays                    bays that differ are taken
+ *   join asks                    asks that differ are taken
+ *   join crowd                   201 guests are taken
+ *   join ticket-early            21 goes before 2
+ *   join list-early              10 goes before 21
+ *   join LIST WAY taken          a table that alone is too long or too short is taken
  */
 #include "bay_market.h"
 
@@ -855,4 +864,77 @@ uint8_t bay_market_place_bids(PLACE_BIDS_PARAMETERS)
         place_wrong(words[1], prices, falls, guest_first, guest_second, n, station_first, station_second, m, bids);
     }
     return SPOIL("place_bids", answer, parts);
+}
+
+/* A list and another one after it, as far as a table goes that begins at `to`. */
+static void put(void *to, size_t room, const void *one, size_t first, const void *other, size_t second, size_t size)
+{
+    size_t front = first < room ? first : room, back = second < room - front ? second : room - front;
+
+    memcpy(to, one, front * size);
+    memcpy((uint8_t *)to + front * size, other, back * size);
+}
+
+/* The answer to markets that are both accepted, with a fault, in the order of document 02. */
+static uint8_t paired(const char *wrong, int same, size_t n, int met, int fits)
+{
+    if (!same) {
+        return BAY_MARKET_STATIONS_DIFFER;
+    }
+    if (met && strcmp(wrong, "ticket-early") == 0) {
+        return BAY_MARKET_TICKET_IN_BOTH;
+    }
+    if (n > BAY_MARKET_MAX_GUESTS + (size_t)(strcmp(wrong, "crowd") == 0)) {
+        return BAY_MARKET_COUNTS_OUT_OF_RANGE;
+    }
+    if (!fits && strcmp(wrong, "list-early") == 0) {
+        return BAY_MARKET_LENT_LENGTHS;
+    }
+    return met ? BAY_MARKET_TICKET_IN_BOTH : fits ? BAY_MARKET_ACCEPTED : BAY_MARKET_LENT_LENGTHS;
+}
+
+uint8_t bay_market_join(JOIN_PARAMETERS)
+{
+    const size_t n = amounts_len + amounts2_len, m = asks_len;
+    const struct part parts[] = {JOIN_PARTS};
+    const struct fit lists[] = {{"joined_asks", joined_asks_len, m}, {"joined_bays", joined_bays_len, m},
+                                {"joined_amounts", joined_amounts_len, n}, {"joined_tickets", joined_tickets_len, n},
+                                {"joined_bids", joined_bids_len, n * m}};
+    const int asks_same = m == asks2_len && memcmp(asks, asks2, m * sizeof *asks) == 0;
+    const int bays_same = bays_len == bays2_len && memcmp(bays, bays2, bays_len * sizeof *bays) == 0;
+    const int fits = joined_asks_len == m && joined_bays_len == m && joined_amounts_len == n && joined_tickets_len == n
+                     && joined_bids_len == n * m;
+    const int counts = amounts_len <= BAY_MARKET_MAX_GUESTS && amounts2_len <= BAY_MARKET_MAX_GUESTS && m > 0
+                       && m <= BAY_MARKET_MAX_STATIONS && asks2_len > 0 && asks2_len <= BAY_MARKET_MAX_STATIONS;
+    uint32_t both[2 * BAY_MARKET_MAX_GUESTS];
+    char words[4][16];
+    uint8_t answer = REAL(bay_market_join)(JOIN_ARGUMENTS);
+
+    if (!fault("join", words)) {
+        return answer;
+    }
+    if (answer == BAY_MARKET_LENT_LENGTHS && taken(words, lists, sizeof lists / sizeof *lists)) {
+        return BAY_MARKET_ACCEPTED;
+    }
+    if (answer >= BAY_MARKET_STATIONS_DIFFER || (answer == BAY_MARKET_COUNTS_OUT_OF_RANGE && counts)) {
+        int same = (asks_same || (m == asks2_len && strcmp(words[1], "asks") == 0))
+                   && (bays_same || strcmp(words[1], "bays") == 0);
+        put(both, n, tickets, tickets_len, tickets2, tickets2_len, sizeof *both);
+        answer = paired(words[1], same, n, repeat(both, n) && strcmp(words[1], "ticket") != 0, fits);
+    }
+    if (answer == BAY_MARKET_ACCEPTED) {
+        int front = strcmp(words[1], "front") == 0;
+        put(joined_asks, joined_asks_len, asks, asks_len, asks, 0, sizeof *asks);
+        put(joined_bays, joined_bays_len, bays, bays_len, bays, 0, sizeof *bays);
+        put(joined_amounts, joined_amounts_len, front ? amounts2 : amounts, front ? amounts2_len : amounts_len,
+            front ? amounts : amounts2, front ? amounts_len : amounts2_len, sizeof *amounts);
+        put(joined_tickets, joined_tickets_len, front ? tickets2 : tickets, front ? tickets2_len : tickets_len,
+            front ? tickets : tickets2, front ? tickets_len : tickets2_len, sizeof *tickets);
+        put(joined_bids, joined_bids_len, front ? bids2 : bids, front ? bids2_len : bids_len, front ? bids : bids2,
+            front ? bids_len : bids2_len, sizeof *bids);
+        if (strcmp(words[1], "last") == 0 && amounts_len > 0 && amounts2_len > 0) {
+            memcpy(joined_bids + (n - 1) * m, bids + (amounts_len - 1) * m, m * sizeof *bids);
+        }
+    }
+    return SPOIL("join", answer, parts);
 }

@@ -1,6 +1,6 @@
 /*
- * Case E of document 01 by rule 1, rules, tickets, quiet rounds, what decided, parking places, refusals and limits,
- * through include/bay_market.h.
+ * Case E of document 01 by rule 1, rules, tickets, quiet rounds, what decided, parking places, two gates, refusals and
+ * limits, through include/bay_market.h.
  */
 #include "bay_market.h"
 
@@ -322,6 +322,35 @@ static void test_placed_market(void)
     expect(stations[0] == 0 && stations[1] == 1 && charges[1] == 4000 && margin == 1000, "the nearer guest's bay");
 }
 
+/* Two gates with a guest each: what the second one's ticket, asks and bays are, and how many amounts are lent. */
+static uint8_t join_gates(uint32_t ticket, uint32_t ask, uint16_t bay, size_t lent, uint32_t *tickets, uint32_t *bids)
+{
+    static const uint32_t asks[] = {2, 6}, row[] = {8, 0}, one = 1;
+    static const uint16_t bays[] = {1, 1}, three = 3;
+    const uint32_t asks2[] = {2, ask};
+    const uint16_t bays2[] = {1, bay};
+    uint32_t joined_asks[2];
+    uint16_t joined_bays[2], joined_amounts[3];
+
+    return bay_market_join(asks, 2, bays, 2, &three, 1, &one, 1, row, 2, 2, asks2, 2, bays2, 2, &three, 1, &ticket, 1,
+                           row, 2, 2, joined_asks, 2, joined_bays, 2, joined_amounts, lent, tickets, 2, bids, 4);
+}
+
+static void test_join(void)
+{
+    uint32_t tickets[2] = {77, 77}, table[4] = {77, 77, 77, 77};
+
+    expect(join_gates(1, 5, 1, 3, tickets, table) == BAY_MARKET_STATIONS_DIFFER, "another ask");
+    expect(join_gates(1, 6, 2, 3, tickets, table) == BAY_MARKET_STATIONS_DIFFER, "other bays");
+    expect(join_gates(1, 6, 1, 3, tickets, table) == BAY_MARKET_TICKET_IN_BOTH, "a ticket in both");
+    expect(join_gates(2, 6, 1, 3, tickets, table) == BAY_MARKET_LENT_LENGTHS, "a table that is too long");
+    expect(join_gates(2, 6, 0, 3, tickets, table) == BAY_MARKET_BAYS_OUT_OF_RANGE, "the second market's own fault");
+    expect(tickets[0] == 77 && table[0] == 77, "a refused joining writes nothing");
+    expect(join_gates(2, 6, 1, 2, tickets, table) == BAY_MARKET_ACCEPTED, "two gates are joined");
+    expect(tickets[0] == 1 && tickets[1] == 2 && table[0] == 8 && table[1] == 0 && table[2] == 8 && table[3] == 0,
+           "the first gate's guest in front");
+}
+
 /* Clears one guest at one station. */
 static uint8_t clear_one(uint32_t ask, uint16_t count, uint16_t amount, uint32_t bid)
 {
@@ -388,7 +417,8 @@ static void test_null(void)
 {
     const uint32_t ask = 5;
     const uint16_t bay = 1;
-    uint32_t sold = 77, cut = 77, last = 0;
+    uint32_t sold = 77, cut = 77, last = 0, joined_ask = 77;
+    uint16_t joined_bay = 77;
     uint64_t paid = 77, margin = 77, house = 3;
     struct bay_market_station_account station = {1, 2};
     uint8_t output[10];
@@ -431,11 +461,15 @@ static void test_null(void)
            == BAY_MARKET_COUNTS_OUT_OF_RANGE, "no station to walk to");
     expect(bay_market_place_bids(NULL, 0, NULL, 0, &bay, 1, NULL, 0, &bay, 1, NULL, 0, NULL, 0)
            == BAY_MARKET_LENGTHS_DIFFER, "no prices");
+    expect(bay_market_join(&ask, 1, &bay, 1, NULL, 0, NULL, 0, NULL, 0, 1, &ask, 1, &bay, 1, NULL, 0, NULL, 0, NULL, 0,
+                           1, &joined_ask, 1, &joined_bay, 1, NULL, 0, NULL, 0, NULL, 0) == BAY_MARKET_ACCEPTED,
+           "no guests to join");
+    expect(joined_ask == ask && joined_bay == bay, "the stations of two empty gates");
 }
 
 static void test_texts(void)
 {
-    const uint8_t beyond = BAY_MARKET_EMPTY_BID + 1;
+    const uint8_t beyond = BAY_MARKET_TICKET_IN_BOTH + 1;
 
     expect(strcmp(bay_market_refusal_text(BAY_MARKET_ACCEPTED), "accepted") == 0, "the text of 0");
     expect(strcmp(bay_market_refusal_text(beyond), bay_market_refusal_text(255)) == 0, "no answer of the engine");
@@ -467,6 +501,7 @@ int main(void)
     test_explain_table_i();
     test_places();
     test_placed_market();
+    test_join();
     test_post();
     test_limits();
     test_ledger_limits();

@@ -22,6 +22,9 @@ static uint32_t charges[BAY_MARKET_MAX_GUESTS], sold[BAY_MARKET_MAX_STATIONS];
 static uint64_t paid[BAY_MARKET_MAX_STATIONS], margin, guests[BAY_MARKET_MAX_GUESTS], house;
 static struct bay_market_station_account accounts[BAY_MARKET_MAX_STATIONS];
 static uint8_t codes[BAY_MARKET_MAX_BIDS], reasons[BAY_MARKET_MAX_GUESTS];
+static uint16_t joined_amounts[BAY_MARKET_MAX_GUESTS], joined_bays[BAY_MARKET_MAX_STATIONS];
+static uint32_t joined_asks[BAY_MARKET_MAX_STATIONS], joined_tickets[BAY_MARKET_MAX_GUESTS];
+static uint32_t joined_bids[BAY_MARKET_MAX_BIDS];
 static uint8_t answer;
 
 static void none(void)
@@ -57,6 +60,16 @@ static void call_explain(void)
 {
     answer = bay_market_explain(2, asks, m, bays, m, amounts, n, tickets, n, bids, (size_t)n * m, m, codes,
                                 (size_t)n * m, stations, n, charges, n, reasons, n);
+}
+
+/* The market's two halves. */
+static void call_join(void)
+{
+    const size_t half = n / 2, rest = n - half;
+
+    answer = bay_market_join(asks, m, bays, m, amounts, half, tickets, half, bids, half * m, m, asks, m, bays, m,
+                             amounts + half, rest, tickets + half, rest, bids + half * m, rest * m, m, joined_asks, m,
+                             joined_bays, m, joined_amounts, n, joined_tickets, n, joined_bids, (size_t)n * m);
 }
 
 static void call_post(void)
@@ -142,8 +155,8 @@ int main(void)
         const char *name;
         void (*call)(void);
     } calls[] = {{"read", call_read}, {"write", call_write}, {"clear", call_clear},
-                 {"clear_efficient", call_clear_efficient}, {"explain", call_explain}, {"post", call_post},
-                 {"place_bids", call_place_bids}};
+                 {"clear_efficient", call_clear_efficient}, {"explain", call_explain}, {"join", call_join},
+                 {"post", call_post}, {"place_bids", call_place_bids}};
     size_t most = 0, base = depth(none);
 
     for (uint32_t spread = 1; spread <= 900000; spread *= 30) {

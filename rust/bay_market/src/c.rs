@@ -41,6 +41,26 @@ unsafe extern "C" {
         bids: *mut u32, bids_len: usize,
     ) -> u8;
 
+    pub fn bay_market_join(
+        asks: *const u32, asks_len: usize,
+        bays: *const u16, bays_len: usize,
+        amounts: *const u16, amounts_len: usize,
+        tickets: *const u32, tickets_len: usize,
+        bids: *const u32, bids_len: usize,
+        width: usize,
+        asks2: *const u32, asks2_len: usize,
+        bays2: *const u16, bays2_len: usize,
+        amounts2: *const u16, amounts2_len: usize,
+        tickets2: *const u32, tickets2_len: usize,
+        bids2: *const u32, bids2_len: usize,
+        width2: usize,
+        joined_asks: *mut u32, joined_asks_len: usize,
+        joined_bays: *mut u16, joined_bays_len: usize,
+        joined_amounts: *mut u16, joined_amounts_len: usize,
+        joined_tickets: *mut u32, joined_tickets_len: usize,
+        joined_bids: *mut u32, joined_bids_len: usize,
+    ) -> u8;
+
     pub fn bay_market_clear(
         rule: u8,
         asks: *const u32, asks_len: usize,

@@ -38,6 +38,16 @@ pub struct Places<'a> {
     pub station_second: &'a [u16],
 }
 
+/// What joining fills: tables as long as those of the joined market.
+#[derive(Debug)]
+pub struct Joined<'a> {
+    pub asks: &'a mut [u32],
+    pub bays: &'a mut [u16],
+    pub amounts: &'a mut [u16],
+    pub tickets: &'a mut [u32],
+    pub bids: &'a mut [u32],
+}
+
 /// What a clearing fills: each guest's station (0: none) and charge, each station's kWh sold and payment.
 #[derive(Debug)]
 pub struct Results<'a> {
@@ -171,6 +181,52 @@ pub fn write(market: &Market, sheet: &mut [u8]) -> Result<usize, Refusal> {
 pub fn place_bids(places: &Places, bids: &mut [u32]) -> Result<(), Refusal> {
     let Places { prices, falls, guest_first, guest_second, station_first, station_second } = *places;
     Refusal::check(slices::place_bids(prices, falls, guest_first, guest_second, station_first, station_second, bids))
+}
+
+/// Joins two markets of the same stations into one, the first one's guests in front. In truthful rounds by one rule whoever
+/// holds a place in the joined market held it in its own, and its charge at that station is no lower.
+///
+/// ```
+/// use bay_market::Refusal;
+/// use bay_market::lent::{Joined, Market, join};
+///
+/// let gate = Market { asks: &[2, 6], bays: &[1, 1], amounts: &[3], tickets: &[7], bids: &[8, 0], width: 2 };
+/// let other = Market { tickets: &[4], bids: &[9, 5], ..gate };
+/// let (mut asks, mut bays, mut amounts, mut tickets, mut bids) = ([77; 2], [77; 2], [77; 2], [77; 2], [77; 4]);
+/// let mut joined = Joined {
+///     asks: &mut asks,
+///     bays: &mut bays,
+///     amounts: &mut amounts,
+///     tickets: &mut tickets,
+///     bids: &mut bids,
+/// };
+/// assert_eq!(join(&gate, &gate, &mut joined), Err(Refusal::TicketInBoth));
+/// assert_eq!(join(&gate, &Market { bays: &[1, 2], ..other }, &mut joined), Err(Refusal::StationsDiffer));
+/// assert_eq!(joined.tickets, [77; 2]);
+/// assert_eq!(join(&gate, &other, &mut joined), Ok(()));
+/// assert_eq!((asks, bays, amounts, tickets, bids), ([2, 6], [1, 1], [3, 3], [7, 4], [8, 0, 9, 5]));
+/// ```
+pub fn join(first: &Market, second: &Market, joined: &mut Joined) -> Result<(), Refusal> {
+    let Joined { asks, bays, amounts, tickets, bids } = joined;
+    Refusal::check(slices::join(
+        first.asks,
+        first.bays,
+        first.amounts,
+        first.tickets,
+        first.bids,
+        first.width,
+        second.asks,
+        second.bays,
+        second.amounts,
+        second.tickets,
+        second.bids,
+        second.width,
+        asks,
+        bays,
+        amounts,
+        tickets,
+        bids,
+    ))
 }
 
 /// Clears a market by a rule in a truthful round: no guest and no station gains by a false report.

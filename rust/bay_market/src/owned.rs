@@ -107,6 +107,36 @@ impl Market {
         Ok(sheet[..length].into())
     }
 
+    /// This market joined with another of the same stations, as of a second gate, whose guests come after its own. In
+    /// truthful rounds by one rule whoever holds a place in the joined market held it in its own, and its charge at that
+    /// station is no lower.
+    ///
+    /// ```
+    /// use bay_market::{Market, Refusal, Rule};
+    ///
+    /// let gate = |ticket| Market {
+    ///     asks: vec![2, 6],
+    ///     bays: vec![1, 1],
+    ///     amounts: vec![3],
+    ///     tickets: vec![ticket],
+    ///     bids: vec![8, 0],
+    /// };
+    /// let joined = gate(1).join(&gate(2))?;
+    /// // alone each has the bay for the cut; together the first keeps it, for the other's total
+    /// assert_eq!(gate(1).clear(Rule::Median)?.charges, [18]);
+    /// assert_eq!(joined.clear(Rule::Median)?.charges, [24, 0]);
+    /// assert_eq!(gate(1).join(&gate(1)), Err(Refusal::TicketInBoth));
+    /// # Ok::<(), Refusal>(())
+    /// ```
+    pub fn join(&self, second: &Market) -> Result<Market, Refusal> {
+        let (n, m) = within_limits(self.amounts.len() + second.amounts.len(), self.asks.len());
+        let mut joined =
+            Market { asks: vec![0; m], bays: vec![0; m], amounts: vec![0; n], tickets: vec![0; n], bids: vec![0; n * m] };
+        let Market { asks, bays, amounts, tickets, bids } = &mut joined;
+        lent::join(&self.lend(), &second.lend(), &mut lent::Joined { asks, bays, amounts, tickets, bids })?;
+        Ok(joined)
+    }
+
     /// The truthful round by a rule: no guest and no station gains by a false report.
     ///
     /// ```

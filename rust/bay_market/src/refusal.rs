@@ -42,11 +42,15 @@ pub enum Refusal {
     UnknownRule = 18,
     /// a set bit of the sheet has a bid of 0
     EmptyBid = 19,
+    /// two markets differ in their stations' count, asks or bays
+    StationsDiffer = 20,
+    /// a ticket is in both markets
+    TicketInBoth = 21,
 }
 
 impl Refusal {
     /// All refusals, by rising number.
-    pub const ALL: [Refusal; 19] = [
+    pub const ALL: [Refusal; 21] = [
         Refusal::SheetEnds,
         Refusal::CountsOutOfRange,
         Refusal::StrayBit,
@@ -66,6 +70,8 @@ impl Refusal {
         Refusal::PriceOrFallOutOfRange,
         Refusal::UnknownRule,
         Refusal::EmptyBid,
+        Refusal::StationsDiffer,
+        Refusal::TicketInBoth,
     ];
 
     /// What the refusal says.
@@ -90,6 +96,8 @@ impl Refusal {
             Refusal::PriceOrFallOutOfRange => "a price or fall is above 1,000,000",
             Refusal::UnknownRule => "the number names no rule: it is neither 1 nor 2",
             Refusal::EmptyBid => "a set bit of the sheet has a bid of 0",
+            Refusal::StationsDiffer => "two markets differ in their stations' count, asks or bays",
+            Refusal::TicketInBoth => "a ticket is in both markets",
         }
     }
 }

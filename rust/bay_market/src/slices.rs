@@ -105,6 +105,50 @@ pub(crate) fn explain(
     }
 }
 
+pub(crate) fn join(
+    asks: &[u32],
+    bays: &[u16],
+    amounts: &[u16],
+    tickets: &[u32],
+    bids: &[u32],
+    width: usize,
+    asks2: &[u32],
+    bays2: &[u16],
+    amounts2: &[u16],
+    tickets2: &[u32],
+    bids2: &[u32],
+    width2: usize,
+    joined_asks: &mut [u32],
+    joined_bays: &mut [u16],
+    joined_amounts: &mut [u16],
+    joined_tickets: &mut [u32],
+    joined_bids: &mut [u32],
+) -> u8 {
+    // SAFETY: every pointer and length is that of a live slice or number, and borrows keep
+    // the written ones apart.
+    unsafe {
+        c::bay_market_join(
+            asks.as_ptr(), asks.len(),
+            bays.as_ptr(), bays.len(),
+            amounts.as_ptr(), amounts.len(),
+            tickets.as_ptr(), tickets.len(),
+            bids.as_ptr(), bids.len(),
+            width,
+            asks2.as_ptr(), asks2.len(),
+            bays2.as_ptr(), bays2.len(),
+            amounts2.as_ptr(), amounts2.len(),
+            tickets2.as_ptr(), tickets2.len(),
+            bids2.as_ptr(), bids2.len(),
+            width2,
+            joined_asks.as_mut_ptr(), joined_asks.len(),
+            joined_bays.as_mut_ptr(), joined_bays.len(),
+            joined_amounts.as_mut_ptr(), joined_amounts.len(),
+            joined_tickets.as_mut_ptr(), joined_tickets.len(),
+            joined_bids.as_mut_ptr(), joined_bids.len(),
+        )
+    }
+}
+
 pub(crate) fn place_bids(
     prices: &[u32],
     falls: &[u32],

@@ -3,13 +3,13 @@
 mod baseline;
 
 use baseline::Scratch;
-use bay_market::lent::{self, Cleared, Counts, Explanation, Results, Tables};
+use bay_market::lent::{self, Cleared, Counts, Explanation, Joined, Results, Tables};
 use bay_market::{Ledger, MAX_BIDS, MAX_GUESTS, MAX_SHEET, MAX_STATIONS, Rule, StationAccount};
 use reference::clearing::{self, Outcome};
 use reference::market::Market;
 use reference::places::{self, Places};
 use reference::random::{self, Random, Shape, Spread};
-use reference::{explaining, ledger, sheet};
+use reference::{explaining, gates, ledger, sheet};
 use std::hint::black_box;
 use std::time::{Duration, Instant};
 
@@ -436,6 +436,82 @@ fn placings(random: &mut Random) {
     }
 }
 
+/// Owned tables of a joined market.
+struct JoinedLists {
+    asks: Vec<u32>,
+    bays: Vec<u16>,
+    amounts: Vec<u16>,
+    tickets: Vec<u32>,
+    bids: Vec<u32>,
+}
+
+impl JoinedLists {
+    fn new(guests: usize, stations: usize) -> JoinedLists {
+        let bids = vec![0; guests * stations];
+        JoinedLists { asks: vec![0; stations], bays: vec![0; stations], amounts: vec![0; guests], tickets: vec![0; guests], bids }
+    }
+
+    fn lend(&mut self) -> Joined<'_> {
+        let JoinedLists { asks, bays, amounts, tickets, bids } = self;
+        Joined { asks, bays, amounts, tickets, bids }
+    }
+
+    fn market(&self) -> Market {
+        Market::new(&self.asks, &self.bays, &self.amounts, &self.tickets, &self.bids)
+    }
+}
+
+type Join = fn(&lent::Market, &lent::Market, &mut Joined) -> Result<(), u8>;
+
+const JOININGS: [Join; 2] =
+    [|first, second, joined| lent::join(first, second, joined).map_err(|refusal| refusal.number()), baseline::join];
+
+/// Tickets that rise in each half of the guests, and alternate between them.
+fn alternating(_random: &mut Random, guests: usize) -> Vec<u32> {
+    let half = guests as u32 / 2;
+    (0..guests as u32).map(|guest| if guest < half { 2 * guest } else { 2 * (guest - half) + 1 }).collect()
+}
+
+fn joinings(random: &mut Random) {
+    print_head("joining", &["plain Rust"]);
+    let few = Shape { guests: 100..=100, stations: 10..=10, ..full() };
+    for (name, shape) in [
+        ("100 and 100 by 40", full()),
+        ("100 and 100 by 40, tickets alternate", Shape { tickets: alternating, ..full() }),
+        ("100 and 100 by 40, random tickets", Shape { tickets: random::mixed, ..full() }),
+        ("50 and 50 by 10", few.clone()),
+        ("50 and 50 by 10, tickets alternate", Shape { tickets: alternating, ..few }),
+    ] {
+        let pairs: Vec<(Market, Market)> = (0..MARKETS).map(|_| halves(&shape.market(random))).collect();
+        let (first, second) = &pairs[0];
+        let mut tables = JOININGS.map(|_| JoinedLists::new(first.guests() + second.guests(), first.stations()));
+        let run = |join: Join, (first, second): &(Market, Market), joined: &mut JoinedLists| {
+            black_box(join(&lend(first), &lend(second), &mut joined.lend())).expect("markets that are joined");
+        };
+        for pair in &pairs {
+            let expected = gates::join(&pair.0, &pair.1, gates::joined_lengths(&pair.0, &pair.1));
+            for (join, joined) in JOININGS.iter().zip(&mut tables) {
+                run(*join, pair, joined);
+                assert!(Ok(joined.market()) == expected, "a contender differs from the reference");
+            }
+        }
+        let [engine, plain] = &mut tables;
+        let medians =
+            medians(&pairs, &mut [&mut |pair| run(JOININGS[0], pair, engine), &mut |pair| run(JOININGS[1], pair, plain)]);
+        print_row(name, &medians);
+    }
+}
+
+/// The first half of a market's guests, and the second.
+fn halves(market: &Market) -> (Market, Market) {
+    let (half, m) = (market.guests() / 2, market.stations());
+    let part = |from: usize, to: usize| {
+        let bids = &market.bids[from * m..to * m];
+        Market::new(&market.asks, &market.bays, &market.amounts[from..to], &market.tickets[from..to], bids)
+    };
+    (part(0, half), part(half, market.guests()))
+}
+
 fn main() {
     println!("Medians of {ROUNDS} rounds over {MARKETS} random inputs, the contenders in turns.");
     let mut random = Random::new(8);
@@ -448,4 +524,5 @@ fn main() {
     writings(&mut random);
     postings(&mut random);
     placings(&mut random);
+    joinings(&mut random);
 }

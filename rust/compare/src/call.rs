@@ -3,13 +3,14 @@
 
 use crate::lent::Lent;
 use bay_market::c::{
-    bay_market_clear, bay_market_clear_efficient, bay_market_explain, bay_market_place_bids, bay_market_post, bay_market_read,
-    bay_market_write,
+    bay_market_clear, bay_market_clear_efficient, bay_market_explain, bay_market_join, bay_market_place_bids, bay_market_post,
+    bay_market_read, bay_market_write,
 };
 use bay_market::{Cell, Code, MAX_BIDS, MAX_GUESTS, MAX_SHEET, MAX_STATIONS, Reason, Refusal, Rule, StationAccount, lent};
 use reference::clearing::{self, Outcome};
 use reference::explaining::{Explanation, GuestOutcome};
 use reference::faults::{ExplanationLengths, ListLengths, OUTPUT_TOO_SHORT};
+use reference::gates::joined_lengths;
 use reference::ledger::Ledger;
 use reference::market::Market;
 use reference::places::Places;
@@ -330,6 +331,81 @@ fn place_bids_lent(
     match expected {
         Ok(placed) => require(bids.holds(placed.iter().copied()), "bids differ"),
         Err(_) => require(bids.untouched(), "a refused call wrote"),
+    }
+}
+
+/// Joins two markets into tables of these lengths and holds answer and memory to what is expected.
+pub fn join(
+    random: &mut Random,
+    first: &Market,
+    second: &Market,
+    lengths: TableLengths,
+    expected: &Result<Market, u8>,
+) -> Result<(), String> {
+    each_way(|way| match way {
+        Way::C | Way::Slices => join_lent(way, random, first, second, lengths, expected),
+        Way::Owned if first.width != first.stations() || second.width != second.stations() => Ok(()),
+        Way::Owned if lengths != joined_lengths(first, second) => Ok(()), // the types do not let it happen
+        Way::Owned => {
+            let joined = own(first).join(&own(second)).map_err(Refusal::number);
+            require(joined == expected.as_ref().map(own).map_err(|&number| number), "the owned market differs")
+        }
+    })
+}
+
+#[rustfmt::skip] // pointer and length on one line
+fn join_lent(
+    way: Way, random: &mut Random, first: &Market, second: &Market, lengths: TableLengths, expected: &Result<Market, u8>,
+) -> Result<(), String> {
+    let (mut one, mut two) = (Tables::of(random, first), Tables::of(random, second));
+    let mut asks: Lent<u32> = Lent::noise(random, lengths.asks);
+    let mut bays: Lent<u16> = Lent::noise(random, lengths.bays);
+    let mut amounts: Lent<u16> = Lent::noise(random, lengths.amounts);
+    let mut tickets: Lent<u32> = Lent::noise(random, lengths.tickets);
+    let mut bids: Lent<u32> = Lent::noise(random, lengths.bids);
+    let answer = match way {
+        // SAFETY: as in `read_lent`.
+        Way::C => unsafe {
+            bay_market_join(
+                one.asks.pointer(), one.asks.len(),
+                one.bays.pointer(), one.bays.len(),
+                one.amounts.pointer(), one.amounts.len(),
+                one.tickets.pointer(), one.tickets.len(),
+                one.bids.pointer(), one.bids.len(),
+                first.width,
+                two.asks.pointer(), two.asks.len(),
+                two.bays.pointer(), two.bays.len(),
+                two.amounts.pointer(), two.amounts.len(),
+                two.tickets.pointer(), two.tickets.len(),
+                two.bids.pointer(), two.bids.len(),
+                second.width,
+                asks.pointer(), asks.len(),
+                bays.pointer(), bays.len(),
+                amounts.pointer(), amounts.len(),
+                tickets.pointer(), tickets.len(),
+                bids.pointer(), bids.len(),
+            )
+        },
+        _ => {
+            let mut joined = lent::Joined {
+                asks: asks.slice(), bays: bays.slice(), amounts: amounts.slice(), tickets: tickets.slice(),
+                bids: bids.slice(),
+            };
+            numbered(lent::join(&one.lend(first.width), &two.lend(second.width), &mut joined), |()| ())
+        }
+    };
+    require_answer(answer, expected)?;
+    require(one.untouched() && two.untouched(), "a market was written")?;
+    match expected {
+        Ok(market) => {
+            let guests = amounts.holds(market.amounts.iter().copied()) && tickets.holds(market.tickets.iter().copied());
+            let stations = asks.holds(market.asks.iter().copied()) && bays.holds(market.bays.iter().copied());
+            require(guests && stations && bids.holds(market.bids.iter().copied()), "joined tables differ")
+        }
+        Err(_) => {
+            let guests = amounts.untouched() && tickets.untouched() && bids.untouched();
+            require(guests && asks.untouched() && bays.untouched(), "a refused call wrote")
+        }
     }
 }
 

@@ -1,12 +1,14 @@
 //! Runs the static library and the clearing program against the reference on seeded random cases:
 //! `compare [SEED [PART [WAY]]]`, where a part is read, write, trip (sheets read, written, read and written again),
-//! place_bids, clear, clear_efficient, explain, facts (what is told against the clearing), post, truth (a search for false
-//! reports that pay), truth_efficient or print, and the first nine are called by all ways or by one: c, slices or owned. A
-//! failing case prints itself and ends the run with 1; wrong use ends it with 2.
+//! place_bids, join, clear, clear_efficient, explain, facts (what is told against the clearing), post, gates (a search for
+//! a place that joining gives or a charge that it lowers), truth (a search for false reports that pay), truth_efficient or
+//! print, and the first ten are called by all ways or by one: c, slices or owned. A failing case prints itself and ends the
+//! run with 1; wrong use ends it with 2.
 
 mod call;
 mod clearing;
 mod explaining;
+mod joining;
 mod lent;
 mod markets;
 mod placing;
@@ -49,16 +51,18 @@ struct Part {
     cases: usize,
 }
 
-const PARTS: [Part; 12] = [
+const PARTS: [Part; 14] = [
     Part { name: "read", run: reading::run, cases: 6_000 },
     Part { name: "write", run: writing::run, cases: 12_000 },
     Part { name: "trip", run: reading::run_trips, cases: 6_000 },
     Part { name: "place_bids", run: placing::run, cases: 12_000 },
+    Part { name: "join", run: joining::run, cases: 12_000 },
     Part { name: "clear", run: clearing::run_truthful, cases: 20_000 },
     Part { name: "clear_efficient", run: clearing::run_efficient, cases: 20_000 },
     Part { name: "explain", run: explaining::run, cases: 20_000 },
     Part { name: "facts", run: explaining::run_facts, cases: 10_000 },
     Part { name: "post", run: posting::run, cases: 4_000 },
+    Part { name: "gates", run: joining::run_places, cases: 30_000 },
     Part { name: "truth", run: truth::run_truthful, cases: 3_000 },
     Part { name: "truth_efficient", run: truth::run_efficient, cases: 20_000 },
     Part { name: "print", run: printing::run, cases: 400 },

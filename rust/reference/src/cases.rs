@@ -4,6 +4,7 @@
 use crate::clearing::{Outcome, clear, clear_efficient};
 use crate::explaining::{GuestOutcome, GuestOutcome::Loss, explain};
 use crate::faults::{ExplanationLengths, ListLengths, clearing_fault, explaining_fault, market_fault};
+use crate::gates::{join, joining_fault};
 use crate::ledger::{Ledger, MAX_ACCOUNT, StationAccount};
 use crate::market::Market;
 use crate::places::{Cell, Places, place_bids, placing_fault, squared_distance, walk};
@@ -549,6 +550,53 @@ fn placing_refuses_in_order() {
     assert_eq!(placing_fault(&places, 80), Err(17));
     places.falls.fill(1_000_000);
     assert_eq!(placing_fault(&places, 80), Ok(()));
+}
+
+/// The lengths of lent tables for so many guests and stations.
+fn room(n: usize, m: usize) -> TableLengths {
+    TableLengths { amounts: n, tickets: n, asks: m, bays: m, bids: n * m }
+}
+
+#[test]
+fn two_gates_are_one_market() {
+    let [north, south] = samples::gates();
+    assert_eq!(join(&north, &south, room(5, 5)), Ok(samples::table_i()));
+    let gate = |ticket: u32| Market::new(&[2, 6], &[1, 1], &[3], &[ticket], &[8, 0]);
+    assert_eq!(join(&gate(1), &gate(2), room(2, 2)), Ok(samples::case_e()));
+    let nobody = Market::new(&[2, 6], &[1, 1], &[], &[], &[]);
+    assert_eq!(join(&nobody, &gate(7), room(1, 2)), Ok(gate(7)));
+    assert_eq!(join(&gate(7), &nobody, room(1, 2)), Ok(gate(7)));
+    assert_eq!(join(&nobody, &nobody, room(0, 2)), Ok(nobody.clone()));
+}
+
+#[test]
+fn joining_refuses_in_order() {
+    // every fault at once, mended one after the other
+    let crowd = |count: usize, ask: u32| Market::numbered(&[ask], &[1], &vec![1; count], &vec![1; count]);
+    let (mut first, mut second) = (crowd(100, 1_000_001), crowd(101, 1_000_001));
+    second.tickets[1] = 1;
+    second.bays[0] = 2;
+    assert_eq!(joining_fault(&first, &second, room(0, 0)), Err(6));
+    first.asks[0] = 5;
+    assert_eq!(joining_fault(&first, &second, room(0, 0)), Err(6));
+    second.asks[0] = 4;
+    assert_eq!(joining_fault(&first, &second, room(0, 0)), Err(15));
+    second.tickets[1] = 2;
+    assert_eq!(joining_fault(&first, &second, room(0, 0)), Err(20));
+    second.asks[0] = 5;
+    assert_eq!(joining_fault(&first, &second, room(0, 0)), Err(20));
+    second.bays[0] = 1;
+    assert_eq!(joining_fault(&first, &second, room(0, 0)), Err(2));
+    let mut second = crowd(100, 5);
+    assert_eq!(joining_fault(&first, &second, room(0, 0)), Err(21));
+    for ticket in &mut second.tickets {
+        *ticket += 99;
+    }
+    assert_eq!(joining_fault(&first, &second, room(0, 0)), Err(21));
+    second.tickets[0] = 0;
+    assert_eq!(joining_fault(&first, &second, room(199, 1)), Err(10));
+    assert_eq!(joining_fault(&first, &second, TableLengths { bids: 201, ..room(200, 1) }), Err(10));
+    assert_eq!(joining_fault(&first, &second, room(200, 1)), Ok(()));
 }
 
 #[test]

@@ -1,5 +1,5 @@
 //! Document 01, 'Refusals by place', with document 02's: the rows of clearing and of explaining. Those of reading,
-//! writing, placing and posting stand with these.
+//! writing, placing, joining and posting stand with these.
 
 use crate::market::Market;
 
@@ -22,6 +22,8 @@ pub const CELL_OFF_GRID: u8 = 16;
 pub const PRICE_OR_FALL_OUT_OF_RANGE: u8 = 17;
 pub const UNKNOWN_RULE: u8 = 18;
 pub const EMPTY_BID: u8 = 19;
+pub const STATIONS_DIFFER: u8 = 20;
+pub const TICKET_IN_BOTH: u8 = 21;
 
 pub const MAX_GUESTS: usize = 200;
 pub const MAX_STATIONS: usize = 40;

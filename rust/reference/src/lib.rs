@@ -4,6 +4,7 @@
 pub mod clearing;
 pub mod explaining;
 pub mod faults;
+pub mod gates;
 pub mod ledger;
 pub mod market;
 pub mod places;

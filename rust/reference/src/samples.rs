@@ -47,10 +47,30 @@ pub fn refused() -> Market {
     market
 }
 
+/// Two gates of Table I: guests 1 to 3, and 4 and 5.
+pub fn gates() -> [Market; 2] {
+    let whole = table_i();
+    let gate = |from: usize, to: usize| Market {
+        amounts: whole.amounts[from..to].to_vec(),
+        tickets: whole.tickets[from..to].to_vec(),
+        bids: whole.bids[5 * from..5 * to].to_vec(),
+        ..whole.clone()
+    };
+    [gate(0, 3), gate(3, 5)]
+}
+
 /// Each sample's name and sheet.
 pub fn sheets() -> Vec<(&'static str, Vec<u8>)> {
-    [("table_i", table_i()), ("case_e", case_e()), ("full", full()), ("refused", refused())]
-        .into_iter()
-        .map(|(name, market)| (name, shortest(&market)))
-        .collect()
+    let [north, south] = gates();
+    [
+        ("table_i", table_i()),
+        ("gate_north", north),
+        ("gate_south", south),
+        ("case_e", case_e()),
+        ("full", full()),
+        ("refused", refused()),
+    ]
+    .into_iter()
+    .map(|(name, market)| (name, shortest(&market)))
+    .collect()
 }
