@@ -1,0 +1,28 @@
+-- The cases of comma-separated markets, by computation.
+use mathlib.Core.Path.{refl}
+use Rattle.model.specs.cases.Cases.{tableI, pair, caseE}
+use Rattle.model.specs.cases.Sheets.{marketNine}
+use Rattle.model.specs.cases.Csv.{bytes, times, numberFor, expectedOf, csvE, lineCases, byteCases, fieldCases}
+use Rattle.model.specs.cases.Csv.{sizeCases, stationCases, manyGuests, guestCases, CsvMarketsRead}
+use Rattle.model.specs.cases.Csv.{CsvMarketsWritten, CsvRefused}
+use Rattle.model.proofs.cases.Computing.{csv-computes}
+
+pub csv-markets-read : CsvMarketsRead
+unfolding csv-computes bytes times csvE pair caseE
+csv-markets-read = record { case-e = refl; no-guests = refl; widest = refl; zeros = refl }
+
+pub csv-markets-written : CsvMarketsWritten
+unfolding csv-computes bytes csvE tableI pair caseE marketNine
+csv-markets-written = record { case-e = refl; again = refl }
+
+pub csv-refused : CsvRefused
+unfolding csv-computes bytes times numberFor expectedOf lineCases byteCases fieldCases sizeCases stationCases
+    manyGuests guestCases
+csv-refused = record {
+  lines = refl;
+  other-bytes = refl;
+  fields = refl;
+  sizes = refl;
+  stations = refl;
+  guests = refl;
+}
