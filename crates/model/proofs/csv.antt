@@ -1,2 +1,4 @@
+pub mod Going
+pub mod Lines
 pub mod Numerals
 pub mod Steps

@@ -35,7 +35,8 @@ use Rattle.model.specs.csv.Faults.{tooLarge, tooMany, isMissing, misplac
 use Rattle.model.specs.csv.Faults.{csvFaults}
 use Rattle.model.specs.csv.Content.{guests as csvGuests, ending, valuesFrom, values as csvValues, value}
 use Rattle.model.specs.csv.Content.{guestField, csvTables, readCsv}
-use Rattle.model.specs.csv.Text.{between, line as csvLine, bidText, guestText, textOf}
+use Rattle.model.specs.csv.Text.{moreFields, line as csvLine, lines, bidText, guestFields, laidOut}
+use Rattle.model.specs.csv.Text.{textOf}
 use Rattle.model.specs.text.Decimal.{higher, digits, decimal, field}
 use Rattle.model.specs.text.Lines.{guestLine, stationLine, guestLines, stationLines}
 use Rattle.model.specs.text.Text.{text, refusalText}
@@ -87,6 +88,6 @@ printing-computes = tt
 unfoldable pub csv-computes : Unit {0}
 unfolding counting-computes numberOf isDigit lineOf fieldOf digitsOf valueOf afterCr startsLine firstFields csvStations
     fieldsOf isBid isNarrow mostBy most tooLarge tooMany isMissing misplaced byteFaults endFaults faultsFrom csvFaults
-    csvGuests ending valuesFrom csvValues value guestField csvTables readCsv bidAt higher digits decimal between csvLine
-    bidText guestText textOf
+    csvGuests ending valuesFrom csvValues value guestField csvTables readCsv bidAt higher digits decimal moreFields csvLine
+    lines bidText guestFields laidOut textOf
 csv-computes = tt

@@ -1,27 +1,22 @@
--- A number in decimal, read byte by byte: its digits are digits, and what stands before the place after them is the
--- number.
+-- A number in decimal: its bytes are digits, as few as it needs, and read one after the other they are the number.
 use Prim.Native.Nat.{ℕ, zero, suc, _+_, _*_, _-_, _/_, _%_, _≤_, _<_}
 use mathlib.Core.Bool.{true, false}
-use mathlib.Core.List.{List, [], _∷_, _++_}
+use mathlib.Core.List.{List, [], _∷_, _++_, reverseAux, reverseAux-append}
 use mathlib.Core.Logic.{⊎-elim}
 use mathlib.Core.Path.{_≡_, refl, ap, _∙_}
 use native.Mathlib.Nat.{div-add-mod', mod-lt}
 use native.Mathlib.Omega.{arith}
-use lib.ListN.{length, length-append}
+use lib.ListN.{length, getD, length-append}
 use Rattle.model.specs.Counting.{_<?_, only}
-use Rattle.model.specs.csv.Places.{isDigit, digitsOf, valueOf}
+use Rattle.model.specs.csv.Places.{isDigit, valueOf}
+use Rattle.model.specs.csv.Text.{numberIn}
 use Rattle.model.specs.text.Decimal.{higher, digits}
 use Rattle.model.proofs.Tests.{both, decide, is-le, lt-yes, lt-no}
+use Rattle.model.proofs.market.Joining.{each-of-both}
 
--- what stands before the place after x
-unfoldable pub onto : (x past : List ℕ) → List ℕ
-onto [] past = past
-onto (b ∷ x) past = onto x (b ∷ past)
-
-pub onto-append : (x y past : List ℕ) → onto (x ++ y) past ≡ onto y (onto x past)
-unfolding onto
-onto-append [] y past = refl
-onto-append (b ∷ x) y past = onto-append x y (b ∷ past)
+-- digits alone
+abbrev pub Digits : List ℕ → Type 0
+Digits x = (p : ℕ) → p < length x → isDigit (getD x p 0) ≡ true
 
 unfoldable pub tens : ℕ → ℕ
 tens zero = 1
@@ -31,36 +26,63 @@ digit-byte : (d : ℕ) → d < 10 → isDigit (48 + d) ≡ true
 unfolding isDigit
 digit-byte d h = both (is-le 48 (48 + d) (omega arith)) (is-le (48 + d) 57 (omega arith))
 
--- one digit more
-pub digit-more :
-    (c : ℕ) (w : List ℕ) → c < 10
-    → (valueOf (onto ((48 + c) ∷ []) w) ≡ 10 * valueOf w + c) × (digitsOf (onto ((48 + c) ∷ []) w) ≡ digitsOf w + 1)
-unfolding onto valueOf digitsOf only
-digit-more c w h = rw (digit-byte c h) (omega arith, omega arith)
+one-digit : (d : ℕ) → d < 10 → Digits ((48 + d) ∷ [])
+one-digit d h zero l = digit-byte d h
+one-digit d h (suc p) l = absurd (omega arith)
 
--- x of at most k digits, after something that ends in no digit
-pub numeral :
-    (k x : ℕ) (past : List ℕ) → x < tens k → 0 < k → digitsOf past ≡ 0 → valueOf past ≡ 0
-    → (valueOf (onto (digits k x) past) ≡ x) × (digitsOf (onto (digits k x) past) ≡ length (digits k x))
+pub numeral-digits : (k x : ℕ) → Digits (digits k x)
+unfolding digits higher
+numeral-digits zero x = λ p l. absurd (omega arith)
+numeral-digits (suc k) x = ⊎-elim
+    (λ (t : x <? 10 ≡ true). rw t (one-digit (x % 10) low))
+    (λ (t : x <? 10 ≡ false).
+    rw t (each-of-both (digits k (x / 10)) _ (λ b. isDigit b ≡ true) (numeral-digits k (x / 10)) (one-digit (x % 10) low)))
+    (decide (x <? 10))
+  where
+    low : x % 10 < 10
+    low = mod-lt x (omega arith)
+
+pub numeral-some : (k x : ℕ) → 0 < length (digits (suc k) x)
+unfolding digits
+numeral-some k x = omega (arith, length-append (higher (x <? 10) (digits k (x / 10))) ((48 + x % 10) ∷ []))
+
+fuel : (k x : ℕ) → 10 ≤ x → x < 10 * tens k → 0 < k
+unfolding tens
+fuel zero x big h = absurd (omega arith)
+fuel (suc k) x big h = omega arith
+
+-- a number below the j-th power of ten has at most j digits
+pub numeral-few : (k j x : ℕ) → x < tens j → 0 < j → length (digits k x) ≤ j
 unfolding tens digits higher
-numeral zero x past h p d v = absurd (omega arith)
-numeral (suc k) x past h p d v =
+numeral-few zero j x h p = omega arith
+numeral-few (suc k) zero x h p = absurd (omega arith)
+numeral-few (suc k) (suc j) x h p = ⊎-elim
+    (λ (t : x <? 10 ≡ true). rw t (omega arith))
+    (λ (t : x <? 10 ≡ false).
+    let big = lt-no x 10 t in
+    let split : x / 10 * 10 + x % 10 ≡ x = div-add-mod' x 10 in
+    let i = numeral-few k j (x / 10) (omega arith) (fuel j x big h) in
+    let n = length-append (digits k (x / 10)) ((48 + x % 10) ∷ []) in
+    rw t (omega (arith, i, n)))
+    (decide (x <? 10))
+
+-- one digit more
+value-snoc :
+    (x : List ℕ) (d : ℕ) → d < 10 → valueOf (reverseAux (x ++ ((48 + d) ∷ [])) []) ≡ 10 * valueOf (reverseAux x []) + d
+unfolding valueOf only
+value-snoc x d h = rw (reverseAux-append x ((48 + d) ∷ []) [], digit-byte d h) (omega arith)
+
+-- x of at most k digits
+pub numeral : (k x : ℕ) → x < tens k → 0 < k → numberIn (digits k x) ≡ x
+unfolding tens digits higher numberIn valueOf
+numeral zero x h p = absurd (omega arith)
+numeral (suc k) x h p =
     let low : x % 10 < 10 = mod-lt x (omega arith) in
     let split : x / 10 * 10 + x % 10 ≡ x = div-add-mod' x 10 in
     ⊎-elim
-    (λ (t : x <? 10 ≡ true).
-    let l = lt-yes x 10 t in
-    let e = digit-more (x % 10) past low in
-    rw t (omega (arith, e .0), omega (arith, e .1)))
+    (λ (t : x <? 10 ≡ true). let l = lt-yes x 10 t in rw t (omega (arith, value-snoc [] (x % 10) low)))
     (λ (t : x <? 10 ≡ false).
     let big = lt-no x 10 t in
-    let i = numeral k (x / 10) past (omega arith) (fuel k big h) d v in
-    let e = digit-more (x % 10) (onto (digits k (x / 10)) past) low in
-    let n = length-append (digits k (x / 10)) ((48 + x % 10) ∷ []) in
-    rw (t, onto-append (digits k (x / 10)) ((48 + x % 10) ∷ []) past)
-    (omega (arith, e .0, i .0), omega (arith, e .1, i .1, n)))
+    let i = numeral k (x / 10) (omega arith) (fuel k x big h) in
+    rw t (omega (arith, value-snoc (digits k (x / 10)) (x % 10) low, i)))
     (decide (x <? 10))
-  where
-    fuel : (k : ℕ) → 10 ≤ x → x < 10 * tens k → 0 < k
-    fuel zero big h = absurd (omega arith)
-    fuel (suc k) big h = omega arith
