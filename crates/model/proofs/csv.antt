@@ -1,4 +1,5 @@
 pub mod Going
+pub mod LaidOut
 pub mod Lines
 pub mod Numerals
 pub mod Stated
