@@ -1,5 +1,4 @@
 pub mod Calls
-pub mod Csv
 pub mod Efficient
 pub mod Gates
 pub mod Meaning

@@ -6,28 +6,33 @@ use mathlib.Core.Logic.{_⊎_, inl, inr, ⊎-elim}
 use mathlib.Core.Path.{_≡_, refl, ap}
 use native.Mathlib.Nat.{eq-or-lt-of-le}
 use native.Mathlib.Omega.{arith}
-use Rattle.model.specs.Limits.{maxStations}
-use Rattle.model.specs.Counting.{_=?_, _or_, only}
+use Rattle.model.specs.Limits.{maxGuests, maxStations}
+use Rattle.model.specs.Counting.{_=?_, _and_, only}
 use Rattle.model.specs.Verdicts.{accepted, firstFault}
-use Rattle.model.specs.csv.Places.{comma, cr, lf, lineOf, fieldOf, afterCr, startsLine}
-use Rattle.model.specs.csv.Faults.{firstFields, stations, tooMany, misplaced, byteFaults, faultsFrom}
+use Rattle.model.specs.csv.Places.{comma, cr, lf, isDigit, lineOf, fieldOf, afterCr, startsLine}
+use Rattle.model.specs.csv.Faults.{firstFields, stations, tooLarge, tooMany, misplaced, byteFaults, faultsFrom}
 use Rattle.model.specs.csv.Faults.{csvFaults}
 use Rattle.model.specs.csv.Content.{guests}
-use Rattle.model.specs.claims.Csv.{CsvCountsWithinLimits}
 use Rattle.model.proofs.Tests.{decide, clash, both, or-left, or-right, is-eq, eq-yes, not-eq, eq-or-ne}
 use Rattle.model.proofs.Verdicts.{no-fault, no-faults}
 
 -- at a byte of what is accepted
-passed :
+pub record Passed (m : ℕ) (w : List ℕ) (b : ℕ) (rest : List ℕ) : Type 0 where
+  pub not-large : (not (isDigit b) and tooLarge w) ≡ false
+  pub not-many : tooMany w b ≡ false
+  pub in-place : misplaced m w b ≡ false
+  pub goes-on : firstFault (faultsFrom m (b ∷ w) rest) ≡ accepted tt
+
+pub passed :
     (m : ℕ) (w : List ℕ) (b : ℕ) (rest : List ℕ) → firstFault (faultsFrom m w (b ∷ rest)) ≡ accepted tt
-    → (tooMany w b ≡ false) × (misplaced m w b ≡ false) × (firstFault (faultsFrom m (b ∷ w) rest) ≡ accepted tt)
+    → Passed m w b rest
 unfolding faultsFrom byteFaults
 passed m w b rest e =
-    let (f, g) = no-faults (byteFaults m w b) (faultsFrom m (b ∷ w) rest) e in
-    let (h, i) = no-fault _ _ _ f in
-    let (j, k) = no-fault _ _ _ i in
-    let (l, n) = no-fault _ _ _ k in
-    (j, l, g)
+    let (here, later) = no-faults (byteFaults m w b) (faultsFrom m (b ∷ w) rest) e in
+    let (large, e1) = no-fault _ _ _ here in
+    let (many, e2) = no-fault _ _ _ e1 in
+    let (mis, e3) = no-fault _ _ _ e2 in
+    record { not-large = large; not-many = many; in-place = mis; goes-on = later }
 
 abbrev few-lines : List ℕ → Type 0
 few-lines w = (lineOf w < 202) ⊎ ((lineOf w ≡ 202) × (startsLine w ≡ true))
@@ -53,13 +58,13 @@ unfolding tooMany lineOf
 lines-within m w [] e h = ⊎-elim (λ (a : lineOf w < 202). omega arith)
     (λ (a : (lineOf w ≡ 202) × (startsLine w ≡ true)). omega (arith, a .0)) h
 lines-within m w (b ∷ rest) e h =
-    let (f, g, i) = passed m w b rest e in ⊎-elim
-    (λ (a : lineOf w < 202). omega (arith, lines-within m (b ∷ w) rest i (next-line w b a)))
+    let p = passed m w b rest e in ⊎-elim
+    (λ (a : lineOf w < 202). omega (arith, lines-within m (b ∷ w) rest (p .goes-on) (next-line w b a)))
     (λ (a : (lineOf w ≡ 202) × (startsLine w ≡ true)).
-    absurd (clash (or-right _ _ (both (a .1) (is-eq _ _ (a .0)))) f))
+    absurd (clash (or-right _ _ (both (a .1) (is-eq _ _ (a .0)))) (p .not-many)))
     h
 
-stations-some : (text : List ℕ) → 0 < stations text
+pub stations-some : (text : List ℕ) → 0 < stations text
 unfolding stations firstFields
 stations-some [] = omega arith
 stations-some (b ∷ text) = ⊎-elim
@@ -74,21 +79,21 @@ stations-within :
 unfolding stations firstFields lineOf fieldOf afterCr only tooMany misplaced
 stations-within m w [] e l c h = omega arith
 stations-within m w (b ∷ rest) e l c h =
-    let (f, g, i) = passed m w b rest e in ⊎-elim
+    let p = passed m w b rest e in ⊎-elim
     (λ (t : b =? cr ≡ true). rw t (omega arith))
     (λ (t : b =? cr ≡ false). ⊎-elim
     (λ (u : b =? comma ≡ true).
     let z = eq-yes b comma u in
     let v : b =? lf ≡ false = not-eq b lf (λ (q : b ≡ lf). omega arith) in
     let n : fieldOf w + 1 < 40 = below (λ (q : fieldOf w + 1 ≡ maxStations).
-    clash (or-left _ _ (both (both (both u (ap not c)) (is-eq _ _ l)) (is-eq _ _ q))) f) in
-    let k = stations-within m (b ∷ w) rest i (rw v (omega arith)) t (rw (v, u) (omega arith)) in
+    clash (or-left _ _ (both (both (both u (ap not c)) (is-eq _ _ l)) (is-eq _ _ q))) (p .not-many)) in
+    let k = stations-within m (b ∷ w) rest (p .goes-on) (rw v (omega arith)) t (rw (v, u) (omega arith)) in
     rw (t, u) (omega (arith, rw (v, u) at k)))
     (λ (u : b =? comma ≡ false). ⊎-elim
     (λ (v : b =? lf ≡ true).
-    absurd (clash (or-left _ _ (or-left _ _ (or-left _ _ (or-right _ _ (both v (ap not c)))))) g))
+    absurd (clash (or-left _ _ (or-left _ _ (or-left _ _ (or-right _ _ (both v (ap not c)))))) (p .in-place)))
     (λ (v : b =? lf ≡ false).
-    let k = stations-within m (b ∷ w) rest i (rw v (omega arith)) t (rw (v, u) (omega arith)) in
+    let k = stations-within m (b ∷ w) rest (p .goes-on) (rw v (omega arith)) t (rw (v, u) (omega arith)) in
     rw (t, u) (omega (arith, rw (v, u) at k)))
     (decide (b =? lf)))
     (decide (b =? comma)))
@@ -98,9 +103,11 @@ stations-within m w (b ∷ rest) e l c h =
     below n = ⊎-elim (λ (q : fieldOf w + 1 ≡ 40). absurd (n q)) (λ (q : fieldOf w + 1 < 40). q)
         (eq-or-lt-of-le (let q : fieldOf w + 1 ≤ 40 = omega arith in q))
 
-pub csv-counts-within-limits : CsvCountsWithinLimits
+pub counts-within :
+    (text : List ℕ) → firstFault (csvFaults text) ≡ accepted tt
+    → (guests text ≤ maxGuests) × (stations text ≤ maxStations)
 unfolding csvFaults guests lineOf fieldOf afterCr
-csv-counts-within-limits text e =
+counts-within text e =
     let n = lines-within (stations text) [] text e (inl (omega arith)) in
     let m = stations-within (stations text) [] text e refl refl (omega arith) in
-    (omega arith, stations-some text, omega arith)
+    (omega arith, omega arith)
