@@ -6,3 +6,4 @@ pub mod Numerals
 pub mod Parsed
 pub mod Stated
 pub mod Steps
+pub mod Truth

@@ -11,8 +11,8 @@ use Rattle.model.specs.Counting.{_<?_, _≤?_, _=?_, _and_, _or_}
 use Rattle.model.specs.Verdicts.{accepted, firstFault}
 use Rattle.model.specs.csv.Places.{comma, cr, lf, isDigit, lineOf, fieldOf, digitsOf, valueOf, afterCr}
 use Rattle.model.specs.csv.Places.{startsLine}
-use Rattle.model.specs.csv.Faults.{stations, fieldsOf, isBid, most, tooLarge, isMissing, misplaced, endFaults}
-use Rattle.model.specs.csv.Faults.{faultsFrom, csvFaults}
+use Rattle.model.specs.csv.Faults.{stations, fieldsOf, isBid, most, tooLarge, tooMany, isMissing, misplaced}
+use Rattle.model.specs.csv.Faults.{endFaults, faultsFrom, csvFaults}
 use Rattle.model.specs.csv.Text.{moreFields, line, lines, numberIn, GoodField}
 use Rattle.model.proofs.Tests.{decide, clash, both, first, second, or-no, or-left, or-right, lt-no, lt-yes, eq-yes}
 use Rattle.model.proofs.Tests.{is-eq, eq-no, and-no}
@@ -93,6 +93,7 @@ record Open (m l k : ℕ) (w rest : List ℕ) : Type 0 where
   field-is : fieldOf w ≡ k
   no-cr : afterCr w ≡ false
   within : 0 < l → k < fieldsOf m l
+  low : l < 202
   live : (0 < length rest) ⊎ ((startsLine w and 1 <? lineOf w) ≡ false)
 
 -- the rest is what remains of this field, the line's fields after it, and lines
@@ -108,6 +109,7 @@ pub record Parsed (m l k : ℕ) (w rest : List ℕ) : Type 0 where
   pub enough : 0 < l → suc k + length xs ≡ fieldsOf m l
   pub more : GoodLines m (suc l) ls
   pub least : 1 ≤ l + length ls
+  pub most-lines : l + length ls < 202
 
 -- the end
 end-passed : (m : ℕ) (w : List ℕ) → firstFault (faultsFrom m w []) ≡ accepted tt → (startsLine w and 1 <? lineOf w) ≡ true
@@ -173,6 +175,7 @@ module _ (m : ℕ) (some : 0 < m) (n : ℕ)
         field-is = field-other b w (t .2) (t .0) ∙ o .field-is;
         no-cr = t .1;
         within = o .within;
+        low = o .low;
         live = inr (and-no _ _ (t .2));
       }) in
       record {
@@ -187,6 +190,7 @@ module _ (m : ℕ) (some : 0 < m) (n : ℕ)
         enough = r .enough;
         more = r .more;
         least = r .least;
+        most-lines = r .most-lines;
       }
     where
       go : (x : List ℕ) → Digits x → Digits (b ∷ x)
@@ -213,6 +217,7 @@ module _ (m : ℕ) (some : 0 < m) (n : ℕ)
         field-is = place .field-is;
         no-cr = refl;
         within = λ z. below k _ (o .within z) (rw (o .line-is, o .field-is) at last);
+        low = o .low;
         live = inr refl;
       }) in
       record {
@@ -227,6 +232,7 @@ module _ (m : ℕ) (some : 0 < m) (n : ℕ)
         enough = λ z. (let e = r .enough z in omega (arith, e));
         more = r .more;
         least = r .least;
+        most-lines = r .most-lines;
       }
 
   -- after CR there is LF, and then the end or another line
@@ -249,13 +255,33 @@ module _ (m : ℕ) (some : 0 < m) (n : ℕ)
     is : rest ≡ lines ls
     good : GoodLines m (suc l) ls
     least : 1 ≤ l + length ls
+    most-lines : l + length ls < 202
+
+  -- the first byte of a line is not that of guest line 201
+  more-room :
+      (c : ℕ) (rest : List ℕ) → lineOf w ≡ l → l < 202
+      → firstFault (faultsFrom m (lf ∷ cr ∷ w) (c ∷ rest)) ≡ accepted tt → suc l < 202
+  unfolding tooMany startsLine _=?_ _and_
+  more-room c rest at low e =
+      let last : lineOf (lf ∷ cr ∷ w) =? 202 ≡ false =
+      or-no _ _ (passed m (lf ∷ cr ∷ w) c rest e .not-many) .1 in
+      ⊎-elim
+      (λ (z : suc l ≡ 202). absurd (eq-no (lineOf (lf ∷ cr ∷ w)) 202 last (omega (arith, line-place w .line-is))))
+      (λ (z : suc l < 202). z)
+      (eq-or-lt-of-le low)
 
   after-line :
-      lineOf w ≡ l → (rest : List ℕ) → length rest ≤ n → firstFault (faultsFrom m (lf ∷ cr ∷ w) rest) ≡ accepted tt
-      → After rest
+      lineOf w ≡ l → l < 202 → (rest : List ℕ) → length rest ≤ n
+      → firstFault (faultsFrom m (lf ∷ cr ∷ w) rest) ≡ accepted tt → After rest
   unfolding lines line
-  after-line at [] h e = record { ls = []; is = refl; good = no-lines m (suc l); least = omega (arith, end-lines e) }
-  after-line at (c ∷ rest) h e =
+  after-line at low [] h e = record {
+    ls = [];
+    is = refl;
+    good = no-lines m (suc l);
+    least = omega (arith, end-lines e);
+    most-lines = omega arith;
+  }
+  after-line at low (c ∷ rest) h e =
       let place = subst (λ q. Place (lf ∷ cr ∷ w) (suc q) 0) at (line-place w) in
       let r = rec (suc l) 0 (lf ∷ cr ∷ w) (c ∷ rest) h (record {
         accepted-is = e;
@@ -263,6 +289,7 @@ module _ (m : ℕ) (some : 0 < m) (n : ℕ)
         field-is = place .field-is;
         no-cr = place .no-cr;
         within = λ z. some-fields m (suc l) some z;
+        low = more-room c rest at low e;
         live = inl (omega arith);
       }) in
       let first = field-good (r .x) place (r .digits) (r .small) (r .there) in
@@ -272,6 +299,7 @@ module _ (m : ℕ) (some : 0 < m) (n : ℕ)
         is = r .is;
         good = lines-cons (good-cons first (r .fields)) long (r .more);
         least = omega arith;
+        most-lines = omega (arith, r .most-lines);
       }
 
   at-cr : (rest : List ℕ) → length rest ≤ n → Open m l k w (cr ∷ rest) → Parsed m l k w (cr ∷ rest)
@@ -284,7 +312,7 @@ module _ (m : ℕ) (some : 0 < m) (n : ℕ)
       let few : k + 1 <? fieldsOf m l ≡ false = rw (o .line-is, o .field-is) at (i .not-few) in
       let next : firstFault (faultsFrom m (lf ∷ cr ∷ w) rest) ≡ accepted tt =
       rw feed at (passed m (cr ∷ w) c rest (p .goes-on) .goes-on) in
-      let a = after-line (o .line-is) rest (omega arith) next in
+      let a = after-line (o .line-is) (o .low) rest (omega arith) next in
       record {
         x = [];
         xs = [];
@@ -297,6 +325,7 @@ module _ (m : ℕ) (some : 0 < m) (n : ℕ)
         enough = λ z. (let y = o .within z in omega (arith, y, lt-no _ _ few));
         more = a .good;
         least = a .least;
+        most-lines = a .most-lines;
       }
 
   at-other :
@@ -339,7 +368,7 @@ parse m some (suc n) = λ l k w rest h o. at-rest m some n (parse m some n) l k 
 -- ---- a whole text
 
 -- a text that is accepted: a line of good asks, and lines after it
-pub record Accepted (text : List ℕ) : Type 0 where
+pub record Lined (text : List ℕ) : Type 0 where
   pub asks : List (List ℕ)
   pub ls : List (List (List ℕ))
   pub is : text ≡ lines (asks ∷ ls)
@@ -347,8 +376,9 @@ pub record Accepted (text : List ℕ) : Type 0 where
   pub some-asks : 0 < length asks
   pub good-lines : GoodLines (stations text) 1 ls
   pub least : 0 < length ls
+  pub most-lines : length ls < 202
 
-pub accepted-parsed : (text : List ℕ) → firstFault (csvFaults text) ≡ accepted tt → Accepted text
+pub accepted-parsed : (text : List ℕ) → firstFault (csvFaults text) ≡ accepted tt → Lined text
 unfolding csvFaults lines line lineOf fieldOf afterCr startsLine _<?_ _and_
 accepted-parsed text e =
     let r = parse (stations text) (stations-some text) (length text) 0 0 [] text (omega arith) (record {
@@ -357,6 +387,7 @@ accepted-parsed text e =
       field-is = refl;
       no-cr = refl;
       within = λ z. absurd (omega arith);
+      low = omega arith;
       live = inr refl;
     }) in
     record {
@@ -367,4 +398,5 @@ accepted-parsed text e =
       some-asks = omega arith;
       good-lines = r .more;
       least = omega (arith, r .least);
+      most-lines = omega (arith, r .most-lines);
     }

@@ -113,11 +113,11 @@ module _ (text : List ℕ) (t : Tables) (z : Shaped t) (m-is : stations text ≡
 
 -- ---- the lines of a text that states t
 
-bays-fields : (m : ℕ) → fieldsOf m (1 + 0) ≡ m
+pub bays-fields : (m : ℕ) → fieldsOf m (1 + 0) ≡ m
 unfolding fieldsOf only _<?_
 bays-fields m = omega arith
 
-guest-fields : (m i : ℕ) → fieldsOf m (1 + suc i) ≡ m + 2
+pub guest-fields : (m i : ℕ) → fieldsOf m (1 + suc i) ≡ m + 2
 unfolding fieldsOf
 guest-fields m i = omega (
   arith,
