@@ -88,6 +88,6 @@ printing-computes = tt
 unfoldable pub csv-computes : Unit {0}
 unfolding counting-computes numberOf isDigit lineOf fieldOf digitsOf valueOf afterCr startsLine firstFields csvStations
     fieldsOf isBid isNarrow mostBy most tooLarge tooMany isMissing misplaced byteFaults endFaults faultsFrom csvFaults
-    csvGuests ending valuesFrom csvValues value guestField csvTables readCsv bidAt higher digits decimal moreFields csvLine
-    lines bidText guestFields laidOut textOf
+    csvGuests ending valuesFrom csvValues value guestField csvTables readCsv bidAt higher digits decimal moreFields
+    csvLine lines bidText guestFields laidOut textOf
 csv-computes = tt

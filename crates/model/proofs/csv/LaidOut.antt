@@ -1,13 +1,12 @@
 -- The text that lays a market out states it.
-use Prim.Native.Nat.{ℕ, zero, suc, _+_, _^_, _≤_, _<_}
-use mathlib.Core.Bool.{Bool, true, false}
+use Prim.Native.Nat.{ℕ, zero, suc, _≤_, _<_}
+use mathlib.Core.Bool.{true, false}
 use mathlib.Core.List.{List, [], _∷_, _++_, map, map-append}
 use mathlib.Core.Logic.{⊎-elim}
 use mathlib.Core.Path.{_≡_, refl, sym, ap, ap₂, subst, _∙_}
 use native.Mathlib.Omega.{arith}
 use lib.ListN.{length, getD, length-map}
 use Rattle.model.specs.Counting.{_<?_, _=?_, _and_, _or_, list, joined}
-use Rattle.model.specs.Verdicts.{accepted}
 use Rattle.model.specs.market.Market.{Tables, bidAt}
 use Rattle.model.specs.sheet.Layout.{Fitting}
 use Rattle.model.specs.text.Decimal.{higher, decimal}
@@ -16,7 +15,7 @@ use Rattle.model.specs.csv.Faults.{isBid, isNarrow, mostBy, most}
 use Rattle.model.specs.csv.Text.{numberIn, GoodField, guestNumbers, numbersOf, bidText, guestFields, laidOut}
 use Rattle.model.specs.csv.Text.{textOf, LaidOutStates, LaidOutIsRead}
 use Rattle.model.proofs.Counting.{up, here, length-list, getD-list}
-use Rattle.model.proofs.Tests.{decide, both, is-lt, not-eq, eq-yes, and-true}
+use Rattle.model.proofs.Tests.{decide, both, is-lt, not-eq, eq-yes}
 use Rattle.model.proofs.csv.Numerals.{tens, numeral, numeral-digits, numeral-few, numeral-some}
 use Rattle.model.proofs.csv.Stated.{length-each, getD-each, states-read}
 
@@ -162,7 +161,8 @@ module _ (t : Tables) (g : Fitting t) where
       (ap₂ _∷_ (map-back decimal (t .bays) (λ j l. in-decimal _ (omega (arith, bays-low j l))))
       (map-each (map numberIn) n (guestFields t) (guestNumbers t) guest-back))
 
-  guest-good : (i k : ℕ) → i < n → k < length (guestFields t i) → GoodField (suc (suc i)) k (getD (guestFields t i) k [])
+  guest-good :
+      (i k : ℕ) → i < n → k < length (guestFields t i) → GoodField (suc (suc i)) k (getD (guestFields t i) k [])
   unfolding guestFields
   guest-good i zero l h = decimal-good _ (omega (arith, ticket-low i l, ticket-most i))
   guest-good i (suc zero) l h = decimal-good _ (omega (arith, amount-low i l, amount-most i))

@@ -9,25 +9,20 @@ use native.Mathlib.Omega.{arith}
 use lib.ListN.{length, getD}
 use Rattle.model.specs.Counting.{_<?_, _≤?_, _=?_, _and_, _or_}
 use Rattle.model.specs.Verdicts.{accepted, firstFault}
-use Rattle.model.specs.csv.Places.{comma, cr, lf, isDigit, lineOf, fieldOf, digitsOf, valueOf, afterCr}
+use Rattle.model.specs.csv.Places.{comma, cr, lf, isDigit, lineOf, fieldOf, digitsOf, afterCr}
 use Rattle.model.specs.csv.Places.{startsLine}
 use Rattle.model.specs.csv.Faults.{stations, fieldsOf, isBid, most, tooLarge, tooMany, isMissing, misplaced}
 use Rattle.model.specs.csv.Faults.{endFaults, faultsFrom, csvFaults}
 use Rattle.model.specs.csv.Text.{moreFields, line, lines, numberIn, GoodField}
-use Rattle.model.proofs.Tests.{decide, clash, both, first, second, or-no, or-left, or-right, lt-no, lt-yes, eq-yes}
-use Rattle.model.proofs.Tests.{is-eq, eq-no, and-no}
+use Rattle.model.proofs.Tests.{decide, clash, both, second, or-no, and-no, lt-no, lt-yes, is-eq, eq-yes, eq-no}
 use Rattle.model.proofs.Verdicts.{no-fault}
-use Rattle.model.proofs.csv.Counts.{Passed, passed, stations-some}
+use Rattle.model.proofs.csv.Counts.{passed, stations-some}
 use Rattle.model.proofs.csv.Numerals.{Digits}
 use Rattle.model.proofs.csv.Steps.{digit-tests, line-other, field-other, field-comma, digits-none}
-use Rattle.model.proofs.csv.Going.{Ran, ran, run-value, Place, line-place, GoodFields}
+use Rattle.model.proofs.csv.Going.{ran, run-value, Place, line-place, GoodFields}
 use Rattle.model.proofs.csv.Lines.{GoodLines, some-fields, start}
 
 -- ---- a field that has no fault is good
-
-untested : {a b : Bool} → a ≡ true → (a and b) ≡ false → b ≡ false
-unfolding _and_
-untested e h = rw e at h
 
 bid-or-there : (d l k : ℕ) → (d =? 0 and not (isBid l k)) ≡ false → d ≡ 0 → isBid l k ≡ true
 bid-or-there d l k h e = ⊎-elim
@@ -112,7 +107,8 @@ pub record Parsed (m l k : ℕ) (w rest : List ℕ) : Type 0 where
   pub most-lines : l + length ls < 202
 
 -- the end
-end-passed : (m : ℕ) (w : List ℕ) → firstFault (faultsFrom m w []) ≡ accepted tt → (startsLine w and 1 <? lineOf w) ≡ true
+end-passed :
+    (m : ℕ) (w : List ℕ) → firstFault (faultsFrom m w []) ≡ accepted tt → (startsLine w and 1 <? lineOf w) ≡ true
 unfolding faultsFrom endFaults
 end-passed m w e = ⊎-elim
     (λ (t : (startsLine w and 1 <? lineOf w) ≡ true). t)

@@ -3,7 +3,7 @@ use Prim.Native.Nat.{ℕ, zero, suc, _+_, _*_, _≤_, _<_}
 use mathlib.Core.List.{List, [], _∷_, _++_, map, append-assoc, append-nil, flatten}
 use mathlib.Core.Logic.{⊎-elim}
 use mathlib.Core.Path.{_≡_, refl, sym, ap, subst, _∙_}
-use native.Mathlib.Nat.{eq-or-lt-of-le, le-of-suc-le-suc, mul-le-mul-right}
+use native.Mathlib.Nat.{eq-or-lt-of-le, le-of-suc-le-suc}
 use native.Mathlib.Omega.{arith}
 use lib.ListN.{length, getD, length-map, length-append, List·getD-map, List·getD-append}
 use lib.Seq.{getD-append-add, getD-append-seam}
@@ -20,7 +20,7 @@ use Rattle.model.proofs.Verdicts.{giving-accepted}
 use Rattle.model.proofs.sheet.Joined.{getD-joined, joined-cong}
 use Rattle.model.proofs.sheet.Truth.{list-is, joined-is}
 use Rattle.model.proofs.csv.Going.{GoodFields}
-use Rattle.model.proofs.csv.Lines.{GoodLines, Comes, lines-come}
+use Rattle.model.proofs.csv.Lines.{Comes, lines-come}
 
 -- ---- a list of lists
 
@@ -139,8 +139,7 @@ module _ (t : Tables) (z : Shaped t) (a b : List (List ℕ)) (gs : List (List (L
   lines-many : length gs ≡ length (t .amounts)
   unfolding numbersOf
   lines-many =
-      let e : suc (suc (length (map (map numberIn) gs))) ≡ suc (suc (length (joined (length (t .amounts)) (λ i. guestNumbers t i ∷ []))))
-      = ap length numbers in
+      let e = ap length numbers in
       omega (arith, e, length-map gs (map numberIn), length-each (length (t .amounts)) (guestNumbers t))
 
   good-fields : (l : ℕ) → l < length (a ∷ b ∷ gs) → GoodFields l 0 (getD (a ∷ b ∷ gs) l [])

@@ -10,11 +10,10 @@ use Rattle.model.specs.Counting.{list, joined}
 use Rattle.model.specs.Verdicts.{accepted, firstFault}
 use Rattle.model.specs.market.Market.{Tables, bidAt}
 use Rattle.model.specs.market.Shape.{Shaped}
-use Rattle.model.specs.sheet.Layout.{Fitting}
 use Rattle.model.specs.csv.Places.{valueOf}
-use Rattle.model.specs.csv.Faults.{stations, fieldsOf, most, csvFaults}
+use Rattle.model.specs.csv.Faults.{stations, most, csvFaults}
 use Rattle.model.specs.csv.Content.{csvTables, readCsv}
-use Rattle.model.specs.csv.Text.{lines, numberIn, GoodField, guestNumbers, numbersOf, StatesCsv}
+use Rattle.model.specs.csv.Text.{lines, fieldAt, numberIn, GoodField, guestNumbers, numbersOf, StatesCsv}
 use Rattle.model.specs.csv.Text.{ReadsExactlyWhatTextStates, ReadFits}
 use Rattle.model.proofs.Counting.{length-list, getD-list}
 use Rattle.model.proofs.Verdicts.{gave-accepted}
@@ -174,21 +173,29 @@ reads-exactly-what-text-states text t = (
 
 -- ---- within the widths
 
+-- numbers, line by line, fit their tables
+abbrev AllFit : List (List ℕ) → Type 0
+AllFit rows = (l k : ℕ) → l < length rows → k < length (getD rows l []) → getD (getD rows l []) k 0 ≤ most l k
+
+number-at :
+    (fields : List (List (List ℕ))) (l k : ℕ)
+    → getD (getD (map (map numberIn) fields) l []) k 0 ≡ numberIn (fieldAt fields l k)
+unfolding numberIn valueOf
+number-at fields l k =
+    ap (λ q. getD q k 0) (List·getD-map (map numberIn) fields l []) ∙ List·getD-map numberIn (getD fields l []) k []
+
+line-long : (fields : List (List (List ℕ))) (l : ℕ)
+    → length (getD (map (map numberIn) fields) l []) ≡ length (getD fields l [])
+line-long fields l =
+    ap length (List·getD-map (map numberIn) fields l []) ∙ length-map (getD fields l []) numberIn
+
 module _ (text : List ℕ) (t : Tables) (s : StatesCsv text t) where
-  number-low :
-      (l k : ℕ) → l < length (numbersOf t) → k < length (getD (numbersOf t) l [])
-      → getD (getD (numbersOf t) l []) k 0 ≤ most l k
-  unfolding numberIn valueOf
-  number-low = subst
-      (λ r. (l k : ℕ) → l < length r → k < length (getD r l []) → getD (getD r l []) k 0 ≤ most l k) (s .numbers-are)
-      (λ l k h j.
-      let f = getD (s .fields) l [] in
-      let at : getD (map (map numberIn) (s .fields)) l [] ≡ map numberIn f = List·getD-map (map numberIn) (s .fields) l [] in
-      let long : k < length f = (let q : k < length (map numberIn f) = rw at at j in omega (arith, length-map f numberIn)) in
-      let value : getD (map numberIn f) k 0 ≡ numberIn (getD f k []) = List·getD-map numberIn f k [] in
-      let same : getD (getD (map (map numberIn) (s .fields)) l []) k 0 ≡ numberIn (getD f k []) =
-      ap (λ q. getD q k 0) at ∙ value in
-      omega (arith, same, s .good l k (omega (arith, length-map (s .fields) (map numberIn))) long .fits))
+  all-fit : AllFit (numbersOf t)
+  all-fit = subst AllFit (s .numbers-are) (λ l k h j. omega (
+    arith,
+    number-at (s .fields) l k,
+    s .good l k (omega (arith, length-map (s .fields) (map numberIn))) (omega (arith, line-long (s .fields) l)) .fits,
+  ))
 
   guest-low :
       (i k : ℕ) → i < length (t .amounts) → k < length (guestNumbers t i)
@@ -196,7 +203,7 @@ module _ (text : List ℕ) (t : Tables) (s : StatesCsv text t) where
   unfolding numbersOf
   guest-low i k l h =
       let row = getD-each (length (t .amounts)) (guestNumbers t) [] i l in
-      subst (λ r. getD r k 0 ≤ most (suc (suc i)) k) row (number-low (suc (suc i)) k
+      subst (λ r. getD r k 0 ≤ most (suc (suc i)) k) row (all-fit (suc (suc i)) k
       (omega (arith, length-each (length (t .amounts)) (guestNumbers t)))
       (subst (λ r. k < length r) (sym row) h))
 
@@ -205,7 +212,7 @@ unfolding numbersOf guestNumbers
 read-fits text t e =
     let s = reads-exactly-what-text-states text t .0 e in
     let z = s .shape in
-    let low = number-low text t s in
+    let low = all-fit text t s in
     record {
       shape = z;
       ask-fits = λ j l. omega (arith, low 0 j (omega arith) l, ask-most j);
