@@ -3,6 +3,7 @@ pub mod Going
 pub mod LaidOut
 pub mod Lines
 pub mod Numerals
+pub mod Order
 pub mod Parsed
 pub mod Stated
 pub mod Steps

@@ -17,7 +17,7 @@ csv-markets-laid-out = record { case-e = refl; zeros = refl; again = refl }
 
 pub csv-refused : CsvRefused
 unfolding csv-computes bytes times numberFor expectedOf lineCases byteCases fieldCases sizeCases stationCases
-    manyGuests guestCases
+    manyGuests guestCases csvE
 csv-refused = record {
   lines = refl;
   other-bytes = refl;
@@ -25,4 +25,5 @@ csv-refused = record {
   sizes = refl;
   stations = refl;
   guests = refl;
+  lengths = refl;
 }

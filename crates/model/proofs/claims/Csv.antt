@@ -1,6 +1,6 @@
 -- Request 10 over calls, proved: a call on tables of the right sizes finds the text's own faults.
 use Prim.Native.Nat.{ℕ}
-use mathlib.Core.List.{List, []}
+use mathlib.Core.List.{List, [], _++_}
 use mathlib.Core.Path.{_≡_, refl, sym, ap, ap₂, subst, _∙_}
 use lib.ListN.{length}
 use Rattle.model.specs.Verdicts.{_gives_, accepted, refused, firstFault, numberOf}
@@ -13,7 +13,8 @@ use Rattle.model.specs.contracts.EntryPoints.{readingCsv}
 use Rattle.model.specs.claims.Sheets.{RightSizes}
 use Rattle.model.specs.claims.Writings.{marketIn}
 use Rattle.model.specs.claims.Csv.{CallsCsv, CsvReadIffStated, CsvReadAs, CsvStatedIsRead, CsvLaidOutIsRead}
-use Rattle.model.specs.claims.Csv.{CsvReadIsStated, CsvRefusedLeaves, CsvReadCallExists, CsvRefusedCallExists}
+use Rattle.model.specs.claims.Csv.{CsvReadIsStated, CsvFirstFaultAnswered, CsvRefusedLeaves, CsvReadCallExists}
+use Rattle.model.specs.claims.Csv.{CsvRefusedCallExists}
 use Rattle.model.proofs.Counting.{length-list}
 use Rattle.model.proofs.Verdicts.{fault-later, no-fault, giving-accepted, gave-accepted, updated-accepted}
 use Rattle.model.proofs.Verdicts.{updated-refused, number-accepted}
@@ -25,6 +26,7 @@ use Rattle.model.proofs.claims.Writings.{market-filled}
 use Rattle.model.proofs.contracts.Reads.{lent-good}
 use Rattle.model.proofs.sheet.Tables.{lent-lengths}
 use Rattle.model.proofs.csv.LaidOut.{laid-out-states}
+use Rattle.model.proofs.csv.Order.{first-fault-decides}
 use Rattle.model.proofs.csv.Truth.{reads-exactly-what-text-states, read-fits}
 
 -- ---- the verdict of a call
@@ -110,6 +112,11 @@ csv-read-iff-stated text entry exit out out′ number c = (
       (z, (csvTables text, s))),
   (λ w. read-as text entry exit out out′ number c (w .1 .0) (w .1 .1) (w .0) .answered),
 )
+
+pub csv-first-fault-answered : CsvFirstFaultAnswered
+unfolding readingCsv numberOf
+csv-first-fault-answered bytes rest other entry exit out out′ number k z e c =
+    c .number-is ∙ ap numberOf (text-verdict (bytes ++ other) entry z ∙ first-fault-decides bytes rest other k e)
 
 pub csv-refused-leaves : CsvRefusedLeaves
 csv-refused-leaves text entry exit out out′ k c = refused-export-leaves _ _ (readingCsv text) entry exit out out′ k c

@@ -5,9 +5,10 @@ use Prim.Native.String.{String, len, charAt}
 use mathlib.Core.List.{List, [], _∷_, _++_, map}
 use mathlib.Core.Path.{_≡_}
 use Rattle.model.specs.Counting.{list, joined}
-use Rattle.model.specs.Verdicts.{accepted, firstFault, numberOf}
+use Rattle.model.specs.Verdicts.{accepted, refused, firstFault, numberOf}
 use Rattle.model.specs.market.Market.{Tables, regular}
-use Rattle.model.specs.csv.Faults.{csvFaults}
+use Rattle.model.specs.csv.Faults.{csvFaults, readingCsvFaults}
+use Rattle.model.specs.sheet.Lent.{lentTables}
 use Rattle.model.specs.csv.Content.{readCsv}
 use Rattle.model.specs.csv.Text.{textOf}
 use Rattle.model.specs.cases.Cases.{tableI, pair, caseE}
@@ -118,6 +119,13 @@ guestCases =
     ∷ (manyGuests ++ bytes "\n", 2) ∷ (manyGuests ++ bytes ",", 2) ∷ (manyGuests ++ bytes "\0", 2)
     ∷ (bytes "1\r\n1\r\n" ++ (times 199 "1,1,\r\n" ++ bytes "1,1,\rx"), 22) ∷ []
 
+-- 10 before everything: no lent tables at all, and no text, one that has another fault, one that states a market
+abbrev pub CsvLengthsRefused : Type 0
+CsvLengthsRefused =
+    map (λ text. firstFault (readingCsvFaults (lentTables [] [] [] [] []) text))
+    (bytes "" ∷ bytes "00000000000" ∷ csvE ∷ [])
+    ≡ (refused 10 ∷ refused 10 ∷ refused 10 ∷ [])
+
 abbrev pub AllAsExpected : List (List ℕ × ℕ) → Type 0
 AllAsExpected cases = map numberFor cases ≡ map expectedOf cases
 
@@ -128,3 +136,4 @@ pub record CsvRefused : Type 0 where
   pub sizes : AllAsExpected sizeCases
   pub stations : AllAsExpected stationCases
   pub guests : AllAsExpected guestCases
+  pub lengths : CsvLengthsRefused

@@ -1,18 +1,34 @@
--- Request 10 over calls of the exported `read_csv`: from the text, the number, n, m and the lent tables alone. Each
--- statement is a type; its proof is a term of proofs/.
+-- Request 10: the first fault decides; and over calls of the exported `read_csv`: from the text, the number, n, m and
+-- the lent tables alone. Each statement is a type; its proof is a term of proofs/.
 use Prim.Native.Nat.{ℕ, suc}
-use mathlib.Core.List.{List, []}
+use mathlib.Core.List.{List, [], _∷_, _++_}
 use mathlib.Core.Logic.{_↔_}
 use mathlib.Core.Path.{_≡_}
 use lib.ListN.{length}
 use Rattle.model.specs.Promises.{KeepsOut}
+use Rattle.model.specs.Verdicts.{Row, refused, firstFault}
 use Rattle.model.specs.market.Market.{Tables}
 use Rattle.model.specs.sheet.Layout.{Fitting}
 use Rattle.model.specs.sheet.Lent.{LentTables, filled}
+use Rattle.model.specs.csv.Faults.{stations, byteFaults, csvFaults}
 use Rattle.model.specs.csv.Text.{StatesCsv, textOf}
 use Rattle.model.specs.contracts.EntryPoints.{readingCsv}
 use Rattle.model.specs.claims.Sheets.{RightSizes}
 use Rattle.model.specs.claims.Writings.{marketIn}
+
+-- the rows of the first bytes of a text of m stations
+unfoldable pub bytesFaults : (m : ℕ) (past bytes : List ℕ) → List Row
+bytesFaults m past [] = []
+bytesFaults m past (b ∷ bytes) = byteFaults m past b ++ bytesFaults m (b ∷ past) bytes
+
+-- 'the first fault in byte order': where it is among the first bytes, it is that of every text that begins with them,
+-- whatever follows; so nothing hangs on m before its line has ended
+abbrev pub FirstFaultDecides : Type 0
+FirstFaultDecides =
+    (bytes rest other : List ℕ) (k : ℕ) → firstFault (bytesFaults (stations (bytes ++ rest)) [] bytes) ≡ refused k
+    → firstFault (csvFaults (bytes ++ other)) ≡ refused k
+
+-- ---- over calls
 
 -- a call on this text: lent tables and n and m, before and after, and its number
 abbrev pub CallsCsv :
@@ -49,6 +65,13 @@ abbrev pub CsvReadIsStated : Type 0
 CsvReadIsStated =
     (text : List ℕ) (entry exit : LentTables) (out out′ : ℕ × ℕ) → CallsCsv text entry out 0 exit out′
     → StatesCsv text (marketIn exit (out′ .0) (out′ .1)) × Fitting (marketIn exit (out′ .0) (out′ .1))
+
+-- a fault among the first bytes is answered, whatever follows them
+abbrev pub CsvFirstFaultAnswered : Type 0
+CsvFirstFaultAnswered =
+    (bytes rest other : List ℕ) (entry exit : LentTables) (out out′ : ℕ × ℕ) (number k : ℕ) → RightSizes entry
+    → firstFault (bytesFaults (stations (bytes ++ rest)) [] bytes) ≡ refused k
+    → CallsCsv (bytes ++ other) entry out number exit out′ → number ≡ k
 
 -- a refused text changes nothing
 abbrev pub CsvRefusedLeaves : Type 0
