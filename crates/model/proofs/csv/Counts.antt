@@ -9,30 +9,12 @@ use native.Mathlib.Omega.{arith}
 use Rattle.model.specs.Limits.{maxGuests, maxStations}
 use Rattle.model.specs.Counting.{_=?_, _and_, only}
 use Rattle.model.specs.Verdicts.{accepted, firstFault}
-use Rattle.model.specs.csv.Places.{comma, cr, lf, isDigit, lineOf, fieldOf, afterCr, startsLine}
-use Rattle.model.specs.csv.Faults.{firstFields, stations, tooLarge, tooMany, misplaced, byteFaults, faultsFrom}
+use Rattle.model.specs.csv.Places.{comma, cr, lf, lineOf, fieldOf, afterCr, startsLine}
+use Rattle.model.specs.csv.Faults.{firstFields, stations, tooMany, misplaced, faultsFrom}
 use Rattle.model.specs.csv.Faults.{csvFaults}
 use Rattle.model.specs.csv.Content.{guests}
 use Rattle.model.proofs.Tests.{decide, clash, both, or-left, or-right, is-eq, eq-yes, not-eq, eq-or-ne}
-use Rattle.model.proofs.Verdicts.{no-fault, no-faults}
-
--- at a byte of what is accepted
-pub record Passed (m : ℕ) (w : List ℕ) (b : ℕ) (rest : List ℕ) : Type 0 where
-  pub not-large : (not (isDigit b) and tooLarge w) ≡ false
-  pub not-many : tooMany w b ≡ false
-  pub in-place : misplaced m w b ≡ false
-  pub goes-on : firstFault (faultsFrom m (b ∷ w) rest) ≡ accepted tt
-
-pub passed :
-    (m : ℕ) (w : List ℕ) (b : ℕ) (rest : List ℕ) → firstFault (faultsFrom m w (b ∷ rest)) ≡ accepted tt
-    → Passed m w b rest
-unfolding faultsFrom byteFaults
-passed m w b rest e =
-    let (here, later) = no-faults (byteFaults m w b) (faultsFrom m (b ∷ w) rest) e in
-    let (large, e1) = no-fault _ _ _ here in
-    let (many, e2) = no-fault _ _ _ e1 in
-    let (mis, e3) = no-fault _ _ _ e2 in
-    record { not-large = large; not-many = many; in-place = mis; goes-on = later }
+use Rattle.model.proofs.csv.Places.{passed}
 
 abbrev few-lines : List ℕ → Type 0
 few-lines w = (lineOf w < 202) ⊎ ((lineOf w ≡ 202) × (startsLine w ≡ true))

@@ -1,85 +1,27 @@
 -- What is accepted is lines of good fields: byte by byte, from a place inside a line.
 use Prim.Native.Nat.{ℕ, zero, suc, _+_, _≤_, _<_}
-use mathlib.Core.Bool.{Bool, true, false, not}
+use mathlib.Core.Bool.{true, false, not}
 use mathlib.Core.List.{List, [], _∷_, _++_, reverseAux}
 use mathlib.Core.Logic.{_⊎_, inl, inr, ⊎-elim}
 use mathlib.Core.Path.{_≡_, refl, sym, ap, ap₂, subst, _∙_}
 use native.Mathlib.Nat.{eq-or-lt-of-le}
 use native.Mathlib.Omega.{arith}
-use lib.ListN.{length, getD}
+use lib.ListN.{length}
 use Rattle.model.specs.Counting.{_<?_, _≤?_, _=?_, _and_, _or_}
 use Rattle.model.specs.Verdicts.{accepted, firstFault}
-use Rattle.model.specs.csv.Places.{comma, cr, lf, isDigit, lineOf, fieldOf, digitsOf, afterCr}
+use Rattle.model.specs.csv.Places.{comma, cr, lf, isDigit, lineOf, fieldOf, afterCr}
 use Rattle.model.specs.csv.Places.{startsLine}
-use Rattle.model.specs.csv.Faults.{stations, fieldsOf, isBid, most, tooLarge, tooMany, isMissing, misplaced}
-use Rattle.model.specs.csv.Faults.{endFaults, faultsFrom, csvFaults}
-use Rattle.model.specs.csv.Text.{moreFields, line, lines, numberIn, GoodField}
-use Rattle.model.proofs.Tests.{decide, clash, both, second, or-no, and-no, lt-no, lt-yes, is-eq, eq-yes, eq-no}
-use Rattle.model.proofs.Verdicts.{no-fault}
-use Rattle.model.proofs.csv.Counts.{passed, stations-some}
+use Rattle.model.specs.csv.Faults.{stations, fieldsOf, most, tooLarge, tooMany, isMissing}
+use Rattle.model.specs.csv.Faults.{faultsFrom, csvFaults}
+use Rattle.model.specs.csv.Text.{moreFields, line, lines, GoodField}
+use Rattle.model.proofs.Tests.{decide, clash, both, second, or-no, and-no, lt-no, lt-yes, eq-yes, eq-no}
+use Rattle.model.proofs.csv.Counts.{stations-some}
+use Rattle.model.proofs.csv.Good.{field-good, good-cons, no-fields, lines-cons, no-lines}
 use Rattle.model.proofs.csv.Numerals.{Digits}
+use Rattle.model.proofs.csv.Places.{passed, in-place, end-passed}
 use Rattle.model.proofs.csv.Steps.{digit-tests, line-other, field-other, field-comma, digits-none}
-use Rattle.model.proofs.csv.Going.{ran, run-value, Place, line-place, GoodFields}
+use Rattle.model.proofs.csv.Going.{Place, line-place, GoodFields}
 use Rattle.model.proofs.csv.Lines.{GoodLines, some-fields, start}
-
--- ---- a field that has no fault is good
-
-bid-or-there : (d l k : ℕ) → (d =? 0 and not (isBid l k)) ≡ false → d ≡ 0 → isBid l k ≡ true
-bid-or-there d l k h e = ⊎-elim
-    (λ (b : isBid l k ≡ true). b)
-    (λ (b : isBid l k ≡ false). absurd (clash (both (is-eq d 0 e) (ap not b)) h))
-    (decide (isBid l k))
-
-field-good :
-    {w : List ℕ} {l k : ℕ} (x : List ℕ) → Place w l k → Digits x → tooLarge (reverseAux x w) ≡ false
-    → isMissing (reverseAux x w) ≡ false → GoodField l k x
-unfolding tooLarge isMissing
-field-good {w} {l} {k} x p d small there =
-    let r = ran x w d (p .no-cr) in
-    let long : digitsOf (reverseAux x w) ≡ length x = omega (arith, r .digits-are, p .no-digits) in
-    let line-is = r .line-is ∙ p .line-is in
-    let field-is = r .field-is ∙ p .field-is in
-    let (few, low) = or-no _ _ small in
-    let low′ : most l k <? numberIn x ≡ false = rw (line-is, field-is, run-value x w d (p .no-digits)) at low in
-    let there′ : (length x =? 0 and not (isBid l k)) ≡ false = rw (long, line-is, field-is) at there in
-    record {
-      digits-only = d;
-      ten-most = omega (arith, lt-no _ _ few, long);
-      there = bid-or-there (length x) l k there′;
-      fits = lt-no _ _ low′;
-    }
-
-good-cons :
-    {l k : ℕ} {x : List ℕ} {xs : List (List ℕ)} → GoodField l k x → GoodFields l (suc k) xs → GoodFields l k (x ∷ xs)
-good-cons {l} {k} {x} {xs} g gs = record { each = go }
-  where
-    go : (j : ℕ) → j < length (x ∷ xs) → GoodField l (k + j) (getD (x ∷ xs) j [])
-    go zero h = subst (λ q. GoodField l q x) (let e : k ≡ k + 0 = omega arith in e) g
-    go (suc j) h = subst (λ q. GoodField l q (getD xs j [])) (let e : suc k + j ≡ k + suc j = omega arith in e)
-        (gs .each j (omega arith))
-
-no-fields : (l k : ℕ) → GoodFields l k []
-no-fields l k = record { each = λ j h. absurd (omega arith) }
-
-lines-cons :
-    {m l : ℕ} {f : List (List ℕ)} {ls : List (List (List ℕ))} → GoodFields l 0 f → length f ≡ fieldsOf m l
-    → GoodLines m (suc l) ls → GoodLines m l (f ∷ ls)
-lines-cons {m} {l} {f} {ls} g long gs = record { fields = go; enough = many }
-  where
-    go : (i : ℕ) → i < length (f ∷ ls) → GoodFields (l + i) 0 (getD (f ∷ ls) i [])
-    go zero h = subst (λ q. GoodFields q 0 f) (let e : l ≡ l + 0 = omega arith in e) g
-    go (suc i) h = subst (λ q. GoodFields q 0 (getD ls i [])) (let e : suc l + i ≡ l + suc i = omega arith in e)
-        (gs .fields i (omega arith))
-
-    many : (i : ℕ) → i < length (f ∷ ls) → length (getD (f ∷ ls) i []) ≡ fieldsOf m (l + i)
-    many zero h = long ∙ ap (fieldsOf m) (let e : l ≡ l + 0 = omega arith in e)
-    many (suc i) h = gs .enough i (omega arith)
-        ∙ ap (fieldsOf m) (let e : suc l + i ≡ l + suc i = omega arith in e)
-
-no-lines : (m l : ℕ) → GoodLines m l []
-no-lines m l = record { fields = λ i h. absurd (omega arith); enough = λ i h. absurd (omega arith) }
-
--- ---- from a place on
 
 -- a place inside field k of line l, before the text's end
 record Open (m l k : ℕ) (w rest : List ℕ) : Type 0 where
@@ -106,51 +48,11 @@ pub record Parsed (m l k : ℕ) (w rest : List ℕ) : Type 0 where
   pub least : 1 ≤ l + length ls
   pub most-lines : l + length ls < 202
 
--- the end
-end-passed :
-    (m : ℕ) (w : List ℕ) → firstFault (faultsFrom m w []) ≡ accepted tt → (startsLine w and 1 <? lineOf w) ≡ true
-unfolding faultsFrom endFaults
-end-passed m w e = ⊎-elim
-    (λ (t : (startsLine w and 1 <? lineOf w) ≡ true). t)
-    (λ (t : (startsLine w and 1 <? lineOf w) ≡ false).
-    absurd (clash (ap not t) (no-fault _ _ _ (no-fault _ _ _ e .1) .0)))
-    (decide (startsLine w and 1 <? lineOf w))
-
 no-end : {m l k : ℕ} {w : List ℕ} → Open m l k w [] → ⊥
 no-end {m} {l} {k} {w} o = ⊎-elim
     (λ (h : 0 < 0). omega arith)
     (λ (e : (startsLine w and 1 <? lineOf w) ≡ false). clash (end-passed m w (o .accepted-is)) e)
     (o .live)
-
--- what a byte in its place is
-record InPlace (m : ℕ) (w : List ℕ) (b : ℕ) : Type 0 where
-  known : (isDigit b or b =? comma or b =? cr or b =? lf) ≡ true
-  after-cr : (afterCr w and not (b =? lf)) ≡ false
-  feed : (b =? lf and not (afterCr w)) ≡ false
-  not-missing : ((b =? comma or b =? cr) and isMissing w) ≡ false
-  not-many : (b =? comma and fieldOf w + 1 =? fieldsOf m (lineOf w)) ≡ false
-  not-few : (b =? cr and fieldOf w + 1 <? fieldsOf m (lineOf w)) ≡ false
-
-in-place : (m : ℕ) (w : List ℕ) (b : ℕ) → misplaced m w b ≡ false → InPlace m w b
-unfolding misplaced
-in-place m w b e =
-    let (e1, few) = or-no _ _ e in
-    let (e2, many) = or-no _ _ e1 in
-    let (e3, missing) = or-no _ _ e2 in
-    let (e4, feed) = or-no _ _ e3 in
-    let (other, after) = or-no _ _ e4 in
-    record {
-      known = not-no _ other;
-      after-cr = after;
-      feed = feed;
-      not-missing = missing;
-      not-many = many;
-      not-few = few;
-    }
-  where
-    not-no : (b : Bool) → not b ≡ false → b ≡ true
-    not-no true e = refl
-    not-no false e = sym e
 
 below : (k a : ℕ) → k < a → (k + 1 =? a) ≡ false → suc k < a
 below k a h e = ⊎-elim
