@@ -32,7 +32,7 @@ use Rattle.model.specs.sheet.Lent.{tableLengths, readingFaults}
 use Rattle.model.specs.csv.Places.{isDigit, lineOf, fieldOf, digitsOf, valueOf, afterCr, startsLine}
 use Rattle.model.specs.csv.Faults.{firstFields, stations as csvStations, fieldsOf, isBid, isNarrow, mostBy, most}
 use Rattle.model.specs.csv.Faults.{tooLarge, tooMany, isMissing, misplaced, byteFaults, endFaults, faultsFrom}
-use Rattle.model.specs.csv.Faults.{csvFaults}
+use Rattle.model.specs.csv.Faults.{csvFaults, readingCsvFaults}
 use Rattle.model.specs.csv.Content.{guests as csvGuests, ending, valuesFrom, values as csvValues, value}
 use Rattle.model.specs.csv.Content.{guestField, csvTables, readCsv}
 use Rattle.model.specs.csv.Text.{moreFields, line as csvLine, lines, bidText, guestFields, laidOut}
@@ -88,6 +88,6 @@ printing-computes = tt
 unfoldable pub csv-computes : Unit {0}
 unfolding counting-computes numberOf isDigit lineOf fieldOf digitsOf valueOf afterCr startsLine firstFields csvStations
     fieldsOf isBid isNarrow mostBy most tooLarge tooMany isMissing misplaced byteFaults endFaults faultsFrom csvFaults
-    csvGuests ending valuesFrom csvValues value guestField csvTables readCsv bidAt higher digits decimal moreFields csvLine
-    lines bidText guestFields laidOut textOf
+    readingCsvFaults tableLengths csvGuests ending valuesFrom csvValues value guestField csvTables readCsv bidAt higher
+    digits decimal moreFields csvLine lines bidText guestFields laidOut textOf
 csv-computes = tt

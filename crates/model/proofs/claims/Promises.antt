@@ -95,10 +95,10 @@ places-numbered m past [] = refl
 places-numbered m past (b ∷ rest) = places-numbered m (b ∷ past) rest
 
 pub faults-numbered-from-one : FaultsNumberedFromOne
-unfolding numberedFromOne _≤?_ _and_ clearing reading readingCsv writing placing explaining joining entering clearingFaults
-    tableFaults unknownRule counts lengths listLengths values marketFaults readingFaults tableLengths sheetFaults
-    readingCsvFaults csvFaults writingFaults placingFaults placeLengths placeValues explainingFaults explainedFaults explainedLengths
-    joiningFaults pairFaults joinedLengths postingFaults bookSize outOfTurn
+unfolding numberedFromOne _≤?_ _and_ clearing reading readingCsv writing placing explaining joining entering
+    clearingFaults tableFaults unknownRule counts lengths listLengths values marketFaults readingFaults tableLengths
+    sheetFaults readingCsvFaults csvFaults writingFaults placingFaults placeLengths placeValues explainingFaults
+    explainedFaults explainedLengths joiningFaults pairFaults joinedLengths postingFaults bookSize outOfTurn
 faults-numbered-from-one = record {
   of-clearing = λ made rule t entry. refl;
   of-reading = λ s entry. numbered-both (rowsFaults s _ _) _ (rows-numbered s _ _) refl;

@@ -12,7 +12,7 @@ use Rattle.model.specs.declared.answers.Reading.{Reading}
 use Rattle.model.specs.declared.answers.Reading.the-variants.{Read}
 use Rattle.model.proofs.Promises.{was-accepted}
 use Rattle.model.proofs.Verdicts.{no-fault}
-use Rattle.model.proofs.claims.Csv.{csv-counts-within-limits}
+use Rattle.model.proofs.csv.Counts.{counts-within}
 
 -- the counts fit
 pub csv-counts :
@@ -21,5 +21,5 @@ pub csv-counts :
 unfolding answerOfReading readingCsv readingCsvFaults tableLengths
 csv-counts text entry exit answer k n m e =
     let (v, p, _) = was-accepted k (ap answerOfReading e) in
-    let w = csv-counts-within-limits text (no-fault _ _ _ v .1) in
-    (omega (arith, w .0, ap (λ p. p .0) p), omega (arith, w .2, ap (λ p. p .1) p))
+    let w = counts-within text (no-fault _ _ _ v .1) in
+    (omega (arith, w .0, ap (λ p. p .0) p), omega (arith, w .1, ap (λ p. p .1) p))

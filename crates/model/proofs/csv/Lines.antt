@@ -49,7 +49,7 @@ next-lines {m} {l} {f} {ls} g = record {
     shift : (i : ℕ) → l + suc i ≡ suc l + i
     shift i = omega arith
 
-some-fields : (m l : ℕ) → 0 < m → 0 < l → 0 < fieldsOf m l
+pub some-fields : (m l : ℕ) → 0 < m → 0 < l → 0 < fieldsOf m l
 unfolding fieldsOf
 some-fields m l some later = omega (arith, only-yes (0 <? l) m (is-lt 0 l later))
 
@@ -97,7 +97,7 @@ stations-line (x ∷ xs) rest some g = stations-fields 0 x xs rest g
 
 -- ---- a whole text
 
-start : Place [] 0 0
+pub start : Place [] 0 0
 unfolding lineOf fieldOf digitsOf afterCr
 start = record { line-is = refl; field-is = refl; no-digits = refl; no-cr = refl }
 

@@ -3,7 +3,7 @@ use Prim.Native.Nat.{ℕ, zero, suc, _+_, _*_, _-_, _/_, _%_, _≤_, _<_}
 use mathlib.Core.Bool.{true, false}
 use mathlib.Core.List.{List, [], _∷_, _++_, reverseAux, reverseAux-append}
 use mathlib.Core.Logic.{⊎-elim}
-use mathlib.Core.Path.{_≡_, refl, ap, _∙_}
+use mathlib.Core.Path.{_≡_}
 use native.Mathlib.Nat.{div-add-mod', mod-lt}
 use native.Mathlib.Omega.{arith}
 use lib.ListN.{length, getD, length-append}
@@ -36,7 +36,8 @@ numeral-digits zero x = λ p l. absurd (omega arith)
 numeral-digits (suc k) x = ⊎-elim
     (λ (t : x <? 10 ≡ true). rw t (one-digit (x % 10) low))
     (λ (t : x <? 10 ≡ false).
-    rw t (each-of-both (digits k (x / 10)) _ (λ b. isDigit b ≡ true) (numeral-digits k (x / 10)) (one-digit (x % 10) low)))
+    rw t (each-of-both (digits k (x / 10)) _ (λ b. isDigit b ≡ true) (numeral-digits k (x / 10))
+    (one-digit (x % 10) low)))
     (decide (x <? 10))
   where
     low : x % 10 < 10

@@ -5,9 +5,10 @@ use Prim.Native.String.{String, len, charAt}
 use mathlib.Core.List.{List, [], _∷_, _++_, map}
 use mathlib.Core.Path.{_≡_}
 use Rattle.model.specs.Counting.{list, joined}
-use Rattle.model.specs.Verdicts.{accepted, firstFault, numberOf}
-use Rattle.model.specs.market.Market.{regular}
-use Rattle.model.specs.csv.Faults.{csvFaults}
+use Rattle.model.specs.Verdicts.{accepted, refused, firstFault, numberOf}
+use Rattle.model.specs.market.Market.{Tables, regular}
+use Rattle.model.specs.csv.Faults.{csvFaults, readingCsvFaults}
+use Rattle.model.specs.sheet.Lent.{lentTables}
 use Rattle.model.specs.csv.Content.{readCsv}
 use Rattle.model.specs.csv.Text.{textOf}
 use Rattle.model.specs.cases.Cases.{tableI, pair, caseE}
@@ -32,19 +33,28 @@ expectedOf (_, k) = k
 unfoldable pub csvE : List ℕ
 csvE = bytes "2,6\r\n1,1\r\n1,3,8,\r\n2,3,8,\r\n"
 
+-- neither is accepted by the clearing: an ask above 1,000,000, bays of 0
+unfoldable pub marketWidest : Tables
+marketWidest = regular (4_294_967_295 ∷ []) (65_535 ∷ []) (65_535 ∷ []) (4_294_967_295 ∷ []) (4_294_967_295 ∷ [])
+
+unfoldable pub marketZeros : Tables
+marketZeros = regular (0 ∷ 5 ∷ []) (1 ∷ 0 ∷ []) (7 ∷ 0 ∷ []) (0 ∷ 9 ∷ []) (0 ∷ 0 ∷ 3 ∷ 0 ∷ [])
+
 pub record CsvMarketsRead : Type 0 where
   pub case-e : readCsv csvE ≡ accepted caseE
   pub no-guests : readCsv (bytes "2,6\r\n1,1\r\n") ≡ accepted (pair [] [])
-  pub widest : readCsv (bytes "4294967295\r\n65535\r\n4294967295,65535,4294967295\r\n")
-      ≡ accepted (regular (4_294_967_295 ∷ []) (65_535 ∷ []) (65_535 ∷ []) (4_294_967_295 ∷ []) (4_294_967_295 ∷ []))
+  pub widest : readCsv (bytes "4294967295\r\n65535\r\n4294967295,65535,4294967295\r\n") ≡ accepted marketWidest
   pub zeros : readCsv (bytes "0000000000,05\r\n0000000001,0\r\n0,0000000007,,\r\n0000000009,0,0000000003,0\r\n")
-      ≡ accepted (regular (0 ∷ 5 ∷ []) (1 ∷ 0 ∷ []) (7 ∷ 0 ∷ []) (0 ∷ 9 ∷ []) (0 ∷ 0 ∷ 3 ∷ 0 ∷ []))
+      ≡ accepted marketZeros
 
--- texts that are written, and read again: case E, Table I, no guests, nine stations with a bid at the ninth alone
-pub record CsvMarketsWritten : Type 0 where
+-- texts that lay markets out, and are read again
+unfoldable pub laidOutMarkets : List Tables
+laidOutMarkets = caseE ∷ tableI ∷ pair [] [] ∷ marketNine ∷ marketWidest ∷ marketZeros ∷ []
+
+pub record CsvMarketsLaidOut : Type 0 where
   pub case-e : textOf caseE ≡ csvE
-  pub again : map (λ t. readCsv (textOf t)) (caseE ∷ tableI ∷ pair [] [] ∷ marketNine ∷ [])
-      ≡ map accepted (caseE ∷ tableI ∷ pair [] [] ∷ marketNine ∷ [])
+  pub zeros : textOf marketZeros ≡ bytes "0,5\r\n1,0\r\n0,7,,\r\n9,0,3,\r\n"
+  pub again : map (λ t. readCsv (textOf t)) laidOutMarkets ≡ map accepted laidOutMarkets
 
 -- ---- refusals
 
@@ -109,6 +119,13 @@ guestCases =
     ∷ (manyGuests ++ bytes "\n", 2) ∷ (manyGuests ++ bytes ",", 2) ∷ (manyGuests ++ bytes "\0", 2)
     ∷ (bytes "1\r\n1\r\n" ++ (times 199 "1,1,\r\n" ++ bytes "1,1,\rx"), 22) ∷ []
 
+-- 10 before everything: no lent tables at all, and no text, one that has another fault, one that states a market
+abbrev pub CsvLengthsRefused : Type 0
+CsvLengthsRefused =
+    map (λ text. firstFault (readingCsvFaults (lentTables [] [] [] [] []) text))
+    (bytes "" ∷ bytes "00000000000" ∷ csvE ∷ [])
+    ≡ (refused 10 ∷ refused 10 ∷ refused 10 ∷ [])
+
 abbrev pub AllAsExpected : List (List ℕ × ℕ) → Type 0
 AllAsExpected cases = map numberFor cases ≡ map expectedOf cases
 
@@ -119,3 +136,4 @@ pub record CsvRefused : Type 0 where
   pub sizes : AllAsExpected sizeCases
   pub stations : AllAsExpected stationCases
   pub guests : AllAsExpected guestCases
+  pub lengths : CsvLengthsRefused

@@ -30,13 +30,17 @@ unfoldable pub lines : List (List (List ℕ)) → List ℕ
 lines [] = []
 lines (fields ∷ rest) = line fields ++ lines rest
 
+abbrev pub fieldAt : List (List (List ℕ)) → (l k : ℕ) → List ℕ
+fieldAt fields l k = getD (getD fields l []) k []
+
 -- ---- the texts that state t
 
--- a field of line l at place k: digits alone, at most ten of them, none only for a bid, and a value within its table's
--- width
+-- the number in a field, read from its first digit to its last; 0 for none
 unfoldable pub numberIn : List ℕ → ℕ
 numberIn x = valueOf (reverse x)
 
+-- field k of line l is good: digits alone, at most ten of them, none only for a bid, and a value within its table's
+-- width
 pub record GoodField (l k : ℕ) (x : List ℕ) : Type 0 where
   pub digits-only : (p : ℕ) → p < length x → isDigit (getD x p 0) ≡ true
   pub ten-most : length x ≤ 10
@@ -56,7 +60,7 @@ pub record StatesCsv (text : List ℕ) (t : Tables) : Type 0 where
   pub fields : List (List (List ℕ))
   pub is : text ≡ lines fields
   pub numbers-are : map (map numberIn) fields ≡ numbersOf t
-  pub good : (l k : ℕ) → l < length fields → k < length (getD fields l []) → GoodField l k (getD (getD fields l []) k [])
+  pub good : (l k : ℕ) → l < length fields → k < length (getD fields l []) → GoodField l k (fieldAt fields l k)
 
 -- ---- the one that lays t out: no leading zeros, an empty field for a bid of 0
 
