@@ -1,4 +1,4 @@
--- A written text is what `print_page` promises of a sheet.
+-- A written text is what `print_page` promises of a market in its layout.
 use Prim.Native.Nat.{ℕ, _*_, _≤_}
 use mathlib.Core.List.{List}
 use mathlib.Core.Path.{_≡_, sym, ap, _∙_}
@@ -16,6 +16,18 @@ use Rattle.model.specs.contracts.Prints.{Prints}
 use Rattle.report.proofs.printing.Printing.{prints, length-refusal}
 use Rattle.model.specs.text.Printed.{readText, printed}
 use Rattle.model.specs.declared.page.Page.{Page}
+
+-- ---- what either reader leaves
+
+module _
+    (of : Layout) (bytes : List ℕ) (entry exit : LentTables) (r : Reading) (k : ReadsAs of bytes entry r exit) where
+  pub tables-read : (n m : ℕ) → r ≡ Read n m → ReadTables (readAs of bytes) n m exit
+  unfolding ReadsAs readAs
+  tables-read = by of k
+    where
+      by : (x : Layout) → ReadsAs x bytes entry r exit → (n m : ℕ) → r ≡ Read n m → ReadTables (readAs x bytes) n m exit
+      by Sheet k = read-tables bytes entry exit r k
+      by Csv k = read-csv-tables bytes entry exit r k
 
 pub prints-fault :
     {l l′ : List ℕ} {q : ℕ} (asked : Page) (s : List ℕ) (x : ℕ) → readSheet s ≡ refused x

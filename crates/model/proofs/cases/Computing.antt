@@ -41,7 +41,7 @@ use Rattle.model.specs.text.Decimal.{higher, digits, decimal, field}
 use Rattle.model.specs.text.Lines.{guestLine, stationLine, guestLines, stationLines}
 use Rattle.model.specs.text.Text.{text, refusalText}
 use Rattle.model.specs.text.MarketText.{marketText, marketTextOf, sheetPage, sheetPageOf, pageOf}
-use Rattle.model.specs.text.Printed.{readText, printed}
+use Rattle.model.specs.text.Printed.{readText, readAs, printed}
 
 unfoldable pub counting-computes : Unit {0}
 unfolding _<?_ _≤?_ _=?_ _and_ _or_ only sum greatest count some any list joined firstFault giving updated
@@ -80,14 +80,15 @@ unfolding counting-computes outside counts difference squaredDistance walk bidBe
     placedBids placeLengths placeValues placingFaults
 placing-computes = tt
 
-unfoldable pub printing-computes : Unit {0}
-unfolding clearing-computes reading-computes writing-computes higher digits decimal field guestLine stationLine
-    guestLines stationLines text refusalText marketText marketTextOf sheetPage sheetPageOf pageOf readText printed
-printing-computes = tt
-
 unfoldable pub csv-computes : Unit {0}
 unfolding counting-computes numberOf isDigit lineOf fieldOf digitsOf valueOf afterCr startsLine firstFields csvStations
     fieldsOf isBid isNarrow mostBy most tooLarge tooMany isMissing misplaced byteFaults endFaults faultsFrom csvFaults
     readingCsvFaults tableLengths csvGuests ending valuesFrom csvValues value guestField csvTables readCsv bidAt higher
     digits decimal moreFields csvLine lines bidText guestFields laidOut textOf
 csv-computes = tt
+
+unfoldable pub printing-computes : Unit {0}
+unfolding clearing-computes reading-computes csv-computes writing-computes higher digits decimal field guestLine
+    stationLine guestLines stationLines text refusalText marketText marketTextOf sheetPage sheetPageOf pageOf readText
+    readAs printed
+printing-computes = tt
