@@ -4,5 +4,6 @@ mod gates;
 mod places;
 mod post;
 mod read;
+mod read_csv;
 mod reasons;
 mod write;

@@ -1,13 +1,15 @@
 -- What the arguments ask for, case by case.
 use Prim.Native.Nat.{ℕ, zero, suc, _-_}
-use mathlib.Core.Bool.{Bool, true, false}
+use mathlib.Core.Bool.{Bool, true, false, cond}
 use mathlib.Core.List.{List, [], _∷_}
-use mathlib.Core.Path.{_≡_, refl, subst}
+use mathlib.Core.Path.{_≡_, refl, sym, subst, _∙_}
 use native.Mathlib.Omega.{arith}
 use lib.ListN.{take}
 use Rattle.model.specs.Counting.{_=?_}
-use Rattle.model.specs.text.Asked.{quietWord, whyWord, writeWord, ruleWord, oneWord, twoWord, _spells_, ruleSpelt}
-use Rattle.model.specs.text.Asked.{ruleAsked, byRule, sheetAsked, asked}
+use Rattle.model.specs.text.Asked.{csvWord, quietWord, whyWord, writeWord, ruleWord, oneWord, twoWord, _spells_}
+use Rattle.model.specs.text.Asked.{ruleSpelt, ruleAsked, byRule, sheetAsked, pageAsked, asked}
+use Rattle.model.specs.declared.page.Layout.{Layout}
+use Rattle.model.specs.declared.page.Layout.the-variants as layout
 use Rattle.model.specs.declared.page.Page.the-variants as page
 use Rattle.model.specs.declared.page.Asked.{Asked}
 use Rattle.model.specs.declared.page.Asked.the-variants.{For, Nothing}
@@ -85,58 +87,99 @@ is-rule k option number z e s = rw (z, e) s
 -- ---- the page
 
 pub page-is :
-    {kind : Kind} {named : NamedRule} {rule : Rule} (k : Kind) → kind ≡ k → named ≡ Known rule
-    → For (pageOf k rule) ≡ byRule (pageOf kind) named
+    {of : Layout} {kind : Kind} {named : NamedRule} {rule : Rule} (k : Kind) → kind ≡ k → named ≡ Known rule
+    → For of (pageOf k rule) ≡ byRule of (pageOf kind) named
 unfolding byRule
 page-is k e f = rw (e, f) refl
 
-pub no-page : (kind : Kind) {named : NamedRule} → named ≡ Unknown → Nothing ≡ byRule (pageOf kind) named
+pub no-page :
+    (of : Layout) (kind : Kind) {named : NamedRule} → named ≡ Unknown → Nothing ≡ byRule of (pageOf kind) named
 unfolding byRule
-no-page kind e = rw e refl
+no-page of kind e = rw e refl
 
 one-less : (k : ℕ) → suc k - 1 ≡ k
 one-less k = omega arith
 
-module _ (a b c : List ℕ) where
+module _ (of : Layout) (a b c : List ℕ) where
   abbrev line : ℕ → List (List ℕ)
   line k = take k (a ∷ b ∷ c ∷ [] ∷ [])
 
-  pub asks-none : {r : Asked} {k : ℕ} → k ≡ 0 → r ≡ byRule page.Clearing (Known Median) → r ≡ asked (line k)
-  unfolding asked ruleAsked
+  pub asks-none : {r : Asked} {k : ℕ} → k ≡ 0 → r ≡ byRule of page.Clearing (Known Median) → r ≡ pageAsked of (line k)
+  unfolding pageAsked ruleAsked
   asks-none z e = rw z e
 
   pub asks-quiet :
       {r : Asked} (k : ℕ) → (k ≡ 0 → ⊥) → a spells quietWord ≡ true
-      → r ≡ byRule page.Efficient (ruleAsked (after (k - 1) b c)) → r ≡ asked (line k)
-  unfolding asked
+      → r ≡ byRule of page.Efficient (ruleAsked (after (k - 1) b c)) → r ≡ pageAsked of (line k)
+  unfolding pageAsked
   asks-quiet zero n q e = absurd (n refl)
   asks-quiet (suc k) n q e = rw q (rw (one-less k) at e)
 
   module _ (q : a spells quietWord ≡ false) where
     pub asks-why :
         {r : Asked} (k : ℕ) → (k ≡ 0 → ⊥) → a spells whyWord ≡ true
-        → r ≡ byRule page.Reasons (ruleAsked (after (k - 1) b c)) → r ≡ asked (line k)
-    unfolding asked
+        → r ≡ byRule of page.Reasons (ruleAsked (after (k - 1) b c)) → r ≡ pageAsked of (line k)
+    unfolding pageAsked
     asks-why zero n w e = absurd (n refl)
     asks-why (suc k) n w e = rw (q, w) (rw (one-less k) at e)
 
     module _ (w : a spells whyWord ≡ false) where
-      pub asks-sheet : {k : ℕ} → a spells writeWord ≡ true → k ≡ 1 → For page.Sheet ≡ asked (line k)
-      unfolding asked sheetAsked
+      pub asks-sheet : {k : ℕ} → a spells writeWord ≡ true → k ≡ 1 → For of page.Sheet ≡ pageAsked of (line k)
+      unfolding pageAsked sheetAsked
       asks-sheet s z = rw (z, q, w, s) refl
 
       pub asks-more :
-          (k : ℕ) → a spells writeWord ≡ true → (k ≡ 0 → ⊥) → (k ≡ 1 → ⊥) → Nothing ≡ asked (line k)
-      unfolding asked sheetAsked
+          (k : ℕ) → a spells writeWord ≡ true → (k ≡ 0 → ⊥) → (k ≡ 1 → ⊥) → Nothing ≡ pageAsked of (line k)
+      unfolding pageAsked sheetAsked
       asks-more zero s n m = absurd (n refl)
       asks-more (suc zero) s n m = absurd (m refl)
       asks-more (suc (suc k)) s n m = rw (q, w, s) refl
 
       pub asks-clearing :
           {r : Asked} (k : ℕ) → (k ≡ 0 → ⊥) → a spells writeWord ≡ false
-          → r ≡ byRule page.Clearing (ruleAsked (after k a b)) → r ≡ asked (line k)
-      unfolding asked ruleAsked
+          → r ≡ byRule of page.Clearing (ruleAsked (after k a b)) → r ≡ pageAsked of (line k)
+      unfolding pageAsked ruleAsked
       asks-clearing zero n s e = absurd (n refl)
       asks-clearing (suc zero) n s e = rw (q, w, s) e
       asks-clearing (suc (suc zero)) n s e = rw (q, w, s) e
       asks-clearing (suc (suc (suc k))) n s e = rw (q, w, s) e
+
+-- ---- the layout
+
+either : {A : Type 0} (test : Bool) {x y z : A} → x ≡ z → y ≡ z → cond test x y ≡ z
+either true h k = h
+either false h k = k
+
+-- more than three words name no page
+too-many :
+    (of : Layout) (a b c d : List ℕ) (rest : List (List ℕ)) → pageAsked of (a ∷ b ∷ c ∷ d ∷ rest) ≡ Nothing
+unfolding pageAsked byRule ruleAsked sheetAsked
+too-many of a b c d rest =
+    either (a spells quietWord) refl (either (a spells whyWord) refl (either (a spells writeWord) refl refl))
+
+module _ (a b c d : List ℕ) where
+  abbrev words : ℕ → List (List ℕ)
+  words k = take k (a ∷ b ∷ c ∷ d ∷ [] ∷ [])
+
+  pub all-none :
+      {r : Asked} {k : ℕ} → k ≡ 0 → r ≡ pageAsked layout.Sheet (line layout.Sheet a b c 0) → r ≡ asked (words k)
+  unfolding asked
+  all-none z e = rw z e
+
+  pub all-csv :
+      {r : Asked} (k : ℕ) → (k ≡ 0 → ⊥) → a spells csvWord ≡ true
+      → r ≡ pageAsked layout.Csv (line layout.Csv b c d (k - 1)) → r ≡ asked (words k)
+  unfolding asked
+  all-csv zero n w e = absurd (n refl)
+  all-csv (suc k) n w e = rw w (rw (one-less k) at e)
+
+  pub all-sheet :
+      {r : Asked} (k : ℕ) → (k ≡ 0 → ⊥) → a spells csvWord ≡ false
+      → r ≡ pageAsked layout.Sheet (line layout.Sheet a b c k) → r ≡ asked (words k)
+  unfolding asked
+  all-sheet zero n w e = absurd (n refl)
+  all-sheet (suc zero) n w e = rw w e
+  all-sheet (suc (suc zero)) n w e = rw w e
+  all-sheet (suc (suc (suc zero))) n w e = rw w e
+  all-sheet (suc (suc (suc (suc k)))) n w e =
+      rw w (e ∙ too-many layout.Sheet a b c [] _ ∙ sym (too-many layout.Sheet a b c d _))

@@ -1,5 +1,6 @@
 pub mod Cases
 pub mod Computing
+pub mod Csv
 pub mod Example
 pub mod Gates
 pub mod GatesInstance

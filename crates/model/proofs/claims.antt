@@ -1,5 +1,6 @@
 pub mod Asked
 pub mod Calls
+pub mod Csv
 pub mod Efficient
 pub mod Existence
 pub mod Gates

@@ -21,6 +21,7 @@ use Rattle.model.specs.declared.refusal.Refusal.the-variants.{LentLength
 use Rattle.model.specs.declared.refusal.Refusal.the-variants.{BookSize, OutputTooShort, TicketsRepeat}
 use Rattle.model.specs.declared.refusal.Refusal.the-variants.{CellOffGrid, PriceOrFallOutOfRange, UnknownRule}
 use Rattle.model.specs.declared.refusal.Refusal.the-variants.{EmptyBid, StationsDiffer, TicketInBoth}
+use Rattle.model.specs.declared.refusal.Refusal.the-variants.{MalformedText, FieldTooLarge}
 
 abbrev pub number : Refusal → ℕ
 number SheetEnds = 1
@@ -44,6 +45,8 @@ number UnknownRule = 18
 number EmptyBid = 19
 number StationsDiffer = 20
 number TicketInBoth = 21
+number MalformedText = 22
+number FieldTooLarge = 23
 
 -- of the reader: n and m
 unfoldable pub answerOfReading : Reading → Answer (ℕ × ℕ)

@@ -1,4 +1,5 @@
 pub mod Calls
+pub mod Csv
 pub mod Efficient
 pub mod Gates
 pub mod Meaning

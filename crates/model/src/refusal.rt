@@ -25,6 +25,8 @@ pub enum Refusal {
     EmptyBid,
     StationsDiffer,
     TicketInBoth,
+    MalformedText,
+    FieldTooLarge,
 }
 
 impl Refusal {
@@ -54,6 +56,8 @@ impl Refusal {
             Refusal::EmptyBid => 19,
             Refusal::StationsDiffer => 20,
             Refusal::TicketInBoth => 21,
+            Refusal::MalformedText => 22,
+            Refusal::FieldTooLarge => 23,
         }
     }
 }

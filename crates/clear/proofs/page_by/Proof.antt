@@ -20,4 +20,4 @@ returns-4 c = page-is Reasons (c .enum-told4 .given .1) (c .before .before .befo
 pub page-by-spec : {M : Type 1} → statement M
 page-by-spec =
     tie.close (tie.spec (λ c. search needs) (λ c. search needs) (λ c. search needs) (λ c. search needs)
-    (λ c. search needs) (λ c. no-page _ (c .enum-told .given .1)) returns-2 returns-3 returns-4)
+    (λ c. search needs) (λ c. no-page _ _ (c .enum-told .given .1)) returns-2 returns-3 returns-4)

@@ -2,7 +2,7 @@
 use Rattle.model.specs.Counting.{_<?_, _≤?_, _=?_, _and_, _or_, only, sum, greatest, count, some, any, list}
 use Rattle.model.specs.Counting.{joined}
 use Rattle.model.specs.Numbers.{answerOfClearing}
-use Rattle.model.specs.Verdicts.{firstFault, giving, updated}
+use Rattle.model.specs.Verdicts.{firstFault, giving, updated, numberOf}
 use Rattle.model.specs.market.Market.{bidAt, marketBy, market, cut, opens, screen, queue}
 use Rattle.model.specs.market.Market.{before, rank, provisional, critical}
 use Rattle.model.specs.market.Rules.{median, twoThirds, position, named, isUnknown, ruleIn}
@@ -29,11 +29,19 @@ use Rattle.model.specs.places.Bids.{difference, squaredDistance, walk, b
 use Rattle.model.specs.places.Bids.{placedBid, placedBids}
 use Rattle.model.specs.places.Faults.{placeLengths, placeValues, placingFaults}
 use Rattle.model.specs.sheet.Lent.{tableLengths, readingFaults}
+use Rattle.model.specs.csv.Places.{isDigit, lineOf, fieldOf, digitsOf, valueOf, afterCr, startsLine}
+use Rattle.model.specs.csv.Faults.{firstFields, stations as csvStations, fieldsOf, isBid, isNarrow, mostBy, most}
+use Rattle.model.specs.csv.Faults.{tooLarge, tooMany, isMissing, misplaced, byteFaults, endFaults, faultsFrom}
+use Rattle.model.specs.csv.Faults.{csvFaults, readingCsvFaults}
+use Rattle.model.specs.csv.Content.{guests as csvGuests, ending, valuesFrom, values as csvValues, value}
+use Rattle.model.specs.csv.Content.{guestField, csvTables, readCsv}
+use Rattle.model.specs.csv.Text.{moreFields, line as csvLine, lines, bidText, guestFields, laidOut}
+use Rattle.model.specs.csv.Text.{textOf}
 use Rattle.model.specs.text.Decimal.{higher, digits, decimal, field}
 use Rattle.model.specs.text.Lines.{guestLine, stationLine, guestLines, stationLines}
 use Rattle.model.specs.text.Text.{text, refusalText}
 use Rattle.model.specs.text.MarketText.{marketText, marketTextOf, sheetPage, sheetPageOf, pageOf}
-use Rattle.model.specs.text.Printed.{readText, printed}
+use Rattle.model.specs.text.Printed.{readText, readAs, printed}
 
 unfoldable pub counting-computes : Unit {0}
 unfolding _<?_ _≤?_ _=?_ _and_ _or_ only sum greatest count some any list joined firstFault giving updated
@@ -72,7 +80,15 @@ unfolding counting-computes outside counts difference squaredDistance walk bidBe
     placedBids placeLengths placeValues placingFaults
 placing-computes = tt
 
+unfoldable pub csv-computes : Unit {0}
+unfolding counting-computes numberOf isDigit lineOf fieldOf digitsOf valueOf afterCr startsLine firstFields csvStations
+    fieldsOf isBid isNarrow mostBy most tooLarge tooMany isMissing misplaced byteFaults endFaults faultsFrom csvFaults
+    readingCsvFaults tableLengths csvGuests ending valuesFrom csvValues value guestField csvTables readCsv bidAt higher
+    digits decimal moreFields csvLine lines bidText guestFields laidOut textOf
+csv-computes = tt
+
 unfoldable pub printing-computes : Unit {0}
-unfolding clearing-computes reading-computes writing-computes higher digits decimal field guestLine stationLine
-    guestLines stationLines text refusalText marketText marketTextOf sheetPage sheetPageOf pageOf readText printed
+unfolding clearing-computes reading-computes csv-computes writing-computes higher digits decimal field guestLine
+    stationLine guestLines stationLines text refusalText marketText marketTextOf sheetPage sheetPageOf pageOf readText
+    readAs printed
 printing-computes = tt

@@ -9,8 +9,8 @@ use Rattle.model.specs.Verdicts.{Row, _gives_, Verdict, accepted, refuse
 use Rattle.model.specs.claims.Promises.{RefusedLeaves, PromiseDetermines, ExportDetermines, PromiseCanBeKept}
 use Rattle.model.specs.claims.Promises.{RefusedExportLeaves, ExportCanKeep, numberedFromOne, ZeroIsAccepted}
 use Rattle.model.specs.claims.Promises.{FaultsNumberedFromOne}
-use Rattle.model.specs.contracts.EntryPoints.{clearing, reading, writing, placing, explaining, joining}
-use Rattle.model.specs.contracts.EntryPoints.{entering}
+use Rattle.model.specs.contracts.EntryPoints.{clearing, reading, readingCsv, writing, placing, explaining}
+use Rattle.model.specs.contracts.EntryPoints.{joining, entering}
 use Rattle.model.specs.market.Faults.{unknownRule, counts, lengths, listLengths, values, marketFaults}
 use Rattle.model.specs.market.Faults.{tableFaults, clearingFaults, explainedLengths, explainedFaults}
 use Rattle.model.specs.market.Faults.{explainingFaults}
@@ -19,6 +19,7 @@ use Rattle.model.specs.sheet.Content.{sheetFaults}
 use Rattle.model.specs.sheet.Lent.{tableLengths, readingFaults}
 use Rattle.model.specs.sheet.Rows.{bidFaults, bidsFaults, rowFaults, rowsFaults}
 use Rattle.model.specs.sheet.Shortest.{writingFaults}
+use Rattle.model.specs.csv.Faults.{byteFaults, endFaults, faultsFrom, csvFaults, readingCsvFaults}
 use Rattle.model.specs.places.Faults.{placeLengths, placeValues, placingFaults}
 use Rattle.model.specs.book.PlainBook.{bookSize, outOfTurn, postingFaults}
 use Rattle.model.proofs.Tests.{both, first, second, le-yes}
@@ -88,14 +89,20 @@ rows-numbered : (s : List ℕ) (m n : ℕ) → numberedFromOne (rowsFaults s m n
 unfolding numberedFromOne _≤?_ _and_ rowsFaults rowFaults
 rows-numbered s m n = numbered-all n _ (λ i. bids-numbered s _ _)
 
+places-numbered : (m : ℕ) (past rest : List ℕ) → numberedFromOne (faultsFrom m past rest) ≡ true
+unfolding numberedFromOne _≤?_ _and_ faultsFrom byteFaults endFaults
+places-numbered m past [] = refl
+places-numbered m past (b ∷ rest) = places-numbered m (b ∷ past) rest
+
 pub faults-numbered-from-one : FaultsNumberedFromOne
-unfolding numberedFromOne _≤?_ _and_ clearing reading writing placing explaining joining entering clearingFaults
-    tableFaults unknownRule counts lengths listLengths values marketFaults readingFaults tableLengths sheetFaults
-    writingFaults placingFaults placeLengths placeValues explainingFaults explainedFaults explainedLengths
-    joiningFaults pairFaults joinedLengths postingFaults bookSize outOfTurn
+unfolding numberedFromOne _≤?_ _and_ clearing reading readingCsv writing placing explaining joining entering
+    clearingFaults tableFaults unknownRule counts lengths listLengths values marketFaults readingFaults tableLengths
+    sheetFaults readingCsvFaults csvFaults writingFaults placingFaults placeLengths placeValues explainingFaults
+    explainedFaults explainedLengths joiningFaults pairFaults joinedLengths postingFaults bookSize outOfTurn
 faults-numbered-from-one = record {
   of-clearing = λ made rule t entry. refl;
   of-reading = λ s entry. numbered-both (rowsFaults s _ _) _ (rows-numbered s _ _) refl;
+  of-reading-csv = λ text entry. places-numbered _ [] text;
   of-writing = λ t entry. refl;
   of-placing = λ p entry. refl;
   of-explaining = λ rule t entry. refl;

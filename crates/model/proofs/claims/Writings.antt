@@ -50,7 +50,7 @@ gave t s g =
 
 -- ---- what a call of `read` took
 
-market-filled :
+pub market-filled :
     (t : Tables) (l : LentTables) (n m : ℕ) → n ≡ length (t .amounts) → m ≡ length (t .asks)
     → length (t .tickets) ≡ length (t .amounts) → length (t .bays) ≡ length (t .asks)
     → length (t .bids) ≡ length (t .amounts) * length (t .asks) → t .width ≡ length (t .asks)

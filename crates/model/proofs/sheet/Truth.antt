@@ -31,12 +31,12 @@ use Rattle.model.proofs.sheet.Stated.{n, m, Fields, row-suc, fields-lay
 
 -- ---- lists by their places
 
-list-is : (n : ℕ) (f : ℕ → ℕ) (l : List ℕ) → length l ≡ n → ((k : ℕ) → k < n → f k ≡ getD l k 0) → list n f ≡ l
+pub list-is : (n : ℕ) (f : ℕ → ℕ) (l : List ℕ) → length l ≡ n → ((k : ℕ) → k < n → f k ≡ getD l k 0) → list n f ≡ l
 list-is n f l e h =
     ext-getD 0 (list n f) l (length-list n f ∙ sym e)
     (λ k b. let c : k < n = omega (arith, length-list n f) in getD-list n f k c ∙ h k c)
 
-joined-is :
+pub joined-is :
     (n m : ℕ) (f : ℕ → ℕ → ℕ) (l : List ℕ) → 0 < m → length l ≡ n * m
     → ((i j : ℕ) → i < n → j < m → f i j ≡ getD l (i * m + j) 0) → joined n (λ i. list m (f i)) ≡ l
 joined-is n m f l z e h = ext-getD 0 (joined n (λ i. list m (f i))) l (joined-length n m f ∙ sym e) (λ k b.

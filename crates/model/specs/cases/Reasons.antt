@@ -12,6 +12,7 @@ use Rattle.model.specs.cases.Sheets.{sheetE}
 use Rattle.model.specs.market.Reasons.{codes, outcomeTable, guestOutcomes}
 use Rattle.model.specs.text.Printed.{printed}
 use Rattle.model.specs.declared.rule.Rule.the-variants.{Median, TwoThirds}
+use Rattle.model.specs.declared.page.Layout.the-variants as layout
 use Rattle.model.specs.declared.page.Page.the-variants.{Reasons}
 
 -- guest 1 wins station 1 charge 24
@@ -42,7 +43,7 @@ pub record ReasonsHold : Type 0 where
       ≡ outcomeTable (4 ∷ 0 ∷ 2 ∷ 0 ∷ 0 ∷ []) (15 ∷ 0 ∷ 18 ∷ 0 ∷ 0 ∷ []) (0 ∷ 3 ∷ 0 ∷ 4 ∷ 4 ∷ [])
   pub codes-e : codes Median caseE ≡ 0 ∷ 1 ∷ 4 ∷ 1 ∷ []
   pub outcomes-e : guestOutcomes Median caseE ≡ outcomeTable (1 ∷ 0 ∷ []) (24 ∷ 0 ∷ []) (0 ∷ 4 ∷ [])
-  pub page-e : printed (Reasons Median) 38 sheetE ≡ reasonsE
+  pub page-e : printed layout.Sheet (Reasons Median) 38 sheetE ≡ reasonsE
   pub codes-rule-1 : codes Median sixTwice ≡ 0 ∷ 1 ∷ 1 ∷ 2 ∷ 1 ∷ 1 ∷ []
   pub outcomes-rule-1 : guestOutcomes Median sixTwice ≡ outcomeTable (1 ∷ []) (4 ∷ []) (0 ∷ [])
   pub codes-rule-2 : codes TwoThirds sixTwice ≡ 3 ∷ 1 ∷ 1 ∷ 0 ∷ 1 ∷ 1 ∷ []

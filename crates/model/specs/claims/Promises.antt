@@ -6,8 +6,8 @@ use mathlib.Core.Path.{_≡_}
 use Rattle.model.specs.Counting.{_≤?_, _and_}
 use Rattle.model.specs.Promises.{Promise, Keeps, KeepsOut}
 use Rattle.model.specs.Verdicts.{Answer, accepted, refused, Row, _gives_, firstFault}
-use Rattle.model.specs.contracts.EntryPoints.{clearing, reading, writing, placing, explaining, joining}
-use Rattle.model.specs.contracts.EntryPoints.{entering}
+use Rattle.model.specs.contracts.EntryPoints.{clearing, reading, readingCsv, writing, placing, explaining}
+use Rattle.model.specs.contracts.EntryPoints.{joining, entering}
 use Rattle.model.specs.market.Market.{Tables}
 use Rattle.model.specs.market.Outcome.{Results, Outcome}
 use Rattle.model.specs.market.Reasons.{Explanation}
@@ -72,6 +72,7 @@ pub record FaultsNumberedFromOne : Type 0 where
       (made : Rule → Tables → Outcome) (rule : ℕ) (t : Tables) (entry : Results)
       → numberedFromOne (clearing made rule t entry .faults) ≡ true
   pub of-reading : (sheet : List ℕ) (entry : LentTables) → numberedFromOne (reading sheet entry .faults) ≡ true
+  pub of-reading-csv : (text : List ℕ) (entry : LentTables) → numberedFromOne (readingCsv text entry .faults) ≡ true
   pub of-writing : (t : Tables) (entry : List ℕ) → numberedFromOne (writing t entry .faults) ≡ true
   pub of-placing : (p : Places) (entry : List ℕ) → numberedFromOne (placing p entry .faults) ≡ true
   pub of-explaining :

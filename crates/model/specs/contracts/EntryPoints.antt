@@ -14,6 +14,8 @@ use Rattle.model.specs.market.Rules.{ruleOf}
 use Rattle.model.specs.market.Gates.{joiningFaults, joinedTables}
 use Rattle.model.specs.sheet.Content.{guests, stations, tablesOf}
 use Rattle.model.specs.sheet.Lent.{LentTables, readingFaults, filled}
+use Rattle.model.specs.csv.Content.{guests as csvGuests, csvTables}
+use Rattle.model.specs.csv.Faults.{stations as csvStations, readingCsvFaults}
 use Rattle.model.specs.sheet.Shortest.{shortest, writingFaults, written}
 use Rattle.model.specs.places.Bids.{Places, placedBids}
 use Rattle.model.specs.places.Faults.{placingFaults}
@@ -60,6 +62,18 @@ reading sheet entry = record {
 
 abbrev pub Reads : (sheet : List ℕ) (entry : LentTables) (answer : Reading) (exit : LentTables) → Type 0
 Reads sheet entry answer exit = Keeps (reading sheet) entry (answerOfReading answer) exit
+
+-- ---- `read_csv`: n and m
+
+unfoldable pub readingCsv : (text : List ℕ) (entry : LentTables) → Promise (ℕ × ℕ) LentTables
+readingCsv text entry = record {
+  faults = readingCsvFaults entry text;
+  value = (csvGuests text, csvStations text);
+  leaves = filled (csvTables text) entry;
+}
+
+abbrev pub ReadsCsv : (text : List ℕ) (entry : LentTables) (answer : Reading) (exit : LentTables) → Type 0
+ReadsCsv text entry answer exit = Keeps (readingCsv text) entry (answerOfReading answer) exit
 
 -- ---- `write`: the sheet's length
 

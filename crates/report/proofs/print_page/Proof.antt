@@ -2,16 +2,17 @@ use mathlib.Core.Path.{refl}
 use native.Mathlib.Omega.{arith}
 use borrow.Author.Needs.{needs}
 use Rattle.model.specs.sheet.Lent.{lentTables}
-use Rattle.model.proofs.contracts.Reads.{ReadTables, read-tables, read-fault, tickets-long, bays-long, bids-long}
-use Rattle.model.proofs.contracts.Reads.{room}
-use Rattle.report.proofs.Sheets.{read-part-long, part-fits, same-tables, prints-fault, prints-sheet}
+use Rattle.model.specs.text.Printed.{readAs}
+use Rattle.model.proofs.contracts.Reads.{ReadTables, tickets-long, bays-long, bids-long, room}
+use Rattle.report.proofs.Sheets.{tables-read, fault-read, read-part-long, part-fits, same-tables, prints-fault}
+use Rattle.report.proofs.Sheets.{prints-market}
 use Rattle.report.proofs.print_page.Statement.{statement}
 use Rattle.report.proofs.print_page.Tie as tie
 
-abbrev entry-before-read : tie.After-read → tie.Start
+abbrev entry-before-read : tie.After-read-as → tie.Start
 entry-before-read p = p .before .before .before .before .before .before .before .before
 
-abbrev read-before-match : tie.After-bids2 → tie.After-read
+abbrev read-before-match : tie.After-bids2 → tie.After-read-as
 read-before-match p = p .before .before .before .before .before
 
 abbrev guests-before-tickets : tie.After-tickets3 → tie.After-guests
@@ -20,13 +21,15 @@ guests-before-tickets p = p .before .before .before .before .before
 abbrev guests-before-bids : tie.After-bids3 → tie.After-guests
 guests-before-bids p = guests-before-tickets (p .before)
 
--- where the sheet was read as a market, the tables hold it
+-- where a market was read, the tables hold it
 held : (p : tie.After-guests) →
     let at-read = read-before-match (p .before .before) in
-    let exit = at-read .read .last .1 in
-    ReadTables (entry-before-read at-read .args .sheet .now) (p .guests .given .0 .0) (p .guests .given .0 .1 .0)
+    let entry = entry-before-read at-read in
+    let exit = at-read .read-as .last .1 .1 in
+    ReadTables (readAs (entry .args .layout) (entry .args .bytes .now)) (p .guests .given .0 .0)
+    (p .guests .given .0 .1 .0)
     (lentTables (exit .0) (exit .1 .0) (exit .1 .1 .0) (exit .1 .1 .1 .0) (exit .1 .1 .1 .1 .0))
-held p = read-tables _ _ _ _ (read-before-match (p .before .before) .read .ensures) _ _ (p .guests .given .1)
+held p = tables-read _ _ _ _ _ (read-before-match (p .before .before) .read-as .ensures) _ _ (p .guests .given .1)
 
 array-share-prefix-asks : tie.Need-array-share-prefix-asks
 array-share-prefix-asks c =
@@ -93,15 +96,15 @@ returns c =
     let at-refusal-text = c .before .before in
     let at-refusal = at-refusal-text .before .before .before in
     let at-read = read-before-match (at-refusal .before .before) in
-    prints-fault _ _ _
-    (read-fault _ _ _ _ (at-read .read .ensures) _ refl refl refl refl refl (at-refusal .refusal .given .1))
+    prints-fault _ _ _ _
+    (fault-read _ _ _ _ _ (at-read .read-as .ensures) _ refl refl refl refl refl (at-refusal .refusal .given .1))
     (at-refusal-text .refusal-text .ensures)
 
 returns-2 : tie.Need-returns-2
 returns-2 c =
     let at-print-market = c .before .before in
     let t = held (guests-before-bids (at-print-market .before .before)) in
-    prints-sheet _ _ _ _ (t .reads) (same-tables t) (at-print-market .print-market .ensures)
+    prints-market _ _ _ _ _ (t .reads) (same-tables t) (at-print-market .print-market .ensures)
 
 pub print-page-spec : {M : Type 1} → statement M
 print-page-spec =

@@ -1,0 +1,14 @@
+pub mod Asking
+pub mod Copies
+pub mod Ending
+pub mod Faulty
+pub mod Going
+pub mod Guesting
+pub mod Guests
+pub mod Lending
+pub mod Reaching
+pub mod Running
+pub mod Sorting
+pub mod Steps
+pub mod Takes
+pub mod Whole

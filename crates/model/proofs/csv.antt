@@ -1,0 +1,12 @@
+pub mod Counts
+pub mod Going
+pub mod Good
+pub mod LaidOut
+pub mod Lines
+pub mod Numerals
+pub mod Order
+pub mod Parsed
+pub mod Places
+pub mod Stated
+pub mod Steps
+pub mod Truth

@@ -1,0 +1,4 @@
+pub mod Content
+pub mod Faults
+pub mod Places
+pub mod Text
