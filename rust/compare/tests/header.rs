@@ -78,6 +78,7 @@ fn limits_and_version_agree() {
         ("MAX_ACCOUNT", bay_market::MAX_ACCOUNT),
         ("MAX_ROUND", bay_market::MAX_ROUND.into()),
         ("MAX_STACK", bay_market::MAX_STACK as u64),
+        ("MAX_STACK_READ_CSV", bay_market::MAX_STACK_READ_CSV as u64),
     ]);
     assert_eq!(limits, expected);
     let rules = [defined["RULE_MEDIAN"], defined["RULE_TWO_THIRDS"]].map(number);
