@@ -303,8 +303,8 @@ fn read_by(way: Way, form: Form, bytes: &[u8]) -> Result<bay_market::Market, Str
         Form::Sheet => bay_market_read,
         Form::Csv => bay_market_read_csv,
     };
-    let (amounts, tickets) = (&mut [0; MAX_GUESTS], &mut [0; MAX_GUESTS]);
-    let (asks, bays, bids) = (&mut [0; MAX_STATIONS], &mut [0; MAX_STATIONS], &mut [0; MAX_BIDS]);
+    let (amounts, tickets) = (&mut [77; MAX_GUESTS], &mut [77; MAX_GUESTS]);
+    let (asks, bays, bids) = (&mut [77; MAX_STATIONS], &mut [77; MAX_STATIONS], &mut [77; MAX_BIDS]);
     let mut tables = lent::Tables { amounts, tickets, asks, bays, bids };
     let mut counts = lent::Counts { guests: 0, stations: 0 };
     accepted(match way {
