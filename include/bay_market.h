@@ -49,7 +49,7 @@ extern "C" {
 #define BAY_MARKET_MAX_ACCOUNT UINT64_C(1000000000000000)
 #define BAY_MARKET_MAX_ROUND UINT32_C(4294967295)
 #define BAY_MARKET_MAX_STACK 16384                    /* bytes of stack that a call takes at most, but for */
-#define BAY_MARKET_MAX_STACK_READ_CSV 36864           /* bay_market_read_csv, which has tables of its own there */
+#define BAY_MARKET_MAX_STACK_READ_CSV 40960           /* bay_market_read_csv, which has tables of its own there */
 
 /*
  * The rule of a clearing, an explanation or a posting: the position, from 1, of the cut among the m asks in rising

@@ -53,7 +53,7 @@ pub const MAX_ROUND: u32 = u32::MAX;
 /// Bytes of stack that a call of the engine takes at most, but for that of [`lent::read_csv`].
 pub const MAX_STACK: usize = 16_384;
 /// Bytes of stack that the engine takes at most to read a comma-separated market.
-pub const MAX_STACK_READ_CSV: usize = 36_864;
+pub const MAX_STACK_READ_CSV: usize = 40_960;
 
 /// The rule of a clearing, an explanation or a posting: the position of the cut, from 1, among the m asks in rising
 /// order.
