@@ -46,6 +46,7 @@ extern "C" {
 #define BAY_MARKET_MAX_BAYS 200
 #define BAY_MARKET_MAX_CELL 31                        /* of a cell's coordinate; the least is 0 */
 #define BAY_MARKET_MAX_SHEET 34444                    /* bytes of the largest sheet */
+#define BAY_MARKET_MAX_TEXT 93482                     /* bytes of the longest comma-separated market */
 #define BAY_MARKET_MAX_ACCOUNT UINT64_C(1000000000000000)
 #define BAY_MARKET_MAX_ROUND UINT32_C(4294967295)
 #define BAY_MARKET_MAX_STACK 16384                    /* bytes of stack that a call takes at most, but for */

@@ -10,6 +10,9 @@
 _Static_assert(BAY_MARKET_MAX_BIDS == BAY_MARKET_MAX_GUESTS * BAY_MARKET_MAX_STATIONS, "bids");
 _Static_assert(BAY_MARKET_MAX_SHEET == 4 + 6 * BAY_MARKET_MAX_STATIONS
                + (2 + 4 + BAY_MARKET_MAX_STATIONS / 8) * BAY_MARKET_MAX_GUESTS + 4 * BAY_MARKET_MAX_BIDS, "sheet");
+/* ten digits and what ends them, CR LF at a line's end */
+_Static_assert(BAY_MARKET_MAX_TEXT == 2 * (11 * BAY_MARKET_MAX_STATIONS + 1)
+               + (11 * (2 + BAY_MARKET_MAX_STATIONS) + 1) * BAY_MARKET_MAX_GUESTS, "text");
 
 static int failures = 0;
 
@@ -504,7 +507,8 @@ static void test_null(void)
     expect(bay_market_read_csv(NULL, 0, NULL, 0, NULL, 0, NULL, 0, NULL, 0, NULL, 0, &n, &m)
            == BAY_MARKET_LENT_LENGTHS, "no tables for a text");
     expect(bay_market_read_csv(NULL, 0, amounts, BAY_MARKET_MAX_GUESTS, tickets, BAY_MARKET_MAX_GUESTS, asks,
-                               BAY_MARKET_MAX_STATIONS, bays, BAY_MARKET_MAX_STATIONS, bids, BAY_MARKET_MAX_BIDS, &n, &m)
+                               BAY_MARKET_MAX_STATIONS, bays, BAY_MARKET_MAX_STATIONS, bids, BAY_MARKET_MAX_BIDS,
+                               &n, &m)
            == BAY_MARKET_MALFORMED_TEXT, "no text");
     expect(bay_market_place_bids(NULL, 0, NULL, 0, NULL, 0, NULL, 0, &bay, 1, &bay, 1, NULL, 0) == BAY_MARKET_ACCEPTED,
            "no guests to place");

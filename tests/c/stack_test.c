@@ -10,15 +10,13 @@
 
 #define GUARD 4096
 #define PAINT 0xA5
-/* the largest text: 40 asks, 40 bays and 200 lines of 42 numbers, each of ten digits or of five, and what ends them */
-#define MAX_TEXT (40 * 11 + 40 * 6 + 200 * (11 + 6 + 40 * 11) + 202)
 
 static uint16_t amounts[BAY_MARKET_MAX_GUESTS], bays[BAY_MARKET_MAX_STATIONS], n, m;
 static uint32_t asks[BAY_MARKET_MAX_STATIONS], tickets[BAY_MARKET_MAX_GUESTS], bids[BAY_MARKET_MAX_BIDS], cut, last;
 static uint32_t prices[BAY_MARKET_MAX_GUESTS], falls[BAY_MARKET_MAX_GUESTS];
 static uint16_t guest_cells[BAY_MARKET_MAX_GUESTS], station_cells[BAY_MARKET_MAX_STATIONS];
 static uint8_t sheet[BAY_MARKET_MAX_SHEET];
-static char text[MAX_TEXT + 1];
+static char text[BAY_MARKET_MAX_TEXT + 1];
 static size_t sheet_len, text_len;
 static uint16_t stations[BAY_MARKET_MAX_GUESTS];
 static uint32_t charges[BAY_MARKET_MAX_GUESTS], sold[BAY_MARKET_MAX_STATIONS];
@@ -147,26 +145,26 @@ static void write_sheet(uint32_t spread)
     sheet_len = (size_t)(at - sheet);
 }
 
-static void put_field(unsigned long value, int width, int last)
+static void put_field(unsigned long value, int last)
 {
-    text_len += (size_t)snprintf(text + text_len, sizeof text - text_len, "%0*lu%s", width, value, last ? "\r\n" : ",");
+    text_len += (size_t)snprintf(text + text_len, sizeof text - text_len, "%010lu%s", value, last ? "\r\n" : ",");
 }
 
-/* The market of the tables as text, its fields with zeros in front. */
+/* The market of the tables as the longest text: every field has ten digits. */
 static void write_text(void)
 {
     text_len = 0;
     for (int j = 0; j < m; j++) {
-        put_field(asks[j], 10, j + 1 == m);
+        put_field(asks[j], j + 1 == m);
     }
     for (int j = 0; j < m; j++) {
-        put_field(bays[j], 5, j + 1 == m);
+        put_field(bays[j], j + 1 == m);
     }
     for (int i = 0; i < n; i++) {
-        put_field(tickets[i], 10, 0);
-        put_field(amounts[i], 5, 0);
+        put_field(tickets[i], 0);
+        put_field(amounts[i], 0);
         for (int j = 0; j < m; j++) {
-            put_field(bids[i * m + j], 10, j + 1 == m);
+            put_field(bids[i * m + j], j + 1 == m);
         }
     }
 }

@@ -47,6 +47,8 @@ pub const MAX_BAYS: u16 = 200;
 pub const MAX_CELL: u16 = 31;
 /// Bytes of the largest sheet.
 pub const MAX_SHEET: usize = 34_444;
+/// Bytes of the longest comma-separated market: every field has ten digits.
+pub const MAX_TEXT: usize = 93_482;
 /// Of an account in mills, and of a sum in kWh.
 pub const MAX_ACCOUNT: u64 = 1_000_000_000_000_000;
 pub const MAX_ROUND: u32 = u32::MAX;

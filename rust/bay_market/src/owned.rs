@@ -324,6 +324,7 @@ impl Ledger {
 #[cfg(test)]
 mod tests {
     use super::*;
+    use crate::MAX_TEXT;
 
     const SHEET_E: [u8; 38] = [
         2, 0, 2, 0, 2, 0, 0, 0, 1, 0, 6, 0, 0, 0, 1, 0, //
@@ -431,6 +432,25 @@ mod tests {
         let (amounts, tickets) = (vec![1; 200], (0..200).collect());
         let largest = Market { asks: vec![1; 40], bays: vec![1; 40], amounts, tickets, bids: vec![1; 8_000] };
         assert_eq!(largest.to_sheet().map(|sheet| sheet.len()), Ok(MAX_SHEET));
+    }
+
+    #[test]
+    fn reads_case_e_as_text() {
+        let text = "2,6\r\n1,1\r\n1,3,8,\r\n2,3,8,\r\n";
+        assert_eq!(Market::from_csv(text.as_bytes()), Ok(case_e()));
+        assert_eq!(Market::from_csv(text.replace("8,", "0000000008,0").as_bytes()), Ok(case_e()));
+        assert_eq!(Market::from_csv(text.replace('\r', "").as_bytes()), Err(Refusal::MalformedText));
+        assert_eq!(Market::from_csv(text.replace('8', "00000000008").as_bytes()), Err(Refusal::FieldTooLarge));
+        assert_eq!(Market::from_csv(&b"1,".repeat(40)), Err(Refusal::CountsOutOfRange));
+    }
+
+    #[test]
+    fn the_longest_text_is_read() {
+        let line = |count: usize| vec!["0000000001"; count].join(",") + "\r\n";
+        let text = line(40).repeat(2) + &line(42).repeat(200);
+        assert_eq!(text.len(), MAX_TEXT);
+        let read = Market::from_csv(text.as_bytes()).map(|market| (market.amounts.len(), market.bids));
+        assert_eq!(read, Ok((200, vec![1; 8_000])));
     }
 
     #[test]

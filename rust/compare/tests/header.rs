@@ -75,6 +75,7 @@ fn limits_and_version_agree() {
         ("MAX_BAYS", bay_market::MAX_BAYS.into()),
         ("MAX_CELL", bay_market::MAX_CELL.into()),
         ("MAX_SHEET", bay_market::MAX_SHEET as u64),
+        ("MAX_TEXT", bay_market::MAX_TEXT as u64),
         ("MAX_ACCOUNT", bay_market::MAX_ACCOUNT),
         ("MAX_ROUND", bay_market::MAX_ROUND.into()),
         ("MAX_STACK", bay_market::MAX_STACK as u64),

@@ -704,4 +704,8 @@ fn the_sample_files_are_current() {
         assert_eq!(std::fs::read(folder.join(format!("{name}.sheet"))).unwrap(), sheet, "{name}");
         assert_eq!(std::fs::read_to_string(folder.join(format!("{name}.txt"))).unwrap(), report::printed(1, &sheet), "{name}");
     }
+    // LibreOffice wrote it
+    let text = std::fs::read(folder.join("fleet.csv")).unwrap();
+    assert_eq!(csv::read(&text, GREATEST), Ok(samples::fleet()));
+    assert_eq!(csv::shortest(&samples::fleet()), text);
 }
