@@ -4,8 +4,8 @@
  * guests what decided a truthful round, posting one to a ledger.
  *
  * For x86-64 Linux: link libbay_market.a, or libbay_market.so. Both need memcpy and memset of the C library and
- * nothing else. Nothing is allocated; a call takes at most BAY_MARKET_MAX_STACK bytes of stack, one of
- * bay_market_read_csv alone takes more: at most BAY_MARKET_MAX_STACK_READ_CSV.
+ * nothing else. Nothing is allocated; a call takes at most BAY_MARKET_MAX_STACK bytes of stack, but for
+ * bay_market_read_csv, which takes at most BAY_MARKET_MAX_STACK_READ_CSV.
  *
  * Every function answers 0, or the number of the first fault found (enum bay_market_refusal). A call
  * that is refused has changed no lent memory. Any lengths and values may be lent; every call returns.
@@ -49,8 +49,8 @@ extern "C" {
 #define BAY_MARKET_MAX_TEXT 93482                     /* bytes of the longest comma-separated market */
 #define BAY_MARKET_MAX_ACCOUNT UINT64_C(1000000000000000)
 #define BAY_MARKET_MAX_ROUND UINT32_C(4294967295)
-#define BAY_MARKET_MAX_STACK 16384                    /* bytes of stack that a call takes at most, but for */
-#define BAY_MARKET_MAX_STACK_READ_CSV 40960           /* bay_market_read_csv, which has tables of its own there */
+#define BAY_MARKET_MAX_STACK 16384                    /* bytes of stack that a call takes at most, */
+#define BAY_MARKET_MAX_STACK_READ_CSV 40960           /* and one of bay_market_read_csv, with tables of its own */
 
 /*
  * The rule of a clearing, an explanation or a posting: the position, from 1, of the cut among the m asks in rising
@@ -168,19 +168,19 @@ uint8_t bay_market_read(const uint8_t *sheet, size_t sheet_len,
                         uint16_t *n, uint16_t *m);
 
 /*
- * Reads a comma-separated market, lines of fields of digits, into tables of the greatest size, lent IN THE ORDER of
- * bay_market_read and filled as there. The first line has the m asks, the second the m bays, each line after them a
- * guest's ticket, amount and m bids. Commas part the fields, and every line ends in CR LF, the last one too; a bid may
- * be empty, which is 0, and no other field. Digits, commas, CR and LF are the only bytes. A field has at most ten
- * digits, zeros in front included, and fits its table's type. Whether values are in range, and whether tickets repeat,
- * is the clearing's business. A call takes at most BAY_MARKET_MAX_STACK_READ_CSV bytes of stack.
+ * Reads a comma-separated market into tables of the greatest size, lent IN THE ORDER of bay_market_read and filled as
+ * there. The first line has the m asks, the second the m bays, each line after them a guest's ticket, amount and m
+ * bids. Commas part the fields, and every line ends in CR LF, the last one too; a bid may be empty, which is 0, and no
+ * other field. Digits, commas, CR and LF are the only bytes. A field has at most ten digits, zeros in front included,
+ * and fits its table's type. Whether values are in range, and whether tickets repeat, is the clearing's business. A
+ * call takes at most BAY_MARKET_MAX_STACK_READ_CSV bytes of stack.
  *
- * Refusals in this order: 10 for another table length; then those of the first place of the text, byte by byte and
- * with its end as the last place, that has one. A field ends at the first byte that is no digit, or at the end. At one
- * place 23 goes first, where a field ends that has more than ten digits or is too large for its table; then 2, at the
- * comma after the 40th ask and at the first byte of the 201st guest's line; then 22, at a byte that may not stand
- * there, at the comma that is one too many or the line end that comes too early, where an empty field ends that is no
- * bid, and at the end where a line or a line end is missing.
+ * Refusals in this order: 10 for another table length; then that of the first place of the text that has one, byte by
+ * byte, the end being the last place. A field ends at the first byte that is no digit, or at the end. At one place goes
+ * first 23, where a field ends that has more than ten digits or is too large for its table; then 2, at the comma after
+ * the 40th ask and at the first byte of the 201st guest's line; then 22, at a byte that may not stand there, at the
+ * comma that is one too many or the line end that comes too early, where an empty field ends that is no bid, and at the
+ * end where a line or a line end is missing.
  */
 uint8_t bay_market_read_csv(const uint8_t *text, size_t text_len,
                             uint16_t *amounts, size_t amounts_len,
