@@ -262,6 +262,10 @@ for fault in text refusal repeat stderr line status quiet truthful rule sheet by
     why-rule why-refusal why-clearing why-empty silent; do
     finds $fault 'differs' print
 done
+BAY_MARKET_FAULT='' "$compare" $seed print_csv >/dev/null
+for fault in csv-sheet csv-page csv-write csv-text csv-refusal csv-cut csv-lines; do
+    finds $fault 'differs' print_csv
+done
 status=0
 "$compare" $seed nothing >/dev/null 2>&1 || status=$?
 [ $status = 2 ]

@@ -60,7 +60,7 @@ fn any_field(random: &mut Random, table: Table, value: u32) -> String {
 }
 
 /// A market of any values that the tables hold.
-fn any_market(random: &mut Random, shape: &Shape) -> Market {
+pub fn any_market(random: &mut Random, shape: &Shape) -> Market {
     let mut market = shape.market(random);
     if random.chance(70) {
         return market;
@@ -79,18 +79,23 @@ fn any_market(random: &mut Random, shape: &Shape) -> Market {
     market
 }
 
-fn any_text(random: &mut Random, market: &Market) -> Vec<u8> {
+pub fn any_text(random: &mut Random, market: &Market) -> Vec<u8> {
     if random.chance(30) {
         return shortest(market);
     }
     text_of(&pieces(market, |table, value| any_field(random, table, value)))
 }
 
+/// The market's text whose fields all have ten digits.
+pub fn longest_text(market: &Market) -> Vec<u8> {
+    text_of(&pieces(market, |_, value| format!("{value:010}")))
+}
+
 /// Bytes that a text has, the neighbours of those, and others.
 const BYTES: [u8; 20] = *b"0159,\r\n\0 x-+.;/:\"\x0b\xb1\xff";
 
 /// One to three damages at random places.
-fn damaged(random: &mut Random, text: &[u8]) -> Vec<u8> {
+pub fn damaged(random: &mut Random, text: &[u8]) -> Vec<u8> {
     let mut text = text.to_vec();
     for _ in 0..random.within(1..=3) {
         let at = random.below(text.len() + 1);
@@ -300,7 +305,7 @@ fn texts(random: &mut Random, cases: usize, visit: &mut Visit) -> Result<(), Str
     let all: Vec<u8> = (0..=255).collect();
     every_damage(random, visit, b"2,6\r\n1,1\r\n1,3,8,\r\n", &all)?;
     // the largest text, cut at random places
-    let largest = shortest(&Shape { bids: 1..=4_294_967_295, ..Shape::full() }.market(random));
+    let largest = longest_text(&Shape::full().market(random));
     for _ in 0..300 {
         let length = random.below(largest.len() + 1);
         visit(random, &largest[..length], GREATEST)?;

@@ -2,9 +2,9 @@
 //! `compare [SEED [PART [WAY]]]`, where a part is read, write, trip (sheets read, written, read and written again),
 //! read_csv, csv_trip (comma-separated markets read, and cleared as their tables are), place_bids, join, clear,
 //! clear_efficient, explain, facts (what is told against the clearing), post, gates (a search for a place that joining gives
-//! or a charge that it lowers), truth (a search for false reports that pay), truth_efficient or print, and the first twelve
-//! are called by all ways or by one: c, slices or owned. A failing case prints itself and ends the run with 1; wrong use
-//! ends it with 2.
+//! or a charge that it lowers), truth (a search for false reports that pay), truth_efficient, print
+//! or print_csv, and the first twelve are called by all ways or by one: c, slices or owned. A failing case prints itself and
+//! ends the run with 1; wrong use ends it with 2.
 
 mod call;
 mod clearing;
@@ -53,7 +53,7 @@ struct Part {
     cases: usize,
 }
 
-const PARTS: [Part; 16] = [
+const PARTS: [Part; 17] = [
     Part { name: "read", run: reading::run, cases: 6_000 },
     Part { name: "write", run: writing::run, cases: 12_000 },
     Part { name: "trip", run: reading::run_trips, cases: 6_000 },
@@ -70,6 +70,7 @@ const PARTS: [Part; 16] = [
     Part { name: "truth", run: truth::run_truthful, cases: 3_000 },
     Part { name: "truth_efficient", run: truth::run_efficient, cases: 20_000 },
     Part { name: "print", run: printing::run, cases: 400 },
+    Part { name: "print_csv", run: printing::run_csv, cases: 120 },
 ];
 
 /// What the arguments choose.

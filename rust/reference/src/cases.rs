@@ -9,6 +9,7 @@ use crate::gates::{join, joining_fault};
 use crate::ledger::{Ledger, MAX_ACCOUNT, StationAccount};
 use crate::market::Market;
 use crate::places::{Cell, Places, place_bids, placing_fault, squared_distance, walk};
+use crate::report::Form;
 use crate::sheet::{GREATEST, TableLengths, read, shortest, stating, write};
 use crate::{report, samples};
 
@@ -288,7 +289,7 @@ fn what_decided_by_each_rule() {
 
 #[test]
 fn the_text_of_what_decided() {
-    let why = |rule, market: &Market| report::printed_why(rule, &shortest(market));
+    let why = |rule, market: &Market| report::printed_why(Form::Sheet, rule, &shortest(market));
     assert_eq!(why(1, &samples::case_e()), "guest 1 wins station 1 charge 24\nguest 2 loses: outbid\n");
     // cut 3, station 1 open
     let four = one_bay(&[1, 3], &[1; 4], &[0, 0, 0, 9, 2, 9, 5, 0]);
@@ -299,7 +300,7 @@ fn the_text_of_what_decided() {
     assert_eq!(why(2, &six([0, 0, 0, 9, 0, 0])), "guest 1 wins station 4 charge 5\n");
     assert_eq!(why(1, &one_bay(&[2, 6], &[], &[])), "");
     assert_eq!(why(1, &samples::refused()), "refused 6\n");
-    assert_eq!(report::printed_why(1, &SHEET_E[..3]), "refused 1\n");
+    assert_eq!(report::printed_why(Form::Sheet, 1, &SHEET_E[..3]), "refused 1\n");
 }
 
 const SHEET_E: [u8; 38] = [
@@ -313,13 +314,13 @@ fn sheet_e_and_its_text() {
     assert_eq!(shortest(&samples::case_e()), SHEET_E);
     let text = "cut 6\nguest 1 station 1 charge 24\nguest 2 station 0 charge 0\n\
         station 1 sold 3 paid 18\nstation 2 sold 0 paid 0\nmargin 6\n";
-    assert_eq!(report::printed(1, &SHEET_E), text);
-    assert_eq!(report::printed(1, &SHEET_E[..3]), "refused 1\n");
-    assert_eq!(report::printed_quiet(1, &SHEET_E), text);
-    assert_eq!(report::printed_quiet(1, &SHEET_E[..3]), "refused 1\n");
-    assert_eq!(report::written(&SHEET_E), SHEET_E);
-    assert_eq!(report::written(&stating(&samples::case_e(), |_, _| true)), b"refused 19\n");
-    assert_eq!(report::written(&SHEET_E[..3]), b"refused 1\n");
+    assert_eq!(report::printed(Form::Sheet, 1, &SHEET_E), text);
+    assert_eq!(report::printed(Form::Sheet, 1, &SHEET_E[..3]), "refused 1\n");
+    assert_eq!(report::printed_quiet(Form::Sheet, 1, &SHEET_E), text);
+    assert_eq!(report::printed_quiet(Form::Sheet, 1, &SHEET_E[..3]), "refused 1\n");
+    assert_eq!(report::written(Form::Sheet, &SHEET_E), SHEET_E);
+    assert_eq!(report::written(Form::Sheet, &stating(&samples::case_e(), |_, _| true)), b"refused 19\n");
+    assert_eq!(report::written(Form::Sheet, &SHEET_E[..3]), b"refused 1\n");
 }
 
 #[test]
@@ -702,10 +703,19 @@ fn the_sample_files_are_current() {
     let folder = std::path::Path::new(env!("CARGO_MANIFEST_DIR")).join("../../examples");
     for (name, sheet) in samples::sheets() {
         assert_eq!(std::fs::read(folder.join(format!("{name}.sheet"))).unwrap(), sheet, "{name}");
-        assert_eq!(std::fs::read_to_string(folder.join(format!("{name}.txt"))).unwrap(), report::printed(1, &sheet), "{name}");
+        assert_eq!(
+            std::fs::read_to_string(folder.join(format!("{name}.txt"))).unwrap(),
+            report::printed(Form::Sheet, 1, &sheet),
+            "{name}"
+        );
     }
     // LibreOffice wrote it
     let text = std::fs::read(folder.join("fleet.csv")).unwrap();
     assert_eq!(csv::read(&text, GREATEST), Ok(samples::fleet()));
     assert_eq!(csv::shortest(&samples::fleet()), text);
+    let printed = std::fs::read_to_string(folder.join("fleet.txt")).unwrap();
+    assert_eq!(report::printed(Form::Csv, 1, &text), printed);
+    assert_eq!(report::written(Form::Csv, &text), shortest(&samples::fleet()));
+    assert_eq!(report::printed(Form::Csv, 1, &text[3..]), "refused 22\n");
+    assert_eq!(report::printed_why(Form::Csv, 1, &text[..text.len() - 1]), "refused 22\n");
 }
