@@ -25,7 +25,6 @@ fn check(random: &mut Random, tally: &mut Tally, text: &[u8], lengths: TableLeng
 type Visit<'a> = dyn FnMut(&mut Random, &[u8], TableLengths) -> Result<(), String> + 'a;
 
 /// A field, and what ends it.
-#[derive(Clone)]
 struct Piece {
     table: Table,
     field: Vec<u8>,
@@ -238,12 +237,12 @@ fn every_count(random: &mut Random, visit: &mut Visit) -> Result<(), String> {
     let numbers = |count: usize, last: &str| [vec!["1"; count - 1], vec![last]].concat().join(",");
     for asks in (1..=3).chain(38..=43) {
         for last in ["1", "", "x", "4294967295", "4294967296", "00000000000"] {
+            for end in ["", ",", "\r,"] {
+                visit(random, (numbers(asks, last) + end).as_bytes(), GREATEST)?;
+            }
             for bays in [asks - 1, asks, asks + 1, 41].into_iter().filter(|&bays| bays > 0) {
                 let text = format!("{}\r\n{}\r\n", numbers(asks, last), numbers(bays, "1"));
                 visit(random, text.as_bytes(), GREATEST)?;
-                visit(random, numbers(asks, last).as_bytes(), GREATEST)?;
-                visit(random, (numbers(asks, last) + ",").as_bytes(), GREATEST)?;
-                visit(random, (numbers(asks, last) + "\r,").as_bytes(), GREATEST)?;
             }
         }
     }
