@@ -1,10 +1,11 @@
 /*
- * The bay market: reading and writing market sheets, placing bids from parking places, joining two gates' markets,
- * clearing a market, in a truthful round or in an efficient one for quiet days, telling guests what decided a truthful
- * round, posting one to a ledger.
+ * The bay market: reading and writing market sheets, reading comma-separated markets, placing bids from parking places,
+ * joining two gates' markets, clearing a market, in a truthful round or in an efficient one for quiet days, telling
+ * guests what decided a truthful round, posting one to a ledger.
  *
  * For x86-64 Linux: link libbay_market.a, or libbay_market.so. Both need memcpy and memset of the C library and
- * nothing else. Nothing is allocated; a call takes at most BAY_MARKET_MAX_STACK bytes of stack.
+ * nothing else. Nothing is allocated; a call takes at most BAY_MARKET_MAX_STACK bytes of stack, but for
+ * bay_market_read_csv, which takes at most BAY_MARKET_MAX_STACK_READ_CSV.
  *
  * Every function answers 0, or the number of the first fault found (enum bay_market_refusal). A call
  * that is refused has changed no lent memory. Any lengths and values may be lent; every call returns.
@@ -14,10 +15,10 @@
  * nothing is read or written through it. A pointer with no length after it is not null and has one element.
  * Calls share no state, so threads may call at the same time on different memory.
  *
- * MIND THE ORDER OF ARGUMENTS. bay_market_read takes amounts, tickets, asks, bays, bids, as the sheet's reader fills
- * them; bay_market_write, bay_market_join, bay_market_clear, bay_market_clear_efficient, bay_market_explain and
- * bay_market_post take asks, bays, amounts, tickets, bids, the last four after the rule's number. Amounts and bays have
- * one type, tickets, asks and bids another, so a compiler cannot see a swap.
+ * MIND THE ORDER OF ARGUMENTS. bay_market_read and bay_market_read_csv take amounts, tickets, asks, bays, bids, as a
+ * reader fills them; bay_market_write, bay_market_join, bay_market_clear, bay_market_clear_efficient,
+ * bay_market_explain and bay_market_post take asks, bays, amounts, tickets, bids, the last four after the rule's
+ * number. Amounts and bays have one type, tickets, asks and bids another, so a compiler cannot see a swap.
  * bay_market_place_bids takes prices, falls, then the guests' first and second coordinates, then the stations'.
  *
  * Prices are in mills (thousandths of the currency unit) per kWh, charges and payments in mills,
@@ -34,7 +35,7 @@
 extern "C" {
 #endif
 
-#define BAY_MARKET_VERSION "0.4.2"
+#define BAY_MARKET_VERSION "0.4.3"
 
 /* Limits. Amounts and bays are at least 1, and so is the number of stations. */
 #define BAY_MARKET_MAX_GUESTS 200
@@ -45,9 +46,11 @@ extern "C" {
 #define BAY_MARKET_MAX_BAYS 200
 #define BAY_MARKET_MAX_CELL 31                        /* of a cell's coordinate; the least is 0 */
 #define BAY_MARKET_MAX_SHEET 34444                    /* bytes of the largest sheet */
+#define BAY_MARKET_MAX_TEXT 93482                     /* bytes of the longest comma-separated market */
 #define BAY_MARKET_MAX_ACCOUNT UINT64_C(1000000000000000)
 #define BAY_MARKET_MAX_ROUND UINT32_C(4294967295)
-#define BAY_MARKET_MAX_STACK 16384                    /* bytes of stack that a call takes at most */
+#define BAY_MARKET_MAX_STACK 16384                    /* bytes of stack that a call takes at most, */
+#define BAY_MARKET_MAX_STACK_READ_CSV 40960           /* and one of bay_market_read_csv, with tables of its own */
 
 /*
  * The rule of a clearing, an explanation or a posting: the position, from 1, of the cut among the m asks in rising
@@ -102,7 +105,9 @@ enum bay_market_refusal {
     BAY_MARKET_UNKNOWN_RULE = 18,               /* the number names no rule: it is neither 1 nor 2 */
     BAY_MARKET_EMPTY_BID = 19,                  /* a set bit of the sheet has a bid of 0 */
     BAY_MARKET_STATIONS_DIFFER = 20,            /* two markets differ in their stations' count, asks or bays */
-    BAY_MARKET_TICKET_IN_BOTH = 21              /* a ticket is in both markets */
+    BAY_MARKET_TICKET_IN_BOTH = 21,             /* a ticket is in both markets */
+    BAY_MARKET_MALFORMED_TEXT = 22,             /* a byte of the text, or its end, stands where it may not */
+    BAY_MARKET_FIELD_TOO_LARGE = 23             /* a field has more than ten digits, or does not fit its table */
 };
 
 /* What an answer says. */
@@ -131,6 +136,8 @@ static inline const char *bay_market_refusal_text(uint8_t answer)
     case BAY_MARKET_EMPTY_BID: return "a set bit of the sheet has a bid of 0";
     case BAY_MARKET_STATIONS_DIFFER: return "two markets differ in their stations' count, asks or bays";
     case BAY_MARKET_TICKET_IN_BOTH: return "a ticket is in both markets";
+    case BAY_MARKET_MALFORMED_TEXT: return "a byte of the text, or its end, stands where it may not";
+    case BAY_MARKET_FIELD_TOO_LARGE: return "a field has more than ten digits, or does not fit its table";
     default: return "not an answer of the engine";
     }
 }
@@ -159,6 +166,29 @@ uint8_t bay_market_read(const uint8_t *sheet, size_t sheet_len,
                         uint16_t *bays, size_t bays_len,
                         uint32_t *bids, size_t bids_len,
                         uint16_t *n, uint16_t *m);
+
+/*
+ * Reads a comma-separated market into tables of the greatest size, lent IN THE ORDER of bay_market_read and filled as
+ * there. The first line has the m asks, the second the m bays, each line after them a guest's ticket, amount and m
+ * bids. Commas part the fields, and every line ends in CR LF, the last one too; a bid may be empty, which is 0, and no
+ * other field. Digits, commas, CR and LF are the only bytes. A field has at most ten digits, zeros in front included,
+ * and fits its table's type. Whether values are in range, and whether tickets repeat, is the clearing's business. A
+ * call takes at most BAY_MARKET_MAX_STACK_READ_CSV bytes of stack.
+ *
+ * Refusals in this order: 10 for another table length; then that of the first place of the text that has one, byte by
+ * byte, the end being the last place. A field ends at the first byte that is no digit, or at the end. At one place goes
+ * first 23, where a field ends that has more than ten digits or is too large for its table; then 2, at the comma after
+ * the 40th ask and at the first byte of the 201st guest's line; then 22, at a byte that may not stand there, at the
+ * comma that is one too many or the line end that comes too early, where an empty field ends that is no bid, and at the
+ * end where a line or a line end is missing.
+ */
+uint8_t bay_market_read_csv(const uint8_t *text, size_t text_len,
+                            uint16_t *amounts, size_t amounts_len,
+                            uint32_t *tickets, size_t tickets_len,
+                            uint32_t *asks, size_t asks_len,
+                            uint16_t *bays, size_t bays_len,
+                            uint32_t *bids, size_t bids_len,
+                            uint16_t *n, uint16_t *m);
 
 /*
  * Writes a market's shortest sheet, in which a map has a bit exactly where a bid is not 0, over the first *length

@@ -104,6 +104,69 @@ expect 0 '' '' "./clear --why $work/nobody"
 [ ! -s "$work/out" ]
 expect 0 '' 'clear: no guests' "$(scripts/current)/clear --why <$work/nobody"
 
+# comma-separated markets: the fleet's text, as LibreOffice wrote it, on every page as its sheet
+fleet=$(cat examples/fleet.txt)
+expect 0 "$fleet" '' './clear --csv examples/fleet.csv'
+expect 0 "$fleet" '' './clear --csv <examples/fleet.csv'
+expect 0 "$fleet" '' 'cat examples/fleet.csv | ./clear --csv -'
+expect 0 "$fleet" '' './clear --csv -- examples/fleet.csv'
+for page in --quiet --why '--rule 2' '--quiet --rule 2' '--why --rule 2'; do
+    # shellcheck disable=SC2086  # words
+    text=$(./clear $page examples/fleet.sheet)
+    expect 0 "$text" '' "./clear --csv $page examples/fleet.csv"
+    expect 0 "$text" '' "./clear $page --csv examples/fleet.csv"
+    expect 0 "$text" '' "./clear --csv $page <examples/fleet.csv"
+done
+expect_sheet examples/fleet.sheet './clear --csv --write examples/fleet.csv'
+expect_sheet examples/fleet.sheet './clear --write --csv <examples/fleet.csv'
+expect 0 "$fleet" '' './clear --csv --write examples/fleet.csv | ./clear'
+expect 0 $'cut 5\nstation 1 sold 0 paid 0\nmargin 0' '' "printf '5\r\n1\r\n' | ./clear --csv"
+expect 0 '' '' "printf '5\r\n1\r\n' | ./clear --csv --why"
+[ ! -s "$work/out" ]
+# each refusal of a text, by each page; a value out of range is the clearing's business
+forty=$(printf '1,%.0s' {1..40})
+while read -r number text; do
+    for page in '' --quiet --why --write '--rule 2'; do
+        expect 1 "refused $number" '' "printf '$text' | ./clear --csv $page"
+    done
+done <<END
+22 5\r\n1
+22 5\n1\n
+22 5 \r\n1\r\n
+22 5,\r\n1,\r\n
+23 5\r\n65536\r\n
+23 00000000005\r\n1\r\n
+2 $forty
+6 1000001\r\n1\r\n
+15 5\r\n1\r\n7,1,\r\n7,1,\r\n
+END
+expect 1 'refused 22' '' './clear --csv </dev/null'
+expect 1 'refused 22' '' './clear --csv examples/fleet.sheet'
+expect 1 'refused 2' '' './clear examples/fleet.csv'
+expect 1 'refused 22' '' "tr -d '\r' <examples/fleet.csv | ./clear --csv"
+# the longest text, and one byte more: as many guests as there may be, and each field of ten digits
+field=0000000001,
+line=$(printf "$field%.0s" {1..40})
+{
+    printf '%s\r\n%s\r\n' "${line%,}" "${line%,}"
+    for guest in {1000000001..1000000200}; do
+        printf '%s,%s%s\r\n' "$guest" "$field" "${line%,}"
+    done
+} >"$work/longest"
+[ "$(wc -c <"$work/longest")" = 93482 ]
+expect 0 $'cut 1\nguest 1 station 0 charge 0\n*guest 200 *margin 0' '' "./clear --csv $work/longest"
+expect 1 'refused 2' '' "{ cat $work/longest && printf 1; } | ./clear --csv"
+expect 1 'refused 2' '' "cat $work/longest $work/longest $work/longest | ./clear --csv"
+expect 2 '' 'clear: more than one --csv*' './clear --csv --csv examples/fleet.csv'
+expect 2 '' 'clear: no such file: nofile' './clear --csv nofile'
+expect 2 '' 'clear: no such option: --cs *' './clear --cs examples/fleet.csv'
+expect 2 '' 'clear: --write clears nothing*' './clear --csv --write --rule 2 examples/fleet.csv'
+expect 3 '' 'clear: cannot read standard input' './clear --csv </'
+expect 3 '' 'clear: cannot read standard input' './clear --csv <&-'
+expect 3 '' 'clear: cannot read /proc/self/mem' './clear --csv /proc/self/mem'
+expect 3 '' 'clear: cannot write standard output' './clear --csv examples/fleet.csv >/dev/full'
+expect 3 '' 'clear: cannot write standard output' './clear --csv --write examples/fleet.csv >/dev/full'
+
 # case E with a set bit for a bid of 0; without it the sheet is written as it is
 {
     head -c 33 examples/case_e.sheet
@@ -268,7 +331,8 @@ expect 3 '' 'clear: cannot write standard output' "$program --why <examples/case
 for arguments in -- --writ --write1 --writes.. --quie --quiet1 --quiets.. "''" - '--quiet --write' '--write --quiet' --rule \
     '--rule 0' '--rule 3' '--rule 12' '--rule x' '--rules 2' '--rule 2 --quiet' '--quiet --rule' '--quiet --rule 3' \
     '--write --rule 2' '--rule 2 --write' '--quiet --rule 2 x' --wh --why1 --whys.. '--why --write' '--why --quiet' \
-    '--quiet --why' '--why --why' '--rule 2 --why' '--why --rule' '--why --rule 3' '--why --rule 2 x'; do
+    '--quiet --why' '--why --why' '--rule 2 --why' '--why --rule' '--why --rule 3' '--why --rule 2 x' --cs --csv1 --csvs.. \
+    '--csv --csv' '--csv x' '--csv --rule' '--csv --rule 3' '--csv --write --rule 2' '--csv --why --rule 2 x' '--quiet --csv'; do
     expect 3 '' 'clear: no such argument' "$program $arguments <examples/case_e.sheet; exit 3"
 done
 if [ "$(id -u)" != 0 ]; then
@@ -290,6 +354,7 @@ if command -v script >/dev/null; then
     expect 0 "$(cat examples/table_i.txt)" '' "script -qec ./clear /dev/null </dev/null | tr -d '\r'"
     expect 0 "$quiet" '' "script -qec './clear --quiet' /dev/null </dev/null | tr -d '\r'"
     expect 0 "$why" '' "script -qec './clear --why' /dev/null </dev/null | tr -d '\r'"
+    expect 0 "$fleet" '' "script -qec './clear --csv' /dev/null </dev/null | tr -d '\r'"
     expect_sheet examples/table_i.sheet "script -qec './clear --write >$work/sample' /dev/null </dev/null; cat $work/sample"
     expect 2 'clear: a sheet is bytes and not for a terminal*' '' \
         "script -qec './clear --write examples/case_e.sheet' /dev/null </dev/null"

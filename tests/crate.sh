@@ -10,7 +10,7 @@ trap 'rm -rf "$work"' EXIT
 mkdir -p "$work/far/away/user/src"
 cp -r rust/bay_market "$work/far/away/bay_market"
 # what the crate takes from its workspace
-sed -i -e 's/^version.workspace = true/version = "0.4.2"/' -e 's/^edition.workspace = true/edition = "2024"/' \
+sed -i -e 's/^version.workspace = true/version = "0.4.3"/' -e 's/^edition.workspace = true/edition = "2024"/' \
     -e '/\.workspace = true/d' "$work/far/away/bay_market/Cargo.toml"
 cat >"$work/far/away/user/Cargo.toml" <<'END'
 [package]
@@ -26,6 +26,7 @@ fn main() -> Result<(), Box<dyn std::error::Error>> {
     let market = bay_market::Market::read(&std::fs::read(std::env::args().nth(1).ok_or("FILE")?)?)?;
     println!("cut {}", market.clear(bay_market::Rule::Median)?.cut);
     println!("sheet of {} bytes", market.to_sheet()?.len());
+    println!("cut {} of a text", bay_market::Market::from_csv(b"5\r\n1\r\n")?.clear(bay_market::Rule::Median)?.cut);
     Ok(())
 }
 END
@@ -46,7 +47,7 @@ fi
 grep -q 'libbay_market.a is not there' "$work/err"
 
 export BAY_MARKET_LIB_DIR=$libraries
-[ "$(run case_e)" = $'cut 6\nsheet of 38 bytes' ]
+[ "$(run case_e)" = $'cut 6\nsheet of 38 bytes\ncut 5 of a text' ]
 if run refused >"$work/out" 2>"$work/err"; then
     echo 'cleared what is to be refused' >&2
     exit 1

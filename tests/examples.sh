@@ -1,6 +1,7 @@
 #!/usr/bin/env bash
-# The examples in C and Rust: two gates' sheets, joined, are cleared as the sheet of both; a gate joined with itself is
-# refused. Takes the folder with the library.
+# The examples in C and Rust. Two gates' sheets, joined, are cleared as the sheet of both; a gate joined with itself is
+# refused. A comma-separated market is written as its sheet; lines that end in LF alone are refused. Takes the folder with
+# the library.
 set -euo pipefail
 cd -- "$(dirname -- "$(readlink -f -- "$0")")/.."
 
@@ -8,18 +9,36 @@ libraries=$(readlink -f -- "$1")
 work=$(mktemp -d)
 trap 'rm -rf "$work"' EXIT
 export BAY_MARKET_LIB_DIR=$libraries
-gcc -std=c11 -Wall -Wextra -Wpedantic -Wconversion -Werror -Iinclude examples/two_gates.c "$libraries/libbay_market.a" \
-    -o "$work/two_gates"
 in_rust() {
-    cargo run --offline --locked --quiet --release --manifest-path rust/Cargo.toml --example two_gates -- "$@"
+    local name=$1
+    shift
+    cargo run --offline --locked --quiet --release --manifest-path rust/Cargo.toml --example "$name" -- "$@"
 }
-for two_gates in "$work/two_gates" in_rust; do
-    $two_gates examples/gate_north.sheet examples/gate_south.sheet | cmp - examples/table_i.txt
-    if $two_gates examples/gate_north.sheet examples/gate_north.sheet >"$work/out" 2>"$work/err"; then
-        echo "$two_gates joins a gate with itself" >&2
+# refuses PATTERN COMMAND..: the command says so on standard error, ends so and writes nothing else
+refuses() {
+    local pattern=$1
+    shift
+    if "$@" >"$work/out" 2>"$work/err"; then
+        echo "not refused: $*" >&2
         exit 1
     fi
-    grep -Eq 'a ticket is in both markets|TicketInBoth' "$work/err"
+    grep -Eq "$pattern" "$work/err"
     [ ! -s "$work/out" ]
+}
+for name in two_gates csv_to_sheet; do
+    gcc -std=c11 -Wall -Wextra -Wpedantic -Wconversion -Werror -Iinclude "examples/$name.c" \
+        "$libraries/libbay_market.a" -o "$work/$name"
+done
+tr -d '\r' <examples/fleet.csv >"$work/lines.csv"
+for language in "$work/" 'in_rust '; do
+    # shellcheck disable=SC2086  # words
+    ${language}two_gates examples/gate_north.sheet examples/gate_south.sheet | cmp - examples/table_i.txt
+    # shellcheck disable=SC2086
+    refuses 'a ticket is in both markets|TicketInBoth' \
+        ${language}two_gates examples/gate_north.sheet examples/gate_north.sheet
+    # shellcheck disable=SC2086
+    ${language}csv_to_sheet examples/fleet.csv | cmp - examples/fleet.sheet
+    # shellcheck disable=SC2086
+    refuses 'stands where it may not|MalformedText' ${language}csv_to_sheet "$work/lines.csv"
 done
 echo 'examples: as expected'

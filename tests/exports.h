@@ -84,6 +84,14 @@ uint8_t real_bay_market_read(const uint8_t *sheet, size_t sheet_len,
                              uint32_t *bids, size_t bids_len,
                              uint16_t *n, uint16_t *m);
 
+uint8_t real_bay_market_read_csv(const uint8_t *text, size_t text_len,
+                                 uint16_t *amounts, size_t amounts_len,
+                                 uint32_t *tickets, size_t tickets_len,
+                                 uint32_t *asks, size_t asks_len,
+                                 uint16_t *bays, size_t bays_len,
+                                 uint32_t *bids, size_t bids_len,
+                                 uint16_t *n, uint16_t *m);
+
 uint8_t real_bay_market_write(const uint32_t *asks, size_t asks_len,
                               const uint16_t *bays, size_t bays_len,
                               const uint16_t *amounts, size_t amounts_len,
@@ -185,6 +193,14 @@ uint8_t real_bay_market_write(const uint32_t *asks, size_t asks_len,
 #define READ_ARGUMENTS sheet, sheet_len, amounts, amounts_len, tickets, tickets_len, asks, asks_len, bays, bays_len, \
     bids, bids_len, n, m
 #define READ_PARTS LIST(sheet), LIST(amounts), LIST(tickets), LIST(asks), LIST(bays), LIST(bids), NUMBER(n), NUMBER(m)
+
+#define READ_CSV_PARAMETERS const uint8_t *text, size_t text_len, uint16_t *amounts, size_t amounts_len, \
+    uint32_t *tickets, size_t tickets_len, uint32_t *asks, size_t asks_len, uint16_t *bays, size_t bays_len, \
+    uint32_t *bids, size_t bids_len, uint16_t *n, uint16_t *m
+#define READ_CSV_ARGUMENTS text, text_len, amounts, amounts_len, tickets, tickets_len, asks, asks_len, bays, bays_len, \
+    bids, bids_len, n, m
+#define READ_CSV_PARTS LIST(text), LIST(amounts), LIST(tickets), LIST(asks), LIST(bays), LIST(bids), NUMBER(n), \
+    NUMBER(m)
 
 #define WRITE_PARAMETERS const uint32_t *asks, size_t asks_len, const uint16_t *bays, size_t bays_len, \
     const uint16_t *amounts, size_t amounts_len, const uint32_t *tickets, size_t tickets_len, const uint32_t *bids, \

@@ -1,6 +1,6 @@
 #!/usr/bin/env python3
-"""The shared library through tools/exports_table.py, at the path given: case E read, cleared, explained, joined of two
-gates, posted and written, and a call that is refused and leaves what it was lent."""
+"""The shared library through tools/exports_table.py, at the path given: case E read, also as text, cleared, explained,
+joined of two gates, posted and written, and calls that are refused and leave what they were lent."""
 import pathlib
 import sys
 
@@ -12,6 +12,7 @@ import exports_table  # noqa: E402
 
 LIBRARY = exports_table.load(sys.argv[1])
 SHEET = (ROOT / 'examples/case_e.sheet').read_bytes()
+TEXT = b'2,6\r\n1,1\r\n1,3,8,\r\n2,3,8,\r\n'
 MARKET = {'asks': [2, 6], 'bays': [1, 1], 'amounts': [3, 3], 'tickets': [1, 2], 'bids': [8, 0, 8, 0], 'width': 2}
 RESULTS = {'stations': [7, 7], 'charges': [7, 7], 'sold': [7, 7], 'paid': [7, 7], 'cut': 7, 'margin': 7}
 
@@ -23,8 +24,11 @@ def expect(name, answer, after, **given):
 
 sizes = {'amounts': 200, 'tickets': 200, 'asks': 40, 'bays': 40, 'bids': 8000}
 lent = {name: [9] * size for name, size in sizes.items()}
-expect('read', 0, {**{name: MARKET[name] + lent[name][len(MARKET[name]):] for name in lent}, 'n': 2, 'm': 2},
-       sheet=SHEET, n=0, m=0, **lent)
+case_e = {**{name: MARKET[name] + lent[name][len(MARKET[name]):] for name in lent}, 'n': 2, 'm': 2}
+expect('read', 0, case_e, sheet=SHEET, n=0, m=0, **lent)
+expect('read_csv', 0, case_e, text=TEXT, n=0, m=0, **lent)
+expect('read_csv', 22, {**lent, 'n': 0, 'm': 0}, text=TEXT[:-1], n=0, m=0, **lent)
+expect('read_csv', 23, {**lent, 'n': 0, 'm': 0}, text=TEXT + b'4294967296', n=0, m=0, **lent)
 cleared = {'stations': [1, 0], 'charges': [24, 0], 'sold': [3, 0], 'paid': [18, 0], 'cut': 6, 'margin': 6}
 expect('clear', 0, cleared, rule=1, **MARKET, **RESULTS)
 expect('clear', 18, RESULTS, rule=3, **MARKET, **RESULTS)

@@ -34,10 +34,12 @@ finds() {
     found=$((found + 1))
 }
 
-for part in read write trip place_bids join gates clear clear_efficient explain facts post truth truth_efficient; do
+for part in read write trip read_csv csv_trip place_bids join gates clear clear_efficient explain facts post truth \
+    truth_efficient; do
     BAY_MARKET_FAULT='' "$compare" $seed $part >/dev/null
 done
-# what has the faults of efficient clearing and of telling is right without one
+# what has the faults of comma-separated markets, of efficient clearing and of telling is right without one
+BAY_MARKET_FAULT='read_csv own' "$compare" $seed read_csv >/dev/null
 BAY_MARKET_FAULT='clear_efficient own' "$compare" $seed clear_efficient >/dev/null
 BAY_MARKET_FAULT='explain own' "$compare" $seed explain >/dev/null
 BAY_MARKET_FAULT='explain own' "$compare" $seed facts >/dev/null
@@ -88,6 +90,53 @@ for way in c slices owned; do
     finds 'read second' 'the second reading differs' trip $way
     finds 'read empty' 'answered [0-9]+, expected 19|owned market differs' read $way
     finds 'read empty-late' 'answered [134], expected 19|owned market differs' read $way
+done
+# faults of comma-separated markets; the types that own their lists make the tables
+for way in c slices owned; do
+    for fault in swapped transposed; do
+        finds "read_csv $fault" '(bids|tickets|amounts) differ|owned market differs' read_csv $way
+        finds "read_csv $fault" 'what was read differs from the market' csv_trip $way
+    done
+    # the fault, what it answers and what is right
+    while read -r fault answered expected; do
+        finds "read_csv $fault" "answered $answered, expected $expected|owned market differs" read_csv $way
+    done <<'END'
+eleven [0-9]+ 23
+wide [0-9]+ 23
+narrow 23 [0-9]+
+zeros 22 [0-9]+
+empty-field [0-9]+ 22
+empty-bid 22 [0-9]+
+extra [0-9]+ 22
+short [0-9]+ 22
+lf [0-9]+ 22
+cr [0-9]+ 22
+last [0-9]+ 22
+blank [0-9]+ 22
+nul [0-9]+ (2|22)
+nobody 22 0
+comma-41 22 2
+late-41 [0-9]+ 2
+count-first 2 23
+shape-first 22 (2|23)
+shape-count 22 2
+guest-201 22 2
+late-201 [0-9]+ 2
+END
+    for fault in narrow empty-bid; do
+        finds "read_csv $fault" 'answered 2[23], expected 0' csv_trip $way
+    done
+    finds 'read_csv answer' 'answered 5, expected 0' csv_trip $way
+done
+# the types that own their lists lend tables of 0
+for way in c slices; do
+    finds 'read_csv kept' 'bids differ' read_csv $way
+    finds 'read_csv kept' 'what was read differs from the market' csv_trip $way
+done
+finds 'read_csv list-late' 'answered (2|22|23), expected 10' read_csv c
+for list in $(filled read_csv); do
+    finds "read_csv $list long taken" 'answered 0, expected 10' read_csv c
+    finds "read_csv $list short taken" 'answered 0, expected 10' read_csv c
 done
 # faults of tickets
 for way in c slices owned; do
@@ -212,6 +261,10 @@ BAY_MARKET_FAULT='' "$compare" $seed print >/dev/null
 for fault in text refusal repeat stderr line status quiet truthful rule sheet byte refused-sheet repeat-sheet why \
     why-rule why-refusal why-clearing why-empty silent; do
     finds $fault 'differs' print
+done
+BAY_MARKET_FAULT='' "$compare" $seed print_csv >/dev/null
+for fault in csv-sheet csv-page csv-write csv-text csv-refusal csv-cut csv-lines; do
+    finds $fault 'differs' print_csv
 done
 status=0
 "$compare" $seed nothing >/dev/null 2>&1 || status=$?

@@ -58,6 +58,33 @@
  *   write fit                    14 where the output is as long as the sheet
  *   write empty                  a set bit for the last guest's bid of 0 at the last station
  *   write second                 every second sheet has another last byte
+ *   read_csv own                 none: the reader of comma-separated markets that has the next faults, without one
+ *   read_csv eleven              more than ten digits are taken where the value fits
+ *   read_csv wide                a value too large for 16 bits is taken, and loses its higher bits
+ *   read_csv narrow              the greatest value of a table's width is too large
+ *   read_csv zeros               a 0 in front of other digits is malformed
+ *   read_csv empty-field         an empty field is 0, wherever it stands
+ *   read_csv empty-bid           an empty bid is malformed
+ *   read_csv kept                an empty bid leaves the table's place as it was
+ *   read_csv extra               a comma at the end of a full line is taken
+ *   read_csv short               a guest's line may end after its amount: its other bids are 0
+ *   read_csv lf                  LF alone ends a line
+ *   read_csv cr                  CR alone ends a line
+ *   read_csv last                the last line may end with the text
+ *   read_csv blank               spaces before a field are skipped
+ *   read_csv nul                 the text ends at a byte of 0
+ *   read_csv nobody              a text with no guests is malformed
+ *   read_csv comma-41            22 at the comma after the 40th ask
+ *   read_csv late-41             2 at the end of a line of more than 40 asks, and not before
+ *   read_csv count-first         2 goes before 23 at the comma after the 40th ask
+ *   read_csv shape-first         22 goes before 23 at one place
+ *   read_csv shape-count         22 goes before 2 at the comma after the 40th ask
+ *   read_csv guest-201           22 at the first byte of guest line 201
+ *   read_csv late-201            2 at the end of guest line 201, and not before
+ *   read_csv swapped             the amount stands before the ticket
+ *   read_csv transposed          the bids stand station after station
+ *   read_csv list-late           10 comes after the faults of the text
+ *   read_csv LIST WAY taken      a table that alone is too long or too short is taken
  *   place_bids walk              from corner to corner of the grid the walk is a tenth too short
  *   place_bids added             the fall times the walk is added to the price
  *   place_bids wrapped           a bid that would be negative wraps round
@@ -937,4 +964,228 @@ uint8_t bay_market_join(JOIN_PARAMETERS)
         }
     }
     return SPOIL("join", answer, parts);
+}
+
+/* A comma-separated market as it is read; a mark for each bid that is empty. */
+struct csv {
+    const uint8_t *text;
+    size_t len, at, n, m;
+    const char *wrong;
+    uint32_t asks[BAY_MARKET_MAX_STATIONS], tickets[BAY_MARKET_MAX_GUESTS], bids[BAY_MARKET_MAX_BIDS];
+    uint16_t bays[BAY_MARKET_MAX_STATIONS], amounts[BAY_MARKET_MAX_GUESTS];
+    uint8_t empty[BAY_MARKET_MAX_BIDS];
+};
+
+static int has(const struct csv *csv, const char *wrong)
+{
+    return strcmp(csv->wrong, wrong) == 0;
+}
+
+static int at_byte(const struct csv *csv, uint8_t byte)
+{
+    return csv->at < csv->len && csv->text[csv->at] == byte;
+}
+
+/* Passes a run of digits; their number, or one beyond every table. */
+static uint64_t digits(struct csv *csv)
+{
+    uint64_t value = 0;
+
+    while (has(csv, "blank") && at_byte(csv, ' ')) {
+        csv->at++;
+    }
+    for (; csv->at < csv->len && csv->text[csv->at] >= '0' && csv->text[csv->at] <= '9'; csv->at++) {
+        value = value > UINT32_MAX ? value : 10 * value + (uint64_t)(csv->text[csv->at] - '0');
+    }
+    return value;
+}
+
+/* Keeps a field's value: of a line from 0, by its place from 0. */
+static void keep(struct csv *csv, size_t line, size_t field, uint32_t value, int empty)
+{
+    size_t guest = line - 2, swapped = has(csv, "swapped");
+
+    if (line == 0 && field < BAY_MARKET_MAX_STATIONS) {
+        csv->asks[field] = value;
+    } else if (line == 1) {
+        csv->bays[field] = (uint16_t)value;
+    } else if (line > 1 && guest < BAY_MARKET_MAX_GUESTS && field < 2) {
+        if (field == swapped) {
+            csv->tickets[guest] = value;
+        } else {
+            csv->amounts[guest] = (uint16_t)value;
+        }
+    } else if (line > 1 && guest < BAY_MARKET_MAX_GUESTS) {
+        csv->bids[guest * csv->m + field - 2] = value;
+        csv->empty[guest * csv->m + field - 2] = (uint8_t)empty;
+    }
+}
+
+/* Passes the end of a line, after its last field; whether there is one. */
+static int line_ends(struct csv *csv)
+{
+    if (csv->at == csv->len && has(csv, "last")) {
+        return 1;
+    }
+    if (at_byte(csv, '\n') && has(csv, "lf")) {
+        csv->at++;
+        return 1;
+    }
+    if (!at_byte(csv, '\r')) {
+        return 0;
+    }
+    csv->at++;
+    if (!at_byte(csv, '\n')) {
+        return has(csv, "cr");
+    }
+    csv->at++;
+    return 1;
+}
+
+/* The answer to a field that ends here, which is number `count` of its line, from 1. */
+static uint8_t field_answer(const struct csv *csv, size_t line, size_t count, size_t length, uint64_t value, int zero)
+{
+    const size_t due = line == 0 ? 0 : line == 1 ? csv->m : csv->m + 2;
+    const int bid = line > 1 && count > 2, comma = at_byte(csv, ','), half = line == 1 || (line > 1 && count == 2);
+    const uint64_t greatest = half && !has(csv, "wide") ? UINT16_MAX : UINT32_MAX;
+    const int large = (length > 10 && !has(csv, "eleven")) || value > greatest - (uint64_t)has(csv, "narrow");
+    const int over = line == 0 && comma && count == BAY_MARKET_MAX_STATIONS && !has(csv, "late-41");
+    const int ends = at_byte(csv, '\r') || (at_byte(csv, '\n') && has(csv, "lf"))
+                     || (csv->at == csv->len && has(csv, "last"));
+    const int early = ends && count < due && !(has(csv, "short") && line > 1 && count >= 2);
+    const int empty = length == 0 && !has(csv, "empty-field") && (!bid || has(csv, "empty-bid"));
+    const int shape = empty || (!comma && !ends) || (due != 0 && comma && count == due) || early
+                      || (zero && length > 1 && has(csv, "zeros"));
+
+    if (over && has(csv, "count-first")) {
+        return BAY_MARKET_COUNTS_OUT_OF_RANGE;
+    }
+    if (shape && (has(csv, "shape-first") || (over && !large && has(csv, "shape-count")))) {
+        return BAY_MARKET_MALFORMED_TEXT;
+    }
+    if (large) {
+        return BAY_MARKET_FIELD_TOO_LARGE;
+    }
+    if (over) {
+        return has(csv, "comma-41") ? BAY_MARKET_MALFORMED_TEXT : BAY_MARKET_COUNTS_OUT_OF_RANGE;
+    }
+    return shape ? BAY_MARKET_MALFORMED_TEXT : BAY_MARKET_ACCEPTED;
+}
+
+/* Reads a line; the answer, and in *count how many fields it has. */
+static uint8_t csv_line(struct csv *csv, size_t line, size_t *count)
+{
+    for (*count = 1;; ++*count) {
+        const size_t from = csv->at;
+        const uint64_t value = digits(csv);
+        const size_t length = csv->at - from;
+        const int zero = length > 0 && csv->text[from] == '0';
+        uint8_t answer;
+
+        if (has(csv, "extra") && line > 0 && *count == (line == 1 ? csv->m : csv->m + 2) && at_byte(csv, ',')
+            && csv->at + 1 < csv->len && csv->text[csv->at + 1] == '\r') {
+            csv->at++;
+        }
+        answer = field_answer(csv, line, *count, length, value, zero);
+        if (answer != BAY_MARKET_ACCEPTED) {
+            return answer;
+        }
+        keep(csv, line, *count - 1, (uint32_t)value, length == 0);
+        if (!at_byte(csv, ',')) {
+            break;
+        }
+        csv->at++;
+    }
+    for (size_t field = *count; line > 1 && field < csv->m + 2; field++) {
+        keep(csv, line, field, 0, 0);
+    }
+    return line_ends(csv) ? BAY_MARKET_ACCEPTED : BAY_MARKET_MALFORMED_TEXT;
+}
+
+/* Reads a text, with a fault; the answer. */
+static uint8_t read_text(struct csv *csv)
+{
+    size_t count;
+    uint8_t answer = csv_line(csv, 0, &csv->m);
+
+    if (answer == BAY_MARKET_ACCEPTED && csv->m > BAY_MARKET_MAX_STATIONS) {
+        answer = BAY_MARKET_COUNTS_OUT_OF_RANGE;
+    }
+    if (answer == BAY_MARKET_ACCEPTED) {
+        answer = csv_line(csv, 1, &count);
+    }
+    for (csv->n = 0; answer == BAY_MARKET_ACCEPTED && csv->at < csv->len; csv->n++) {
+        if (csv->n == BAY_MARKET_MAX_GUESTS && !has(csv, "late-201")) {
+            return has(csv, "guest-201") ? BAY_MARKET_MALFORMED_TEXT : BAY_MARKET_COUNTS_OUT_OF_RANGE;
+        }
+        answer = csv_line(csv, 2 + csv->n, &count);
+        if (answer == BAY_MARKET_ACCEPTED && csv->n == BAY_MARKET_MAX_GUESTS) {
+            return BAY_MARKET_COUNTS_OUT_OF_RANGE;
+        }
+    }
+    return answer == BAY_MARKET_ACCEPTED && csv->n == 0 && has(csv, "nobody") ? BAY_MARKET_MALFORMED_TEXT : answer;
+}
+
+/* Turns the bids of a market so that they stand station after station. */
+static void transpose(struct csv *csv)
+{
+    static uint32_t turned[BAY_MARKET_MAX_BIDS];
+
+    for (size_t i = 0; i < csv->n; i++) {
+        for (size_t j = 0; j < csv->m; j++) {
+            turned[j * csv->n + i] = csv->bids[i * csv->m + j];
+        }
+    }
+    memcpy(csv->bids, turned, csv->n * csv->m * sizeof *turned);
+}
+
+uint8_t bay_market_read_csv(READ_CSV_PARAMETERS)
+{
+    const struct part parts[] = {READ_CSV_PARTS};
+    const struct fit lists[] = {{"amounts", amounts_len, BAY_MARKET_MAX_GUESTS},
+                                {"tickets", tickets_len, BAY_MARKET_MAX_GUESTS},
+                                {"asks", asks_len, BAY_MARKET_MAX_STATIONS},
+                                {"bays", bays_len, BAY_MARKET_MAX_STATIONS},
+                                {"bids", bids_len, BAY_MARKET_MAX_BIDS}};
+    static uint32_t before[BAY_MARKET_MAX_BIDS];
+    static struct csv csv;
+    char words[4][16];
+    int wrong = fault("read_csv", words), fits = bids_len == BAY_MARKET_MAX_BIDS;
+
+    if (wrong && fits) {
+        memcpy(before, bids, sizeof before);
+    }
+    uint8_t answer = REAL(bay_market_read_csv)(READ_CSV_ARGUMENTS);
+    if (!wrong) {
+        return answer;
+    }
+    if (answer == BAY_MARKET_LENT_LENGTHS && taken(words, lists, sizeof lists / sizeof *lists)) {
+        return BAY_MARKET_ACCEPTED;
+    }
+    csv = (struct csv){.text = text, .len = text_len, .wrong = words[1]};
+    if (has(&csv, "nul") && text_len > 0) {
+        const uint8_t *nul = memchr(text, 0, text_len);
+        csv.len = nul == NULL ? text_len : (size_t)(nul - text);
+    }
+    uint8_t own = read_text(&csv);
+    if (answer == BAY_MARKET_LENT_LENGTHS) {
+        answer = has(&csv, "list-late") && own != BAY_MARKET_ACCEPTED ? own : answer;
+    } else {
+        answer = own;
+    }
+    if (answer == BAY_MARKET_ACCEPTED) {
+        if (has(&csv, "transposed")) {
+            transpose(&csv);
+        }
+        for (size_t k = 0; k < csv.n * csv.m; k++) {
+            bids[k] = has(&csv, "kept") && csv.empty[k] ? before[k] : csv.bids[k];
+        }
+        memcpy(amounts, csv.amounts, csv.n * sizeof *amounts);
+        memcpy(tickets, csv.tickets, csv.n * sizeof *tickets);
+        memcpy(asks, csv.asks, csv.m * sizeof *asks);
+        memcpy(bays, csv.bays, csv.m * sizeof *bays);
+        *n = (uint16_t)csv.n;
+        *m = (uint16_t)csv.m;
+    }
+    return SPOIL("read_csv", answer, parts);
 }

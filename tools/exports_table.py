@@ -99,6 +99,16 @@ EXPORTS = {
         ('n', 'out', 'u16'),
         ('m', 'out', 'u16'),
     ],
+    'bay_market_read_csv': [
+        ('text', 'slice', 'u8'),
+        ('amounts', 'lent', 'u16'),
+        ('tickets', 'lent', 'u32'),
+        ('asks', 'lent', 'u32'),
+        ('bays', 'lent', 'u16'),
+        ('bids', 'lent', 'u32'),
+        ('n', 'out', 'u16'),
+        ('m', 'out', 'u16'),
+    ],
     'bay_market_write': [
         ('asks', 'slice', 'u32'),
         ('bays', 'slice', 'u16'),

@@ -1,6 +1,6 @@
 /*
- * Case E of document 01 by rule 1, rules, tickets, quiet rounds, what decided, parking places, two gates, refusals and
- * limits, through include/bay_market.h.
+ * Case E of document 01 by rule 1, rules, tickets, quiet rounds, what decided, parking places, two gates,
+ * comma-separated markets, refusals and limits, through include/bay_market.h.
  */
 #include "bay_market.h"
 
@@ -10,6 +10,9 @@
 _Static_assert(BAY_MARKET_MAX_BIDS == BAY_MARKET_MAX_GUESTS * BAY_MARKET_MAX_STATIONS, "bids");
 _Static_assert(BAY_MARKET_MAX_SHEET == 4 + 6 * BAY_MARKET_MAX_STATIONS
                + (2 + 4 + BAY_MARKET_MAX_STATIONS / 8) * BAY_MARKET_MAX_GUESTS + 4 * BAY_MARKET_MAX_BIDS, "sheet");
+/* ten digits and what ends them, CR LF at a line's end */
+_Static_assert(BAY_MARKET_MAX_TEXT == 2 * (11 * BAY_MARKET_MAX_STATIONS + 1)
+               + (11 * (2 + BAY_MARKET_MAX_STATIONS) + 1) * BAY_MARKET_MAX_GUESTS, "text");
 
 static int failures = 0;
 
@@ -52,6 +55,52 @@ static void test_read(void)
     expect(amounts[0] == 3 && amounts[1] == 3, "amounts");
     expect(tickets[0] == 1 && tickets[1] == 2, "tickets");
     expect(bids[0] == 8 && bids[1] == 0 && bids[2] == 8 && bids[3] == 0, "bids");
+}
+
+static uint8_t read_text(const char *text)
+{
+    return bay_market_read_csv((const uint8_t *)text, strlen(text), amounts, BAY_MARKET_MAX_GUESTS,
+                               tickets, BAY_MARKET_MAX_GUESTS, asks, BAY_MARKET_MAX_STATIONS,
+                               bays, BAY_MARKET_MAX_STATIONS, bids, BAY_MARKET_MAX_BIDS, &n, &m);
+}
+
+/* Case E as text, each refusal, and tables of other lengths; what is read is case E again. */
+static void test_csv(void)
+{
+    static const char case_e[] = "2,6\r\n1,1\r\n1,3,8,\r\n2,3,8,\r\n";
+    static const struct {
+        const char *text;
+        uint8_t answer;
+    } refused[] = {
+        {"", BAY_MARKET_MALFORMED_TEXT}, {"2,6\n1,1\n", BAY_MARKET_MALFORMED_TEXT},
+        {"2,6\r\n1,1", BAY_MARKET_MALFORMED_TEXT}, {"2,6\r\n1,1,\r\n", BAY_MARKET_MALFORMED_TEXT},
+        {"2,6\r\n1,1\r\n1,3,8\r\n", BAY_MARKET_MALFORMED_TEXT}, {"2,\r\n", BAY_MARKET_MALFORMED_TEXT},
+        {"4294967296,x", BAY_MARKET_FIELD_TOO_LARGE}, {"00000000002\r\n", BAY_MARKET_FIELD_TOO_LARGE},
+        {"2,6\r\n65536", BAY_MARKET_FIELD_TOO_LARGE},
+        {"1,1,1,1,1,1,1,1,1,1,1,1,1,1,1,1,1,1,1,1,1,1,1,1,1,1,1,1,1,1,1,1,1,1,1,1,1,1,1,1,",
+         BAY_MARKET_COUNTS_OUT_OF_RANGE},
+    };
+
+    n = m = 77;
+    memset(asks, 0, sizeof asks);
+    memset(bids, 0xFF, sizeof bids);
+    for (size_t i = 0; i < sizeof refused / sizeof *refused; i++) {
+        expect(read_text(refused[i].text) == refused[i].answer, refused[i].text);
+    }
+    expect(bay_market_read_csv((const uint8_t *)case_e, sizeof case_e - 1, amounts, BAY_MARKET_MAX_GUESTS,
+                               tickets, BAY_MARKET_MAX_GUESTS - 1, asks, BAY_MARKET_MAX_STATIONS,
+                               bays, BAY_MARKET_MAX_STATIONS, bids, BAY_MARKET_MAX_BIDS, &n, &m)
+           == BAY_MARKET_LENT_LENGTHS, "a table of another length is refused");
+    expect(bay_market_read_csv((const uint8_t *)case_e, sizeof case_e, amounts, BAY_MARKET_MAX_GUESTS,
+                               tickets, BAY_MARKET_MAX_GUESTS, asks, BAY_MARKET_MAX_STATIONS,
+                               bays, BAY_MARKET_MAX_STATIONS, bids, BAY_MARKET_MAX_BIDS, &n, &m)
+           == BAY_MARKET_MALFORMED_TEXT, "the byte of 0 at the end of a string is no part of the text");
+    expect(n == 77 && m == 77 && asks[0] == 0 && bids[0] == UINT32_MAX, "a refused text is not read");
+    expect(read_text(case_e) == BAY_MARKET_ACCEPTED, "case E is read as text");
+    expect(n == 2 && m == 2 && asks[0] == 2 && asks[1] == 6 && bays[0] == 1 && bays[1] == 1, "its stations");
+    expect(tickets[0] == 1 && tickets[1] == 2 && amounts[0] == 3 && amounts[1] == 3, "its guests");
+    expect(bids[0] == 8 && bids[1] == 0 && bids[2] == 8 && bids[3] == 0, "its bids");
+    expect(bids[4] == UINT32_MAX, "what is beyond them stays");
 }
 
 /* Writes what was read. A sheet with one set bit more, for a bid of 0, is refused. */
@@ -455,6 +504,12 @@ static void test_null(void)
     expect(bay_market_read(NULL, 0, NULL, 0, NULL, 0, NULL, 0, NULL, 0, NULL, 0, &n, &m) == BAY_MARKET_LENT_LENGTHS,
            "no tables");
     expect(read_sheet(NULL, 0) == BAY_MARKET_SHEET_ENDS, "no sheet");
+    expect(bay_market_read_csv(NULL, 0, NULL, 0, NULL, 0, NULL, 0, NULL, 0, NULL, 0, &n, &m)
+           == BAY_MARKET_LENT_LENGTHS, "no tables for a text");
+    expect(bay_market_read_csv(NULL, 0, amounts, BAY_MARKET_MAX_GUESTS, tickets, BAY_MARKET_MAX_GUESTS, asks,
+                               BAY_MARKET_MAX_STATIONS, bays, BAY_MARKET_MAX_STATIONS, bids, BAY_MARKET_MAX_BIDS,
+                               &n, &m)
+           == BAY_MARKET_MALFORMED_TEXT, "no text");
     expect(bay_market_place_bids(NULL, 0, NULL, 0, NULL, 0, NULL, 0, &bay, 1, &bay, 1, NULL, 0) == BAY_MARKET_ACCEPTED,
            "no guests to place");
     expect(bay_market_place_bids(NULL, 0, NULL, 0, NULL, 0, NULL, 0, NULL, 0, NULL, 0, NULL, 0)
@@ -469,7 +524,7 @@ static void test_null(void)
 
 static void test_texts(void)
 {
-    const uint8_t beyond = BAY_MARKET_TICKET_IN_BOTH + 1;
+    const uint8_t beyond = BAY_MARKET_FIELD_TOO_LARGE + 1;
 
     expect(strcmp(bay_market_refusal_text(BAY_MARKET_ACCEPTED), "accepted") == 0, "the text of 0");
     expect(strcmp(bay_market_refusal_text(beyond), bay_market_refusal_text(255)) == 0, "no answer of the engine");
@@ -491,6 +546,7 @@ static void test_texts(void)
 int main(void)
 {
     test_read();
+    test_csv();
     test_write();
     test_clear();
     test_tickets();

@@ -1,5 +1,5 @@
-/* What a call takes of the stack, the largest market's too, is at most BAY_MARKET_MAX_STACK: each call runs on a
- * stack of so many bytes above a page that cannot be touched, and what it touched is measured. */
+/* What a call takes of the stack, the largest market's too, is at most what the header says: each call runs on a stack
+ * of so many bytes above a page that cannot be touched, and what it touched is measured. */
 #define _GNU_SOURCE
 #include "bay_market.h"
 
@@ -16,7 +16,8 @@ static uint32_t asks[BAY_MARKET_MAX_STATIONS], tickets[BAY_MARKET_MAX_GUESTS], b
 static uint32_t prices[BAY_MARKET_MAX_GUESTS], falls[BAY_MARKET_MAX_GUESTS];
 static uint16_t guest_cells[BAY_MARKET_MAX_GUESTS], station_cells[BAY_MARKET_MAX_STATIONS];
 static uint8_t sheet[BAY_MARKET_MAX_SHEET];
-static size_t sheet_len;
+static char text[BAY_MARKET_MAX_TEXT + 1];
+static size_t sheet_len, text_len;
 static uint16_t stations[BAY_MARKET_MAX_GUESTS];
 static uint32_t charges[BAY_MARKET_MAX_GUESTS], sold[BAY_MARKET_MAX_STATIONS];
 static uint64_t paid[BAY_MARKET_MAX_STATIONS], margin, guests[BAY_MARKET_MAX_GUESTS], house;
@@ -36,6 +37,14 @@ static void call_read(void)
     answer = bay_market_read(sheet, sheet_len, amounts, BAY_MARKET_MAX_GUESTS, tickets, BAY_MARKET_MAX_GUESTS,
                              asks, BAY_MARKET_MAX_STATIONS, bays, BAY_MARKET_MAX_STATIONS, bids, BAY_MARKET_MAX_BIDS,
                              &n, &m);
+}
+
+/* It reads the sheet's market as text. */
+static void call_read_csv(void)
+{
+    answer = bay_market_read_csv((const uint8_t *)text, text_len, amounts, BAY_MARKET_MAX_GUESTS,
+                                 tickets, BAY_MARKET_MAX_GUESTS, asks, BAY_MARKET_MAX_STATIONS,
+                                 bays, BAY_MARKET_MAX_STATIONS, bids, BAY_MARKET_MAX_BIDS, &n, &m);
 }
 
 static void call_write(void)
@@ -85,11 +94,11 @@ static void call_place_bids(void)
                                    station_cells, m, bids, (size_t)n * m);
 }
 
-/* How many bytes of the stack a call touches. */
-static size_t depth(void (*call)(void))
+/* How many bytes a call touches of a stack of this size. */
+static size_t depth(void (*call)(void), size_t size)
 {
     static ucontext_t here, there;
-    uint8_t *memory = mmap(NULL, GUARD + BAY_MARKET_MAX_STACK, PROT_READ | PROT_WRITE, MAP_PRIVATE | MAP_ANONYMOUS, -1, 0);
+    uint8_t *memory = mmap(NULL, GUARD + size, PROT_READ | PROT_WRITE, MAP_PRIVATE | MAP_ANONYMOUS, -1, 0);
     uint8_t *stack = memory + GUARD;
     size_t untouched = 0;
 
@@ -97,18 +106,18 @@ static size_t depth(void (*call)(void))
         perror("stack");
         return SIZE_MAX;
     }
-    memset(stack, PAINT, BAY_MARKET_MAX_STACK);
+    memset(stack, PAINT, size);
     getcontext(&there);
     there.uc_stack.ss_sp = stack;
-    there.uc_stack.ss_size = BAY_MARKET_MAX_STACK;
+    there.uc_stack.ss_size = size;
     there.uc_link = &here;
     makecontext(&there, call, 0);
     swapcontext(&here, &there);
-    while (untouched < BAY_MARKET_MAX_STACK && stack[untouched] == PAINT) {
+    while (untouched < size && stack[untouched] == PAINT) {
         untouched++;
     }
-    munmap(memory, GUARD + BAY_MARKET_MAX_STACK);
-    return BAY_MARKET_MAX_STACK - untouched;
+    munmap(memory, GUARD + size);
+    return size - untouched;
 }
 
 /* The largest sheet, full of candidates; `spread` moves the bids apart, and tickets fall where it is even. */
@@ -136,6 +145,30 @@ static void write_sheet(uint32_t spread)
     sheet_len = (size_t)(at - sheet);
 }
 
+static void put_field(unsigned long value, int last)
+{
+    text_len += (size_t)snprintf(text + text_len, sizeof text - text_len, "%010lu%s", value, last ? "\r\n" : ",");
+}
+
+/* The market of the tables as the longest text: every field has ten digits. */
+static void write_text(void)
+{
+    text_len = 0;
+    for (int j = 0; j < m; j++) {
+        put_field(asks[j], j + 1 == m);
+    }
+    for (int j = 0; j < m; j++) {
+        put_field(bays[j], j + 1 == m);
+    }
+    for (int i = 0; i < n; i++) {
+        put_field(tickets[i], 0);
+        put_field(amounts[i], 0);
+        for (int j = 0; j < m; j++) {
+            put_field(bids[i * m + j], j + 1 == m);
+        }
+    }
+}
+
 /* Guests and stations from one end of the grid to the other; `spread` moves prices and falls. */
 static void state_places(uint32_t spread)
 {
@@ -154,26 +187,33 @@ int main(void)
     static const struct {
         const char *name;
         void (*call)(void);
-    } calls[] = {{"read", call_read}, {"write", call_write}, {"clear", call_clear},
-                 {"clear_efficient", call_clear_efficient}, {"explain", call_explain}, {"join", call_join},
-                 {"post", call_post}, {"place_bids", call_place_bids}};
-    size_t most = 0, base = depth(none);
+        size_t allowed;
+    } calls[] = {{"read", call_read, BAY_MARKET_MAX_STACK}, {"read_csv", call_read_csv, BAY_MARKET_MAX_STACK_READ_CSV},
+                 {"write", call_write, BAY_MARKET_MAX_STACK}, {"clear", call_clear, BAY_MARKET_MAX_STACK},
+                 {"clear_efficient", call_clear_efficient, BAY_MARKET_MAX_STACK},
+                 {"explain", call_explain, BAY_MARKET_MAX_STACK}, {"join", call_join, BAY_MARKET_MAX_STACK},
+                 {"post", call_post, BAY_MARKET_MAX_STACK}, {"place_bids", call_place_bids, BAY_MARKET_MAX_STACK}};
+    size_t most = 0, most_csv = 0;
 
     for (uint32_t spread = 1; spread <= 900000; spread *= 30) {
         write_sheet(spread);
         state_places(spread);
+        call_read();
+        write_text();
         for (size_t i = 0; i < sizeof calls / sizeof *calls; i++) {
             answer = 255;
-            size_t taken = depth(calls[i].call) - base;
+            size_t taken = depth(calls[i].call, calls[i].allowed) - depth(none, calls[i].allowed);
+            size_t *so_far = calls[i].call == call_read_csv ? &most_csv : &most;
             if (answer != BAY_MARKET_ACCEPTED) {
                 fprintf(stderr, "%s: refused %d\n", calls[i].name, answer);
                 return 1;
             }
-            if (taken > most) {
-                most = taken;
+            if (taken > *so_far) {
+                *so_far = taken;
             }
         }
     }
-    printf("stack test: a call took at most %zu bytes of %d\n", most, BAY_MARKET_MAX_STACK);
+    printf("stack test: a call took at most %zu bytes of %d, one of read_csv %zu of %d\n", most, BAY_MARKET_MAX_STACK,
+           most_csv, BAY_MARKET_MAX_STACK_READ_CSV);
     return 0;
 }

@@ -20,6 +20,16 @@ unsafe extern "C" {
         n: *mut u16, m: *mut u16,
     ) -> u8;
 
+    pub fn bay_market_read_csv(
+        text: *const u8, text_len: usize,
+        amounts: *mut u16, amounts_len: usize,
+        tickets: *mut u32, tickets_len: usize,
+        asks: *mut u32, asks_len: usize,
+        bays: *mut u16, bays_len: usize,
+        bids: *mut u32, bids_len: usize,
+        n: *mut u16, m: *mut u16,
+    ) -> u8;
+
     pub fn bay_market_write(
         asks: *const u32, asks_len: usize,
         bays: *const u16, bays_len: usize,

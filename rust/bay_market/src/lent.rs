@@ -74,7 +74,7 @@ pub struct Explanation<'a> {
     pub reasons: &'a mut [u8],
 }
 
-/// What the reader fills: the first places of tables of the greatest size.
+/// What a reader fills: the first places of tables of the greatest size.
 ///
 /// Another size is no table:
 ///
@@ -91,7 +91,7 @@ pub struct Tables<'a> {
     pub bids: &'a mut [u32; MAX_BIDS],
 }
 
-/// What the reader answers: how much of each table it filled.
+/// What a reader answers: how much of each table it filled.
 #[derive(Clone, Copy, Debug, PartialEq, Eq)]
 pub struct Counts {
     pub guests: u16,
@@ -124,10 +124,17 @@ impl<'a> Tables<'a> {
 
 /// Reads a sheet into the first places of the tables.
 pub fn read(sheet: &[u8], tables: &mut Tables) -> Result<Counts, Refusal> {
+    read_by(slices::read, sheet, tables)
+}
+
+/// A reader over slices: its bytes, the tables in the readers' order, and the two counts.
+type Reader = fn(&[u8], &mut [u16], &mut [u32], &mut [u32], &mut [u16], &mut [u32], &mut u16, &mut u16) -> u8;
+
+fn read_by(read: Reader, bytes: &[u8], tables: &mut Tables) -> Result<Counts, Refusal> {
     let mut counts = Counts { guests: 0, stations: 0 };
-    // the order is the reader's: amounts, tickets, asks, bays, bids
-    let answer = slices::read(
-        sheet,
+    // the order is the readers': amounts, tickets, asks, bays, bids
+    let answer = read(
+        bytes,
         tables.amounts,
         tables.tickets,
         tables.asks,
@@ -137,6 +144,30 @@ pub fn read(sheet: &[u8], tables: &mut Tables) -> Result<Counts, Refusal> {
         &mut counts.stations,
     );
     Refusal::check(answer).map(|()| counts)
+}
+
+/// Reads a comma-separated market into the first places of the tables: a line of asks, one of bays, then for each guest one
+/// with its ticket, amount and bids, each line with CR LF at its end. A bid may be empty, which is 0. The call takes up to
+/// [`MAX_STACK_READ_CSV`](crate::MAX_STACK_READ_CSV) bytes of stack.
+///
+/// ```
+/// use bay_market::lent::{Counts, Tables, read_csv};
+/// use bay_market::Refusal;
+///
+/// let (amounts, tickets, bids) = (&mut [77; 200], &mut [77; 200], &mut [77; 8000]);
+/// let mut tables = Tables { amounts, tickets, asks: &mut [77; 40], bays: &mut [77; 40], bids };
+/// assert_eq!(read_csv(b"2,6\n", &mut tables), Err(Refusal::MalformedText));
+/// assert_eq!(read_csv(b"2,6\r\n1,65536\r\n", &mut tables), Err(Refusal::FieldTooLarge));
+/// assert_eq!(tables.asks, &[77; 40]);
+/// let counts = read_csv(b"2,6\r\n1,1\r\n1,3,8,\r\n2,3,8,\r\n", &mut tables)?;
+/// assert_eq!(counts, Counts { guests: 2, stations: 2 });
+/// let market = tables.market(counts);
+/// assert_eq!((market.tickets, market.amounts, market.bids), (&[1, 2][..], &[3, 3][..], &[8, 0, 8, 0][..]));
+/// assert_eq!(tables.bids[4..], [77; 7996]);
+/// # Ok::<(), Refusal>(())
+/// ```
+pub fn read_csv(text: &[u8], tables: &mut Tables) -> Result<Counts, Refusal> {
+    read_by(slices::read_csv, text, tables)
 }
 
 /// Writes the market's shortest sheet, with a set bit exactly where a bid is not 0, over the first bytes of `sheet`. Gives

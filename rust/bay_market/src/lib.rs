@@ -47,11 +47,15 @@ pub const MAX_BAYS: u16 = 200;
 pub const MAX_CELL: u16 = 31;
 /// Bytes of the largest sheet.
 pub const MAX_SHEET: usize = 34_444;
+/// Bytes of the longest comma-separated market: every field has ten digits.
+pub const MAX_TEXT: usize = 93_482;
 /// Of an account in mills, and of a sum in kWh.
 pub const MAX_ACCOUNT: u64 = 1_000_000_000_000_000;
 pub const MAX_ROUND: u32 = u32::MAX;
-/// Bytes of stack that a call of the engine takes at most.
+/// Bytes of stack that a call of the engine takes at most, but for that of [`lent::read_csv`].
 pub const MAX_STACK: usize = 16_384;
+/// Bytes of stack that the engine takes at most to read a comma-separated market.
+pub const MAX_STACK_READ_CSV: usize = 40_960;
 
 /// The rule of a clearing, an explanation or a posting: the position of the cut, from 1, among the m asks in rising
 /// order.

@@ -69,6 +69,31 @@ impl Market {
     /// assert_eq!(Market::read(&sheet[..9]), Err(Refusal::SheetEnds));
     /// ```
     pub fn read(sheet: &[u8]) -> Result<Market, Refusal> {
+        Market::read_by(lent::read, sheet)
+    }
+
+    /// The market that a comma-separated text states: a line of asks, one of bays, then for each guest one with its ticket,
+    /// amount and bids, each line with CR LF at its end. A bid may be empty, which is 0. Whether values are in range, the
+    /// clearing says.
+    ///
+    /// ```
+    /// use bay_market::{Market, Refusal, Rule};
+    ///
+    /// let market = Market::from_csv(b"2,6\r\n1,1\r\n1,3,8,\r\n2,3,8,\r\n")?;
+    /// assert_eq!((&market.tickets[..], &market.bids[..]), (&[1, 2][..], &[8, 0, 8, 0][..]));
+    /// assert_eq!(market.clear(Rule::Median)?.charges, [24, 0]);
+    /// assert_eq!(Market::from_csv(b"2,6\n1,1\n"), Err(Refusal::MalformedText)); // lines end in CR LF
+    /// assert_eq!(Market::from_csv(b"2,6\r\n1,65536\r\n"), Err(Refusal::FieldTooLarge)); // bays are 16 bits wide
+    /// # Ok::<(), Refusal>(())
+    /// ```
+    pub fn from_csv(text: &[u8]) -> Result<Market, Refusal> {
+        Market::read_by(lent::read_csv, text)
+    }
+
+    fn read_by(
+        read: impl Fn(&[u8], &mut lent::Tables) -> Result<lent::Counts, Refusal>,
+        bytes: &[u8],
+    ) -> Result<Market, Refusal> {
         let mut tables = lent::Tables {
             amounts: &mut [0; MAX_GUESTS],
             tickets: &mut [0; MAX_GUESTS],
@@ -76,7 +101,7 @@ impl Market {
             bays: &mut [0; MAX_STATIONS],
             bids: &mut [0; MAX_BIDS],
         };
-        let counts = lent::read(sheet, &mut tables)?;
+        let counts = read(bytes, &mut tables)?;
         let read = tables.market(counts);
         Ok(Market {
             asks: read.asks.into(),
@@ -299,6 +324,7 @@ impl Ledger {
 #[cfg(test)]
 mod tests {
     use super::*;
+    use crate::MAX_TEXT;
 
     const SHEET_E: [u8; 38] = [
         2, 0, 2, 0, 2, 0, 0, 0, 1, 0, 6, 0, 0, 0, 1, 0, //
@@ -406,6 +432,25 @@ mod tests {
         let (amounts, tickets) = (vec![1; 200], (0..200).collect());
         let largest = Market { asks: vec![1; 40], bays: vec![1; 40], amounts, tickets, bids: vec![1; 8_000] };
         assert_eq!(largest.to_sheet().map(|sheet| sheet.len()), Ok(MAX_SHEET));
+    }
+
+    #[test]
+    fn reads_case_e_as_text() {
+        let text = "2,6\r\n1,1\r\n1,3,8,\r\n2,3,8,\r\n";
+        assert_eq!(Market::from_csv(text.as_bytes()), Ok(case_e()));
+        assert_eq!(Market::from_csv(text.replace("8,", "0000000008,0").as_bytes()), Ok(case_e()));
+        assert_eq!(Market::from_csv(text.replace('\r', "").as_bytes()), Err(Refusal::MalformedText));
+        assert_eq!(Market::from_csv(text.replace('8', "00000000008").as_bytes()), Err(Refusal::FieldTooLarge));
+        assert_eq!(Market::from_csv(&b"1,".repeat(40)), Err(Refusal::CountsOutOfRange));
+    }
+
+    #[test]
+    fn the_longest_text_is_read() {
+        let line = |count: usize| vec!["0000000001"; count].join(",") + "\r\n";
+        let text = line(40).repeat(2) + &line(42).repeat(200);
+        assert_eq!(text.len(), MAX_TEXT);
+        let read = Market::from_csv(text.as_bytes()).map(|market| (market.amounts.len(), market.bids));
+        assert_eq!(read, Ok((200, vec![1; 8_000])));
     }
 
     #[test]

@@ -46,11 +46,15 @@ pub enum Refusal {
     StationsDiffer = 20,
     /// a ticket is in both markets
     TicketInBoth = 21,
+    /// a byte of the text, or its end, stands where it may not
+    MalformedText = 22,
+    /// a field has more than ten digits, or does not fit its table
+    FieldTooLarge = 23,
 }
 
 impl Refusal {
     /// All refusals, by rising number.
-    pub const ALL: [Refusal; 21] = [
+    pub const ALL: [Refusal; 23] = [
         Refusal::SheetEnds,
         Refusal::CountsOutOfRange,
         Refusal::StrayBit,
@@ -72,6 +76,8 @@ impl Refusal {
         Refusal::EmptyBid,
         Refusal::StationsDiffer,
         Refusal::TicketInBoth,
+        Refusal::MalformedText,
+        Refusal::FieldTooLarge,
     ];
 
     /// What the refusal says.
@@ -98,6 +104,8 @@ impl Refusal {
             Refusal::EmptyBid => "a set bit of the sheet has a bid of 0",
             Refusal::StationsDiffer => "two markets differ in their stations' count, asks or bays",
             Refusal::TicketInBoth => "a ticket is in both markets",
+            Refusal::MalformedText => "a byte of the text, or its end, stands where it may not",
+            Refusal::FieldTooLarge => "a field has more than ten digits, or does not fit its table",
         }
     }
 }

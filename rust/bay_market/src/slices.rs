@@ -227,6 +227,30 @@ pub(crate) fn read(
     }
 }
 
+pub(crate) fn read_csv(
+    text: &[u8],
+    amounts: &mut [u16],
+    tickets: &mut [u32],
+    asks: &mut [u32],
+    bays: &mut [u16],
+    bids: &mut [u32],
+    n: &mut u16, m: &mut u16,
+) -> u8 {
+    // SAFETY: every pointer and length is that of a live slice or number, and borrows keep
+    // the written ones apart.
+    unsafe {
+        c::bay_market_read_csv(
+            text.as_ptr(), text.len(),
+            amounts.as_mut_ptr(), amounts.len(),
+            tickets.as_mut_ptr(), tickets.len(),
+            asks.as_mut_ptr(), asks.len(),
+            bays.as_mut_ptr(), bays.len(),
+            bids.as_mut_ptr(), bids.len(),
+            n, m,
+        )
+    }
+}
+
 pub(crate) fn write(
     asks: &[u32],
     bays: &[u16],

@@ -9,7 +9,7 @@ use reference::clearing::{self, Outcome};
 use reference::market::Market;
 use reference::places::{self, Places};
 use reference::random::{self, Random, Shape, Spread};
-use reference::{explaining, gates, ledger, sheet};
+use reference::{csv, explaining, gates, ledger, sheet};
 use std::hint::black_box;
 use std::time::{Duration, Instant};
 
@@ -287,32 +287,51 @@ impl Read {
 const FILLINGS: [(&str, u64); 3] =
     [("largest sheet, 34,444 bytes", 0), ("200 by 40, two bids in five", 60), ("200 by 40, one bid in ten", 90)];
 
-type ReadSheet = fn(&[u8], &mut Tables) -> Result<Counts, u8>;
+type ReadBytes = fn(&[u8], &mut Tables) -> Result<Counts, u8>;
 
-const READINGS: [ReadSheet; 2] = [|sheet, tables| lent::read(sheet, tables).map_err(|refusal| refusal.number()), baseline::read];
+const READINGS: [ReadBytes; 2] = [|sheet, tables| lent::read(sheet, tables).map_err(|refusal| refusal.number()), baseline::read];
+
+const CSV_READINGS: [ReadBytes; 2] =
+    [|text, tables| lent::read_csv(text, tables).map_err(|refusal| refusal.number()), baseline::read_csv];
+
+/// A row of a reading: the engine and a baseline on the markets' sheets or texts.
+fn reading(name: &str, markets: &[Market], readers: [ReadBytes; 2], written: fn(&Market) -> Vec<u8>) {
+    let inputs: Vec<Vec<u8>> = markets.iter().map(written).collect();
+    let mut tables = [Read::new(), Read::new()];
+    for (input, market) in inputs.iter().zip(markets) {
+        for (read, tables) in readers.iter().zip(&mut tables) {
+            let counts = read(input, &mut tables.lend()).expect("a sheet or a text");
+            assert!(tables.market(counts) == *market, "a contender differs from the reference");
+        }
+    }
+    let [engine, plain] = &mut tables;
+    let run = |read: ReadBytes, input: &[u8], tables: &mut Read| {
+        black_box(read(input, &mut tables.lend())).expect("a sheet or a text");
+    };
+    let medians =
+        medians(&inputs, &mut [&mut |input| run(readers[0], input, engine), &mut |input| run(readers[1], input, plain)]);
+    print_row(name, &medians);
+}
 
 fn readings(random: &mut Random) {
     print_head("reading", &["two walks"]);
     for (name, empty) in FILLINGS {
         let shape = Shape { bids: 1..=1_000_000, empty, ..full() };
-        let sheets: Vec<Vec<u8>> = (0..MARKETS).map(|_| sheet::shortest(&shape.market(random))).collect();
-        let mut tables = [Read::new(), Read::new()];
-        for sheet in &sheets {
-            for (read, tables) in READINGS.iter().zip(&mut tables) {
-                let counts = read(sheet, &mut tables.lend()).expect("a sheet");
-                assert!(
-                    Ok(tables.market(counts)) == sheet::read(sheet, sheet::GREATEST),
-                    "a contender differs from the reference"
-                );
-            }
-        }
-        let [engine, walks] = &mut tables;
-        let run = |read: ReadSheet, sheet: &[u8], tables: &mut Read| {
-            black_box(read(sheet, &mut tables.lend())).expect("a sheet");
-        };
-        let medians =
-            medians(&sheets, &mut [&mut |sheet| run(READINGS[0], sheet, engine), &mut |sheet| run(READINGS[1], sheet, walks)]);
-        print_row(name, &medians);
+        let markets: Vec<Market> = (0..MARKETS).map(|_| shape.market(random)).collect();
+        reading(name, &markets, READINGS, sheet::shortest);
+    }
+}
+
+/// Of a hundred bids of a text, how many are empty.
+const TEXTS: [(&str, u64); 3] =
+    [("200 by 40, all bids", 0), ("200 by 40, two bids in five", 60), ("200 by 40, one bid in ten", 90)];
+
+fn csv_readings(random: &mut Random) {
+    print_head("reading comma-separated markets", &["plain Rust"]);
+    for (name, empty) in TEXTS {
+        let shape = Shape { bids: 1..=1_000_000, empty, ..full() };
+        let markets: Vec<Market> = (0..MARKETS).map(|_| shape.market(random)).collect();
+        reading(name, &markets, CSV_READINGS, csv::shortest);
     }
 }
 
@@ -525,4 +544,5 @@ fn main() {
     postings(&mut random);
     placings(&mut random);
     joinings(&mut random);
+    csv_readings(&mut random);
 }

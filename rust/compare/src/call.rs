@@ -4,7 +4,7 @@
 use crate::lent::Lent;
 use bay_market::c::{
     bay_market_clear, bay_market_clear_efficient, bay_market_explain, bay_market_join, bay_market_place_bids, bay_market_post,
-    bay_market_read, bay_market_write,
+    bay_market_read, bay_market_read_csv, bay_market_write,
 };
 use bay_market::{Cell, Code, MAX_BIDS, MAX_GUESTS, MAX_SHEET, MAX_STATIONS, Reason, Refusal, Rule, StationAccount, lent};
 use reference::clearing::{self, Outcome};
@@ -94,14 +94,45 @@ fn each_way(mut call: impl FnMut(Way) -> Result<(), String>) -> Result<(), Strin
     gone.into_iter().try_for_each(|(name, way)| call(*way).map_err(|what| format!("{what} ({name})")))
 }
 
-/// Reads a sheet and holds answer and memory to what is expected.
-pub fn read(random: &mut Random, sheet: &[u8], lengths: TableLengths, expected: &Result<Market, u8>) -> Result<(), String> {
+/// What a market is read from.
+#[derive(Clone, Copy, Debug, PartialEq, Eq)]
+pub enum Form {
+    Sheet,
+    Csv,
+}
+
+impl Form {
+    /// The reader, by the types that own their lists.
+    fn read(self, bytes: &[u8]) -> Result<bay_market::Market, Refusal> {
+        match self {
+            Form::Sheet => bay_market::Market::read(bytes),
+            Form::Csv => bay_market::Market::from_csv(bytes),
+        }
+    }
+
+    /// The reader over slices.
+    fn read_slices(self, bytes: &[u8], tables: &mut lent::Tables) -> Result<lent::Counts, Refusal> {
+        match self {
+            Form::Sheet => lent::read(bytes, tables),
+            Form::Csv => lent::read_csv(bytes, tables),
+        }
+    }
+}
+
+/// Reads a sheet or a text and holds answer and memory to what is expected.
+pub fn read(
+    form: Form,
+    random: &mut Random,
+    bytes: &[u8],
+    lengths: TableLengths,
+    expected: &Result<Market, u8>,
+) -> Result<(), String> {
     each_way(|way| match way {
-        Way::C => read_lent(way, random, sheet, lengths, expected),
+        Way::C => read_lent(way, form, random, bytes, lengths, expected),
         _ if lengths != GREATEST => Ok(()), // the types do not let it happen
-        Way::Slices => read_lent(way, random, sheet, lengths, expected),
+        Way::Slices => read_lent(way, form, random, bytes, lengths, expected),
         Way::Owned => {
-            let read = bay_market::Market::read(sheet).map_err(Refusal::number);
+            let read = form.read(bytes).map_err(Refusal::number);
             require(read == expected.as_ref().map(own).map_err(|&number| number), "the owned market differs")
         }
     })
@@ -109,9 +140,13 @@ pub fn read(random: &mut Random, sheet: &[u8], lengths: TableLengths, expected: 
 
 #[rustfmt::skip] // pointer and length on one line
 fn read_lent(
-    way: Way, random: &mut Random, sheet: &[u8], lengths: TableLengths, expected: &Result<Market, u8>,
+    way: Way, form: Form, random: &mut Random, bytes: &[u8], lengths: TableLengths, expected: &Result<Market, u8>,
 ) -> Result<(), String> {
-    let mut sheet: Lent<u8> = Lent::holding(random, sheet);
+    let in_c = match form {
+        Form::Sheet => bay_market_read,
+        Form::Csv => bay_market_read_csv,
+    };
+    let mut bytes: Lent<u8> = Lent::holding(random, bytes);
     let mut amounts: Lent<u16> = Lent::noise(random, lengths.amounts);
     let mut tickets: Lent<u32> = Lent::noise(random, lengths.tickets);
     let mut asks: Lent<u32> = Lent::noise(random, lengths.asks);
@@ -122,8 +157,8 @@ fn read_lent(
     let answer = match way {
         // SAFETY: each pointer and length is that of a lent part of a vector of its own.
         Way::C => unsafe {
-            bay_market_read(
-                sheet.pointer(), sheet.len(),
+            in_c(
+                bytes.pointer(), bytes.len(),
                 amounts.pointer(), amounts.len(),
                 tickets.pointer(), tickets.len(),
                 asks.pointer(), asks.len(),
@@ -141,14 +176,14 @@ fn read_lent(
                 bays: bays.slice().try_into().expect(size),
                 bids: bids.slice().try_into().expect(size),
             };
-            numbered(lent::read(sheet.slice(), &mut tables), |counts| {
+            numbered(form.read_slices(bytes.slice(), &mut tables), |counts| {
                 *n.number() = counts.guests;
                 *m.number() = counts.stations;
             })
         }
     };
     require_answer(answer, expected)?;
-    require(sheet.untouched(), "the sheet was written")?;
+    require(bytes.untouched(), "what is read was written")?;
     let Ok(market) = expected else {
         let guests = amounts.untouched() && tickets.untouched() && bids.untouched() && n.untouched();
         return require(guests && asks.untouched() && bays.untouched() && m.untouched(), "a refused call wrote");
@@ -225,37 +260,17 @@ fn require_trip(sheet: &[u8], (market, first): &Passed, (again, second): &Passed
 #[rustfmt::skip] // pointer and length on one line
 fn read_and_write(way: Way, sheet: &[u8]) -> Result<Passed, String> {
     let accepted = |answer| require_answer::<()>(answer, &Ok(()));
-    let mut read = bay_market::Market::default();
+    let read = read_by(way, Form::Sheet, sheet)?;
     let mut written = Vec::new();
     if way == Way::Owned {
-        accepted(numbered(bay_market::Market::read(sheet), |market| read = market))?;
         accepted(numbered(read.to_sheet(), |sheet| written = sheet))?;
         return Ok((read, written));
     }
-    let (amounts, tickets) = (&mut [0; MAX_GUESTS], &mut [0; MAX_GUESTS]);
-    let (asks, bays, bids) = (&mut [0; MAX_STATIONS], &mut [0; MAX_STATIONS], &mut [0; MAX_BIDS]);
-    let mut tables = lent::Tables { amounts, tickets, asks, bays, bids };
-    let mut counts = lent::Counts { guests: 0, stations: 0 };
-    accepted(match way {
-        // SAFETY: each pointer and length is that of an array.
-        Way::C => unsafe {
-            bay_market_read(
-                sheet.as_ptr(), sheet.len(),
-                tables.amounts.as_mut_ptr(), tables.amounts.len(),
-                tables.tickets.as_mut_ptr(), tables.tickets.len(),
-                tables.asks.as_mut_ptr(), tables.asks.len(),
-                tables.bays.as_mut_ptr(), tables.bays.len(),
-                tables.bids.as_mut_ptr(), tables.bids.len(),
-                &mut counts.guests, &mut counts.stations,
-            )
-        },
-        _ => numbered(lent::read(sheet, &mut tables), |read| counts = read),
-    })?;
-    let market = tables.market(counts);
+    let market = read.lend();
     written.resize(MAX_SHEET, 0xFF);
     let mut length = 0;
     accepted(match way {
-        // SAFETY: as above.
+        // SAFETY: each pointer and length is that of a list.
         Way::C => unsafe {
             bay_market_write(
                 market.asks.as_ptr(), market.asks.len(),
@@ -272,11 +287,56 @@ fn read_and_write(way: Way, sheet: &[u8]) -> Result<Passed, String> {
     })?;
     require(length <= MAX_SHEET, "the length is beyond the output")?;
     written.truncate(length);
-    let own = |market: lent::Market| bay_market::Market {
+    Ok((read, written))
+}
+
+/// The market that a sheet or a text states, which is to be read.
+#[rustfmt::skip] // pointer and length on one line
+fn read_by(way: Way, form: Form, bytes: &[u8]) -> Result<bay_market::Market, String> {
+    let accepted = |answer| require_answer::<()>(answer, &Ok(()));
+    let mut read = bay_market::Market::default();
+    if way == Way::Owned {
+        accepted(numbered(form.read(bytes), |market| read = market))?;
+        return Ok(read);
+    }
+    let in_c = match form {
+        Form::Sheet => bay_market_read,
+        Form::Csv => bay_market_read_csv,
+    };
+    let (amounts, tickets) = (&mut [77; MAX_GUESTS], &mut [77; MAX_GUESTS]);
+    let (asks, bays, bids) = (&mut [77; MAX_STATIONS], &mut [77; MAX_STATIONS], &mut [77; MAX_BIDS]);
+    let mut tables = lent::Tables { amounts, tickets, asks, bays, bids };
+    let mut counts = lent::Counts { guests: 0, stations: 0 };
+    accepted(match way {
+        // SAFETY: each pointer and length is that of an array.
+        Way::C => unsafe {
+            in_c(
+                bytes.as_ptr(), bytes.len(),
+                tables.amounts.as_mut_ptr(), tables.amounts.len(),
+                tables.tickets.as_mut_ptr(), tables.tickets.len(),
+                tables.asks.as_mut_ptr(), tables.asks.len(),
+                tables.bays.as_mut_ptr(), tables.bays.len(),
+                tables.bids.as_mut_ptr(), tables.bids.len(),
+                &mut counts.guests, &mut counts.stations,
+            )
+        },
+        _ => numbered(form.read_slices(bytes, &mut tables), |read| counts = read),
+    })?;
+    let market = tables.market(counts);
+    Ok(bay_market::Market {
         asks: market.asks.to_vec(), bays: market.bays.to_vec(),
         amounts: market.amounts.to_vec(), tickets: market.tickets.to_vec(), bids: market.bids.to_vec(),
-    };
-    Ok((own(market), written))
+    })
+}
+
+/// Reads a text that states a market, and clears by a rule what was read and the market as its tables have it.
+pub fn csv_trip(rule: Rule, market: &Market, text: &[u8]) -> Result<(), String> {
+    each_way(|way| {
+        let read = read_by(way, Form::Csv, text)?;
+        require(read == own(market), "what was read differs from the market")?;
+        require(read.clear(rule) == own(market).clear(rule), "the clearings differ")?;
+        require(read.to_sheet() == own(market).to_sheet(), "the sheets differ")
+    })
 }
 
 /// Places bids in a table of so many places and holds answer and memory to what is expected.

@@ -1,12 +1,14 @@
 //! Runs the static library and the clearing program against the reference on seeded random cases:
 //! `compare [SEED [PART [WAY]]]`, where a part is read, write, trip (sheets read, written, read and written again),
-//! place_bids, join, clear, clear_efficient, explain, facts (what is told against the clearing), post, gates (a search for
-//! a place that joining gives or a charge that it lowers), truth (a search for false reports that pay), truth_efficient or
-//! print, and the first ten are called by all ways or by one: c, slices or owned. A failing case prints itself and ends the
-//! run with 1; wrong use ends it with 2.
+//! read_csv, csv_trip (comma-separated markets read, and cleared as their tables are), place_bids, join, clear,
+//! clear_efficient, explain, facts (what is told against the clearing), post, gates (a search for a place that joining gives
+//! or a charge that it lowers), truth (a search for false reports that pay), truth_efficient, print
+//! or print_csv, and the first twelve are called by all ways or by one: c, slices or owned. A failing case prints itself and
+//! ends the run with 1; wrong use ends it with 2.
 
 mod call;
 mod clearing;
+mod csv;
 mod explaining;
 mod joining;
 mod lent;
@@ -51,10 +53,12 @@ struct Part {
     cases: usize,
 }
 
-const PARTS: [Part; 14] = [
+const PARTS: [Part; 17] = [
     Part { name: "read", run: reading::run, cases: 6_000 },
     Part { name: "write", run: writing::run, cases: 12_000 },
     Part { name: "trip", run: reading::run_trips, cases: 6_000 },
+    Part { name: "read_csv", run: csv::run, cases: 6_000 },
+    Part { name: "csv_trip", run: csv::run_trips, cases: 6_000 },
     Part { name: "place_bids", run: placing::run, cases: 12_000 },
     Part { name: "join", run: joining::run, cases: 12_000 },
     Part { name: "clear", run: clearing::run_truthful, cases: 20_000 },
@@ -66,6 +70,7 @@ const PARTS: [Part; 14] = [
     Part { name: "truth", run: truth::run_truthful, cases: 3_000 },
     Part { name: "truth_efficient", run: truth::run_efficient, cases: 20_000 },
     Part { name: "print", run: printing::run, cases: 400 },
+    Part { name: "print_csv", run: printing::run_csv, cases: 120 },
 ];
 
 /// What the arguments choose.

@@ -1,14 +1,16 @@
 //! The clearing program, target/dist/clear or the one that BAY_MARKET_PROGRAM names, against the reference's text, with
 //! --quiet against its text of the efficient clearing, with --why against that of what decided, each by rule 2 with
-//! --rule 2, and with --write against its sheet. It ends with 0 and writes nothing to standard error, whatever the sheet,
-//! but that there are no guests where its page is empty.
+//! --rule 2, and with --write against its sheet; with --csv before them, of a comma-separated market. It ends with 0 and
+//! writes nothing to standard error, whatever the input, but that there are no guests where its page is empty.
 
 use crate::Tally;
+use crate::csv;
 use crate::markets::{accepted, hex, shapes, small};
 use crate::reading::{any_sheet, damaged};
 use reference::faults::{MAX_AMOUNT, MAX_BAYS, MAX_PRICE};
+use reference::market::Market;
 use reference::random::{Random, Shape};
-use reference::report::{printed, printed_quiet, printed_why, written};
+use reference::report::{Form, printed, printed_quiet, printed_why, written};
 use reference::sheet::shortest;
 use std::io::Write;
 use std::path::{Path, PathBuf};
@@ -31,7 +33,7 @@ fn run_program(program: &Path, arguments: &[&str], input: &[u8], first: usize, s
     let mut pipe = child.stdin.take().expect("a pipe");
     let (one, two) = (input[..first].to_vec(), input[first..].to_vec());
     let writer = thread::spawn(move || {
-        // the program may stop reading after the largest sheet, which breaks the pipe
+        // the program may stop reading after the largest sheet or text, which breaks the pipe
         let _ = pipe.write_all(&one).and_then(|()| {
             thread::sleep(PAUSE);
             pipe.write_all(&two)
@@ -47,7 +49,7 @@ fn run_program(program: &Path, arguments: &[&str], input: &[u8], first: usize, s
 }
 
 /// A market with one value out of range, or with two equal tickets.
-fn out_of_range(random: &mut Random, which: usize) -> Vec<u8> {
+fn out_of_range(random: &mut Random, which: usize) -> Market {
     let mut market = Shape { guests: 2..=9, stations: 1..=9, bids: 1..=9, ..small() }.market(random);
     let (guest, station) = (random.below(market.guests()), random.below(market.stations()));
     match which {
@@ -60,7 +62,7 @@ fn out_of_range(random: &mut Random, which: usize) -> Vec<u8> {
             market.bids[bid] = MAX_PRICE + 1;
         }
     }
-    shortest(&market)
+    market
 }
 
 /// Whose sheet has every bit set.
@@ -68,9 +70,40 @@ fn largest() -> Shape {
     Shape { bids: 1..=1_000_000, ..Shape::full() }
 }
 
-pub fn run(random: &mut Random, tally: &mut Tally, cases: usize) -> Result<(), String> {
+/// Every page of a sheet or a text.
+fn check(random: &mut Random, tally: &mut Tally, form: Form, input: &[u8]) -> Result<(), String> {
     let program = env::var_os("BAY_MARKET_PROGRAM")
         .map_or_else(|| Path::new(env!("CARGO_MANIFEST_DIR")).join("../../target/dist/clear"), PathBuf::from);
+    let text = printed(form, 1, input);
+    let number = text.strip_prefix("refused ").map(|number| number.trim_end().parse().expect("a number"));
+    let asked = [
+        (&[][..], text.into_bytes()),
+        (&["--quiet"], printed_quiet(form, 1, input).into_bytes()),
+        (&["--rule", "2"], printed(form, 2, input).into_bytes()),
+        (&["--quiet", "--rule", "2"], printed_quiet(form, 2, input).into_bytes()),
+        (&["--why"], printed_why(form, 1, input).into_bytes()),
+        (&["--why", "--rule", "2"], printed_why(form, 2, input).into_bytes()),
+        (&["--write"], written(form, input)),
+    ];
+    let before: &[&str] = if form == Form::Csv { &["--csv"] } else { &[] };
+    for (page, expected) in asked {
+        tally.count(&number.map_or(Ok(()), Err));
+        let arguments = [before, page].concat();
+        let first = random.below(input.len() + 1);
+        let says = if expected.is_empty() { "clear: no guests\n" } else { "" };
+        let output = run_program(&program, &arguments, input, first, says)?;
+        if output != expected {
+            let [output, expected] = [output, expected].map(|bytes| bytes.escape_ascii().to_string().replace("\\n", "\n"));
+            return Err(format!(
+                "the output differs {arguments:?}\nwritten\n{output}\nexpected\n{expected}\ninput {}",
+                hex(input)
+            ));
+        }
+    }
+    Ok(())
+}
+
+pub fn run(random: &mut Random, tally: &mut Tally, cases: usize) -> Result<(), String> {
     let shapes = shapes();
     for case in 0..cases {
         let mut sheet = match case % 4 {
@@ -87,35 +120,44 @@ pub fn run(random: &mut Random, tally: &mut Tally, cases: usize) -> Result<(), S
             // more than a pipe holds
             9 => sheet.resize(200_000, 0),
             // an ask, bays, an amount or a bid out of range, or equal tickets
-            13 | 17 | 21 | 25 | 29 => sheet = out_of_range(random, case % 40),
+            13 | 17 | 21 | 25 | 29 => sheet = shortest(&out_of_range(random, case % 40)),
             // no guests, of which nothing is told
             33 => sheet = shortest(&Shape { guests: 0..=0, ..small() }.market(random)),
             _ => {}
         }
-        let text = printed(1, &sheet);
-        let number = text.strip_prefix("refused ").map(|number| number.trim_end().parse().expect("a number"));
-        let asked = [
-            (&[][..], text.into_bytes()),
-            (&["--quiet"], printed_quiet(1, &sheet).into_bytes()),
-            (&["--rule", "2"], printed(2, &sheet).into_bytes()),
-            (&["--quiet", "--rule", "2"], printed_quiet(2, &sheet).into_bytes()),
-            (&["--why"], printed_why(1, &sheet).into_bytes()),
-            (&["--why", "--rule", "2"], printed_why(2, &sheet).into_bytes()),
-            (&["--write"], written(&sheet)),
-        ];
-        for (arguments, expected) in asked {
-            tally.count(&number.map_or(Ok(()), Err));
-            let first = random.below(sheet.len() + 1);
-            let says = if expected.is_empty() { "clear: no guests\n" } else { "" };
-            let output = run_program(&program, arguments, &sheet, first, says)?;
-            if output != expected {
-                let [output, expected] = [output, expected].map(|bytes| bytes.escape_ascii().to_string().replace("\\n", "\n"));
-                return Err(format!(
-                    "the output differs {arguments:?}\nwritten\n{output}\nexpected\n{expected}\nsheet {}",
-                    hex(&sheet)
-                ));
-            }
-        }
+        check(random, tally, Form::Sheet, &sheet)?;
     }
     tally.require(&[0, 1, 2, 3, 4, 6, 7, 8, 9, 15, 19])
+}
+
+/// The same of comma-separated markets.
+pub fn run_csv(random: &mut Random, tally: &mut Tally, cases: usize) -> Result<(), String> {
+    let shapes = shapes();
+    for case in 0..cases {
+        let market = match case % 20 {
+            1 | 5 | 9 => largest().market(random),
+            // an ask, bays, an amount or a bid out of range, or equal tickets
+            13 => out_of_range(random, [13, 17, 21, 25, 29][case / 20 % 5]),
+            // no guests, of which nothing is told
+            15 => Shape { guests: 0..=0, ..small() }.market(random),
+            0 | 4 | 8 | 12 | 16 => csv::any_market(random, &shapes[case / 4 % shapes.len()]),
+            _ => accepted(random, &shapes),
+        };
+        let mut text = csv::any_text(random, &market);
+        match case % 20 {
+            // the longest text, and one byte more
+            1 => text = csv::longest_text(&market),
+            5 => text = [csv::longest_text(&market), b"1".to_vec()].concat(),
+            // more than a pipe holds
+            9 => text = csv::longest_text(&market).repeat(3),
+            // lines with no CR
+            19 => text.retain(|&byte| byte != b'\r'),
+            // a field that is too large
+            17 => text.extend(b"4294967296,"),
+            _ if case % 4 == 3 => text = csv::damaged(random, &text),
+            _ => {}
+        }
+        check(random, tally, Form::Csv, &text)?;
+    }
+    tally.require(&[0, 2, 6, 7, 8, 9, 15, 22, 23])
 }

@@ -2,7 +2,7 @@
 //! each: what is written is the sheet that was read.
 
 use crate::Tally;
-use crate::call;
+use crate::call::{self, Form};
 use crate::markets::{hex, middling, shapes};
 use reference::faults::market_fault;
 use reference::market::Market;
@@ -12,7 +12,7 @@ use reference::sheet::{GREATEST, TableLengths, read, shortest, stating};
 fn check(random: &mut Random, tally: &mut Tally, sheet: &[u8], lengths: TableLengths) -> Result<(), String> {
     let expected = read(sheet, lengths);
     tally.count(&expected);
-    call::read(random, sheet, lengths, &expected).map_err(|what| {
+    call::read(Form::Sheet, random, sheet, lengths, &expected).map_err(|what| {
         let stated = expected.map_or_else(|number| format!("refused {number}"), |market| format!("{market:?}"));
         format!("{what}\n{lengths:?}\nexpected {stated}\nsheet {}", hex(sheet))
     })
@@ -134,7 +134,7 @@ pub fn damaged(random: &mut Random, sheet: &[u8]) -> Vec<u8> {
 }
 
 /// Lent tables of other lengths: one table or several.
-fn other_lengths(random: &mut Random) -> TableLengths {
+pub fn other_lengths(random: &mut Random) -> TableLengths {
     let mut lengths = GREATEST;
     for _ in 0..random.within(1..=2) {
         let length = match random.below(5) {

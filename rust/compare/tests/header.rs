@@ -75,9 +75,11 @@ fn limits_and_version_agree() {
         ("MAX_BAYS", bay_market::MAX_BAYS.into()),
         ("MAX_CELL", bay_market::MAX_CELL.into()),
         ("MAX_SHEET", bay_market::MAX_SHEET as u64),
+        ("MAX_TEXT", bay_market::MAX_TEXT as u64),
         ("MAX_ACCOUNT", bay_market::MAX_ACCOUNT),
         ("MAX_ROUND", bay_market::MAX_ROUND.into()),
         ("MAX_STACK", bay_market::MAX_STACK as u64),
+        ("MAX_STACK_READ_CSV", bay_market::MAX_STACK_READ_CSV as u64),
     ]);
     assert_eq!(limits, expected);
     let rules = [defined["RULE_MEDIAN"], defined["RULE_TWO_THIRDS"]].map(number);

@@ -1,13 +1,15 @@
 //! Document 01's cases and limits and document 02's of tickets, quiet rounds and what decided, each market also through
-//! its sheet; document 02's of parking places.
+//! its sheet; document 02's of parking places, two gates and comma-separated markets.
 
 use crate::clearing::{Outcome, clear, clear_efficient};
+use crate::csv;
 use crate::explaining::{GuestOutcome, GuestOutcome::Loss, explain};
 use crate::faults::{ExplanationLengths, ListLengths, clearing_fault, explaining_fault, market_fault};
 use crate::gates::{join, joining_fault};
 use crate::ledger::{Ledger, MAX_ACCOUNT, StationAccount};
 use crate::market::Market;
 use crate::places::{Cell, Places, place_bids, placing_fault, squared_distance, walk};
+use crate::report::Form;
 use crate::sheet::{GREATEST, TableLengths, read, shortest, stating, write};
 use crate::{report, samples};
 
@@ -287,7 +289,7 @@ fn what_decided_by_each_rule() {
 
 #[test]
 fn the_text_of_what_decided() {
-    let why = |rule, market: &Market| report::printed_why(rule, &shortest(market));
+    let why = |rule, market: &Market| report::printed_why(Form::Sheet, rule, &shortest(market));
     assert_eq!(why(1, &samples::case_e()), "guest 1 wins station 1 charge 24\nguest 2 loses: outbid\n");
     // cut 3, station 1 open
     let four = one_bay(&[1, 3], &[1; 4], &[0, 0, 0, 9, 2, 9, 5, 0]);
@@ -298,7 +300,7 @@ fn the_text_of_what_decided() {
     assert_eq!(why(2, &six([0, 0, 0, 9, 0, 0])), "guest 1 wins station 4 charge 5\n");
     assert_eq!(why(1, &one_bay(&[2, 6], &[], &[])), "");
     assert_eq!(why(1, &samples::refused()), "refused 6\n");
-    assert_eq!(report::printed_why(1, &SHEET_E[..3]), "refused 1\n");
+    assert_eq!(report::printed_why(Form::Sheet, 1, &SHEET_E[..3]), "refused 1\n");
 }
 
 const SHEET_E: [u8; 38] = [
@@ -312,13 +314,13 @@ fn sheet_e_and_its_text() {
     assert_eq!(shortest(&samples::case_e()), SHEET_E);
     let text = "cut 6\nguest 1 station 1 charge 24\nguest 2 station 0 charge 0\n\
         station 1 sold 3 paid 18\nstation 2 sold 0 paid 0\nmargin 6\n";
-    assert_eq!(report::printed(1, &SHEET_E), text);
-    assert_eq!(report::printed(1, &SHEET_E[..3]), "refused 1\n");
-    assert_eq!(report::printed_quiet(1, &SHEET_E), text);
-    assert_eq!(report::printed_quiet(1, &SHEET_E[..3]), "refused 1\n");
-    assert_eq!(report::written(&SHEET_E), SHEET_E);
-    assert_eq!(report::written(&stating(&samples::case_e(), |_, _| true)), b"refused 19\n");
-    assert_eq!(report::written(&SHEET_E[..3]), b"refused 1\n");
+    assert_eq!(report::printed(Form::Sheet, 1, &SHEET_E), text);
+    assert_eq!(report::printed(Form::Sheet, 1, &SHEET_E[..3]), "refused 1\n");
+    assert_eq!(report::printed_quiet(Form::Sheet, 1, &SHEET_E), text);
+    assert_eq!(report::printed_quiet(Form::Sheet, 1, &SHEET_E[..3]), "refused 1\n");
+    assert_eq!(report::written(Form::Sheet, &SHEET_E), SHEET_E);
+    assert_eq!(report::written(Form::Sheet, &stating(&samples::case_e(), |_, _| true)), b"refused 19\n");
+    assert_eq!(report::written(Form::Sheet, &SHEET_E[..3]), b"refused 1\n");
 }
 
 #[test]
@@ -599,11 +601,121 @@ fn joining_refuses_in_order() {
     assert_eq!(joining_fault(&first, &second, room(200, 1)), Ok(()));
 }
 
+/// The answer to a text.
+fn csv_answer(text: &str) -> u8 {
+    csv::read(text.as_bytes(), GREATEST).err().unwrap_or(0)
+}
+
+#[test]
+fn comma_separated_markets_are_read() {
+    let case_e = "2,6\r\n1,1\r\n1,3,8,\r\n2,3,8,\r\n";
+    assert_eq!(csv::read(case_e.as_bytes(), GREATEST), Ok(samples::case_e()));
+    assert_eq!(csv::shortest(&samples::case_e()), case_e.as_bytes());
+    assert_eq!(csv::read(b"2,6\r\n1,1\r\n", GREATEST), Ok(Market::numbered(&[2, 6], &[1, 1], &[], &[])));
+    // zeros in front, and bids that are empty or 0, also at a line's end
+    let zeros = b"0000000000,05\r\n0000000001,0\r\n0,0000000007,,\r\n0000000009,0,0000000003,0\r\n";
+    assert_eq!(csv::read(zeros, GREATEST), Ok(Market::new(&[0, 5], &[1, 0], &[7, 0], &[0, 9], &[0, 0, 3, 0])));
+    let widest = Market::new(&[u32::MAX], &[u16::MAX], &[u16::MAX], &[u32::MAX], &[u32::MAX]);
+    assert_eq!(csv::shortest(&widest), b"4294967295\r\n65535\r\n4294967295,65535,4294967295\r\n");
+    for market in [widest, samples::table_i(), samples::case_e(), samples::full(), samples::refused()] {
+        assert_eq!(csv::read(&csv::shortest(&market), GREATEST), Ok(market.clone()));
+        assert_eq!(csv::read(&csv::stating(&market, |_, value| format!("{value:010}")), GREATEST), Ok(market));
+    }
+    for tables in [TableLengths { bids: 7_999, ..GREATEST }, TableLengths { tickets: 201, ..GREATEST }] {
+        assert_eq!(csv::read(case_e.as_bytes(), tables), Err(10));
+        assert_eq!(csv::read(b"x", tables), Err(10));
+    }
+}
+
+#[test]
+fn comma_separated_markets_are_refused_at_the_first_place() {
+    for (text, answer) in [
+        // a missing line or line end; CR or LF alone
+        ("", 22),
+        ("1\r\n", 22),
+        ("1\r\n1", 22),
+        ("1\r\n1\r", 22),
+        ("1\r\n1\r\n", 0),
+        ("1\r\n1\r\n1,1,1", 22),
+        ("1\r\n1\r\n1,1,1\r", 22),
+        ("1\n1\n", 22),
+        ("1\r\n1\r\n\n", 22),
+        ("1\r\r\n1\r\n", 22),
+        ("1\r,1\r\n1\r\n", 22),
+        // another byte
+        ("x", 22),
+        ("1\r\n1\r\n1,1,1\r\nx", 22),
+        ("1\r\n1\r\n\0", 22),
+        (" 1\r\n1\r\n", 22),
+        ("\"1\"\r\n1\r\n", 22),
+        ("-1\r\n1\r\n", 22),
+        ("/\r\n1\r\n", 22),
+        (":\r\n1\r\n", 22),
+        // an empty field that is no bid
+        ("\r\n\r\n", 22),
+        (",1\r\n1,1\r\n", 22),
+        ("1,\r\n1,1\r\n", 22),
+        ("1,1\r\n1,\r\n", 22),
+        ("1\r\n1\r\n,1,1\r\n", 22),
+        ("1\r\n1\r\n1,,1\r\n", 22),
+        ("1\r\n1\r\n\r\n", 22),
+        // a wrong count of fields
+        ("1,1\r\n1\r\n", 22),
+        ("1\r\n1,1\r\n", 22),
+        ("1\r\n1\r\n1,1\r\n", 22),
+        ("1\r\n1\r\n1,1,1,\r\n", 22),
+        ("1,1\r\n1,1\r\n1,1,,\r\n", 0),
+        // more than ten digits, or a value too large, whatever ends the field and whatever comes later
+        ("00000000000\r\n", 23),
+        ("00000000000", 23),
+        ("00000000000x", 23),
+        ("00000000000\n", 23),
+        ("18446744073709551617\r\n", 23),
+        ("4294967296\r\n", 23),
+        ("1\r\n65536,", 23),
+        ("1\r\n1\r\n4294967296,1,1\r\n", 23),
+        ("1\r\n1\r\n1,65536,1\r\n", 23),
+        ("1\r\n1\r\n1,1,4294967296", 23),
+        ("1x00000000000", 22),
+        ("1\r00000000000", 22),
+    ] {
+        assert_eq!(csv_answer(text), answer, "{text:?}");
+    }
+    // the comma after the 40th ask
+    for (rest, answer) in
+        [("1,", 2), (",", 2), ("4294967296,", 23), ("1x", 22), ("x,", 22), ("1\r,", 22), ("1\r\n1,x", 22), ("1", 22)]
+    {
+        assert_eq!(csv_answer(&("1,".repeat(39) + rest)), answer, "{rest:?}");
+    }
+    assert_eq!(csv_answer(&format!("{0}1\r\n{0}1\r\n", "1,".repeat(39))), 0);
+    // the first byte of guest line 201
+    let guests = |count: usize| "1\r\n1\r\n".to_string() + &"1,1,\r\n".repeat(count);
+    for (rest, answer) in [("", 0), ("\r\n", 2), ("x", 2), ("1", 2), ("\n", 2), (",", 2), ("\0", 2)] {
+        assert_eq!(csv_answer(&(guests(200) + rest)), answer, "{rest:?}");
+    }
+    for (rest, answer) in [("x", 22), ("1,1,\rx", 22), ("1,1,\r", 22), ("1,1,\n1", 22), ("65536,65536,", 23)] {
+        assert_eq!(csv_answer(&(guests(199) + rest)), answer, "{rest:?}");
+    }
+}
+
 #[test]
 fn the_sample_files_are_current() {
     let folder = std::path::Path::new(env!("CARGO_MANIFEST_DIR")).join("../../examples");
     for (name, sheet) in samples::sheets() {
         assert_eq!(std::fs::read(folder.join(format!("{name}.sheet"))).unwrap(), sheet, "{name}");
-        assert_eq!(std::fs::read_to_string(folder.join(format!("{name}.txt"))).unwrap(), report::printed(1, &sheet), "{name}");
+        assert_eq!(
+            std::fs::read_to_string(folder.join(format!("{name}.txt"))).unwrap(),
+            report::printed(Form::Sheet, 1, &sheet),
+            "{name}"
+        );
     }
+    // LibreOffice wrote it
+    let text = std::fs::read(folder.join("fleet.csv")).unwrap();
+    assert_eq!(csv::read(&text, GREATEST), Ok(samples::fleet()));
+    assert_eq!(csv::shortest(&samples::fleet()), text);
+    let printed = std::fs::read_to_string(folder.join("fleet.txt")).unwrap();
+    assert_eq!(report::printed(Form::Csv, 1, &text), printed);
+    assert_eq!(report::written(Form::Csv, &text), shortest(&samples::fleet()));
+    assert_eq!(report::printed(Form::Csv, 1, &text[3..]), "refused 22\n");
+    assert_eq!(report::printed_why(Form::Csv, 1, &text[..text.len() - 1]), "refused 22\n");
 }

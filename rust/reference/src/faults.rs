@@ -24,6 +24,8 @@ pub const UNKNOWN_RULE: u8 = 18;
 pub const EMPTY_BID: u8 = 19;
 pub const STATIONS_DIFFER: u8 = 20;
 pub const TICKET_IN_BOTH: u8 = 21;
+pub const MALFORMED_TEXT: u8 = 22;
+pub const FIELD_TOO_LARGE: u8 = 23;
 
 pub const MAX_GUESTS: usize = 200;
 pub const MAX_STATIONS: usize = 40;

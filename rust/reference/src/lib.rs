@@ -2,6 +2,7 @@
 //! wide, and every rule stands where the page has it. The engine is compared with this.
 
 pub mod clearing;
+pub mod csv;
 pub mod explaining;
 pub mod faults;
 pub mod gates;

@@ -1,11 +1,28 @@
 //! What the clearing program prints, and what it writes.
 
-use crate::clearing::{Outcome, clear, clear_efficient};
+use crate::clearing::Outcome;
 use crate::explaining::{BELOW_CUT, GuestOutcome, NO_BID, NOT_OPEN, OUTBID, explain};
 use crate::faults::market_fault;
 use crate::market::Market;
-use crate::sheet::{GREATEST, read, write};
+use crate::sheet::{self, GREATEST, write};
+use crate::{clearing, csv};
 use std::fmt::Write;
+
+/// What the program reads.
+#[derive(Clone, Copy, Debug, PartialEq, Eq)]
+pub enum Form {
+    Sheet,
+    Csv,
+}
+
+impl Form {
+    fn read(self, input: &[u8]) -> Result<Market, u8> {
+        match self {
+            Form::Sheet => sheet::read(input, GREATEST),
+            Form::Csv => csv::read(input, GREATEST),
+        }
+    }
+}
 
 pub fn outcome(outcome: &Outcome) -> String {
     let mut text = format!("cut {}\n", outcome.cut);
@@ -19,27 +36,27 @@ pub fn outcome(outcome: &Outcome) -> String {
     text
 }
 
-/// What the program prints for a sheet by a rule, 1 or 2.
-pub fn printed(rule: u8, sheet: &[u8]) -> String {
-    printed_by(clear, rule, sheet)
+/// What the program prints for a sheet or a text by a rule, 1 or 2.
+pub fn printed(form: Form, rule: u8, input: &[u8]) -> String {
+    printed_by(clearing::clear, form, rule, input)
 }
 
-/// What the program prints for a sheet by a rule, 1 or 2, where a quiet round is asked for.
-pub fn printed_quiet(rule: u8, sheet: &[u8]) -> String {
-    printed_by(clear_efficient, rule, sheet)
+/// What the program prints for a sheet or a text by a rule, 1 or 2, where a quiet round is asked for.
+pub fn printed_quiet(form: Form, rule: u8, input: &[u8]) -> String {
+    printed_by(clearing::clear_efficient, form, rule, input)
 }
 
-fn printed_by(clear: fn(u8, &Market) -> Outcome, rule: u8, sheet: &[u8]) -> String {
-    let cleared = read(sheet, GREATEST).and_then(|market| market_fault(&market).map(|()| clear(rule, &market)));
+fn printed_by(clear: fn(u8, &Market) -> Outcome, form: Form, rule: u8, input: &[u8]) -> String {
+    let cleared = form.read(input).and_then(|market| market_fault(&market).map(|()| clear(rule, &market)));
     match cleared {
         Ok(cleared) => outcome(&cleared),
         Err(number) => refused(number),
     }
 }
 
-/// What the program prints for a sheet by a rule, 1 or 2, where it is to tell what decided.
-pub fn printed_why(rule: u8, sheet: &[u8]) -> String {
-    let told = read(sheet, GREATEST).and_then(|market| market_fault(&market).map(|()| explain(rule, &market)));
+/// What the program prints for a sheet or a text by a rule, 1 or 2, where it is to tell what decided.
+pub fn printed_why(form: Form, rule: u8, input: &[u8]) -> String {
+    let told = form.read(input).and_then(|market| market_fault(&market).map(|()| explain(rule, &market)));
     match told {
         Ok(told) => outcomes(&told.outcomes),
         Err(number) => refused(number),
@@ -69,9 +86,10 @@ fn reason(code: u8) -> &'static str {
     }
 }
 
-/// What the program writes for a sheet where its shortest form is asked for: that, or the text of a refusal.
-pub fn written(sheet: &[u8]) -> Vec<u8> {
-    let written = read(sheet, GREATEST).and_then(|market| write(&market, usize::MAX));
+/// What the program writes for a sheet or a text where the market's shortest sheet is asked for: that, or the text of a
+/// refusal.
+pub fn written(form: Form, input: &[u8]) -> Vec<u8> {
+    let written = form.read(input).and_then(|market| write(&market, usize::MAX));
     written.unwrap_or_else(|number| refused(number).into())
 }
 

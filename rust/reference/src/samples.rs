@@ -1,4 +1,4 @@
-//! The sheets of examples/.
+//! The sheets of examples/, and the text of examples/fleet.csv.
 
 use crate::market::Market;
 use crate::random::{self, Random, Shape};
@@ -59,6 +59,23 @@ pub fn gates() -> [Market; 2] {
     [gate(0, 3), gate(3, 5)]
 }
 
+/// The fleet of examples/fleet.fods: two coaches and three vans; nobody bids at the last station.
+pub fn fleet() -> Market {
+    Market::new(
+        &[320, 280, 300, 350],
+        &[2, 1, 3, 2],
+        &[80, 65, 30, 30, 28],
+        &[101, 102, 117, 118, 125],
+        &[
+            350, 0, 410, 0, //
+            0, 300, 310, 0, //
+            390, 390, 0, 0, //
+            0, 360, 305, 0, //
+            340, 310, 320, 0,
+        ],
+    )
+}
+
 /// Each sample's name and sheet.
 pub fn sheets() -> Vec<(&'static str, Vec<u8>)> {
     let [north, south] = gates();
@@ -68,6 +85,7 @@ pub fn sheets() -> Vec<(&'static str, Vec<u8>)> {
         ("gate_south", south),
         ("case_e", case_e()),
         ("full", full()),
+        ("fleet", fleet()),
         ("refused", refused()),
     ]
     .into_iter()
