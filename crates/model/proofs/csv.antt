@@ -1,4 +1,3 @@
-pub mod Counts
 pub mod Going
 pub mod Good
 pub mod LaidOut

@@ -5,6 +5,7 @@ use Rattle.model.specs.cases.Sheets.{marketNine}
 use Rattle.model.specs.cases.Csv.{bytes, times, numberFor, expectedOf, csvE, lineCases, byteCases, fieldCases}
 use Rattle.model.specs.cases.Csv.{sizeCases, stationCases, manyGuests, guestCases, CsvMarketsRead}
 use Rattle.model.specs.cases.Csv.{CsvMarketsLaidOut, laidOutMarkets, marketWidest, marketZeros, CsvRefused}
+use Rattle.model.specs.claims.Csv.{bytesFaults}
 use Rattle.model.proofs.cases.Computing.{csv-computes}
 
 pub csv-markets-read : CsvMarketsRead
@@ -17,7 +18,7 @@ csv-markets-laid-out = record { case-e = refl; zeros = refl; again = refl }
 
 pub csv-refused : CsvRefused
 unfolding csv-computes bytes times numberFor expectedOf lineCases byteCases fieldCases sizeCases stationCases
-    manyGuests guestCases csvE
+    manyGuests guestCases csvE bytesFaults
 csv-refused = record {
   lines = refl;
   other-bytes = refl;
@@ -26,4 +27,5 @@ csv-refused = record {
   stations = refl;
   guests = refl;
   lengths = refl;
+  first-bytes = refl;
 }

@@ -2,6 +2,7 @@
 use Prim.Native.Nat.{ℕ, suc, _+_, _≤_, _<_}
 use mathlib.Core.Bool.{true, false, not}
 use mathlib.Core.List.{List, [], _∷_, _++_, map, append-assoc, append-nil, flatten}
+use mathlib.Core.Logic.{⊎-elim}
 use mathlib.Core.Path.{_≡_, refl, sym, ap, subst, _∙_}
 use native.Mathlib.Omega.{arith}
 use lib.ListN.{length, getD}
@@ -12,7 +13,7 @@ use Rattle.model.specs.csv.Places.{comma, cr, lf, lineOf, fieldOf, digit
 use Rattle.model.specs.csv.Faults.{firstFields, stations, fieldsOf, endFaults, faultsFrom, csvFaults}
 use Rattle.model.specs.csv.Content.{guests, valuesFrom, values}
 use Rattle.model.specs.csv.Text.{moreFields, line, lines, numberIn}
-use Rattle.model.proofs.Tests.{both, not-lt, is-lt, not-eq, and-no, and-false, only-yes}
+use Rattle.model.proofs.Tests.{decide, both, not-lt, is-lt, not-eq, and-no, and-false, only-yes}
 use Rattle.model.proofs.Verdicts.{fault-free, fault-none}
 use Rattle.model.proofs.csv.Numerals.{Digits}
 use Rattle.model.proofs.csv.Steps.{digit-tests, large-none}
@@ -71,6 +72,14 @@ lines-go {m} l w (f ∷ ls) some later low b g =
     (v, subst (λ q. Begins v q) e bv, goes-then (line f) (lines ls) (map numberIn f) _ gu gv)
 
 -- ---- the first line's fields
+
+pub stations-some : (text : List ℕ) → 0 < stations text
+unfolding stations firstFields
+stations-some [] = omega arith
+stations-some (b ∷ text) = ⊎-elim
+    (λ (t : b =? cr ≡ true). rw t (omega arith))
+    (λ (t : b =? cr ≡ false). rw t (omega (arith, stations-some text)))
+    (decide (b =? cr))
 
 stations-run : (x z : List ℕ) → Digits x → stations (x ++ z) ≡ stations z
 unfolding stations firstFields only

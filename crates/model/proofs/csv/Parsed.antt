@@ -7,21 +7,19 @@ use mathlib.Core.Path.{_≡_, refl, sym, ap, ap₂, subst, _∙_}
 use native.Mathlib.Nat.{eq-or-lt-of-le}
 use native.Mathlib.Omega.{arith}
 use lib.ListN.{length}
+use Rattle.model.specs.Limits.{maxStations}
 use Rattle.model.specs.Counting.{_<?_, _≤?_, _=?_, _and_, _or_}
 use Rattle.model.specs.Verdicts.{accepted, firstFault}
-use Rattle.model.specs.csv.Places.{comma, cr, lf, isDigit, lineOf, fieldOf, afterCr}
-use Rattle.model.specs.csv.Places.{startsLine}
-use Rattle.model.specs.csv.Faults.{stations, fieldsOf, most, tooLarge, tooMany, isMissing}
-use Rattle.model.specs.csv.Faults.{faultsFrom, csvFaults}
-use Rattle.model.specs.csv.Text.{moreFields, line, lines, GoodField}
-use Rattle.model.proofs.Tests.{decide, clash, both, second, or-no, and-no, lt-no, lt-yes, eq-yes, eq-no}
-use Rattle.model.proofs.csv.Counts.{stations-some}
+use Rattle.model.specs.csv.Places.{comma, cr, lf, isDigit, lineOf, fieldOf, afterCr, startsLine}
+use Rattle.model.specs.csv.Faults.{stations, fieldsOf, tooLarge, tooMany, isMissing, faultsFrom, csvFaults}
+use Rattle.model.specs.csv.Text.{moreFields, line, lines}
+use Rattle.model.proofs.Tests.{decide, clash, both, second, or-no, and-no, lt-no, lt-yes, is-eq, eq-yes, eq-no}
 use Rattle.model.proofs.csv.Good.{field-good, good-cons, no-fields, lines-cons, no-lines}
 use Rattle.model.proofs.csv.Numerals.{Digits}
 use Rattle.model.proofs.csv.Places.{passed, in-place, end-passed}
 use Rattle.model.proofs.csv.Steps.{digit-tests, line-other, field-other, field-comma, digits-none}
 use Rattle.model.proofs.csv.Going.{Place, line-place, GoodFields}
-use Rattle.model.proofs.csv.Lines.{GoodLines, some-fields, start}
+use Rattle.model.proofs.csv.Lines.{GoodLines, some-fields, stations-some, start}
 
 -- a place inside field k of line l, before the text's end
 record Open (m l k : ℕ) (w rest : List ℕ) : Type 0 where
@@ -30,6 +28,7 @@ record Open (m l k : ℕ) (w rest : List ℕ) : Type 0 where
   field-is : fieldOf w ≡ k
   no-cr : afterCr w ≡ false
   within : 0 < l → k < fieldsOf m l
+  asks-low : l ≡ 0 → k < maxStations
   low : l < 202
   live : (0 < length rest) ⊎ ((startsLine w and 1 <? lineOf w) ≡ false)
 
@@ -44,6 +43,7 @@ pub record Parsed (m l k : ℕ) (w rest : List ℕ) : Type 0 where
   pub there : isMissing (reverseAux x w) ≡ false
   pub fields : GoodFields l (suc k) xs
   pub enough : 0 < l → suc k + length xs ≡ fieldsOf m l
+  pub few : l ≡ 0 → suc k + length xs ≤ maxStations
   pub more : GoodLines m (suc l) ls
   pub least : 1 ≤ l + length ls
   pub most-lines : l + length ls < 202
@@ -57,6 +57,19 @@ no-end {m} {l} {k} {w} o = ⊎-elim
 below : (k a : ℕ) → k < a → (k + 1 =? a) ≡ false → suc k < a
 below k a h e = ⊎-elim
     (λ (z : suc k ≡ a). absurd (eq-no _ _ e (omega arith))) (λ (z : suc k < a). z) (eq-or-lt-of-le h)
+
+-- a comma that may stand in the first line is not after the 40th ask
+more-asks :
+    (w : List ℕ) (k : ℕ) → tooMany w comma ≡ false → afterCr w ≡ false → lineOf w ≡ 0 → fieldOf w ≡ k → k < maxStations
+    → suc k < maxStations
+unfolding tooMany
+more-asks w k e c l f h = ⊎-elim
+    (λ (z : suc k ≡ maxStations).
+    let last : fieldOf w + 1 ≡ maxStations = omega arith in
+    absurd (clash (both (both (both (is-eq comma comma refl) (ap not c)) (is-eq _ _ l)) (is-eq _ _ last))
+    (or-no _ _ e .0)))
+    (λ (z : suc k < maxStations). z)
+    (eq-or-lt-of-le h)
 
 -- ---- a byte, where all shorter rests are parsed
 module _ (m : ℕ) (some : 0 < m) (n : ℕ)
@@ -73,6 +86,7 @@ module _ (m : ℕ) (some : 0 < m) (n : ℕ)
         field-is = field-other b w (t .2) (t .0) ∙ o .field-is;
         no-cr = t .1;
         within = o .within;
+        asks-low = o .asks-low;
         low = o .low;
         live = inr (and-no _ _ (t .2));
       }) in
@@ -86,6 +100,7 @@ module _ (m : ℕ) (some : 0 < m) (n : ℕ)
         there = r .there;
         fields = r .fields;
         enough = r .enough;
+        few = r .few;
         more = r .more;
         least = r .least;
         most-lines = r .most-lines;
@@ -115,6 +130,7 @@ module _ (m : ℕ) (some : 0 < m) (n : ℕ)
         field-is = place .field-is;
         no-cr = refl;
         within = λ z. below k _ (o .within z) (rw (o .line-is, o .field-is) at last);
+        asks-low = λ z. more-asks w k (p .not-many) (o .no-cr) (o .line-is ∙ z) (o .field-is) (o .asks-low z);
         low = o .low;
         live = inr refl;
       }) in
@@ -128,6 +144,7 @@ module _ (m : ℕ) (some : 0 < m) (n : ℕ)
         there = i .not-missing;
         fields = good-cons (field-good (r .x) place (r .digits) (r .small) (r .there)) (r .fields);
         enough = λ z. (let e = r .enough z in omega (arith, e));
+        few = λ z. (let e = r .few z in omega (arith, e));
         more = r .more;
         least = r .least;
         most-lines = r .most-lines;
@@ -187,6 +204,7 @@ module _ (m : ℕ) (some : 0 < m) (n : ℕ)
         field-is = place .field-is;
         no-cr = place .no-cr;
         within = λ z. some-fields m (suc l) some z;
+        asks-low = λ z. absurd (omega arith);
         low = more-room c rest at low e;
         live = inl (omega arith);
       }) in
@@ -221,6 +239,7 @@ module _ (m : ℕ) (some : 0 < m) (n : ℕ)
         there = i .not-missing;
         fields = no-fields l (suc k);
         enough = λ z. (let y = o .within z in omega (arith, y, lt-no _ _ few));
+        few = λ z. (let y = o .asks-low z in omega (arith, y));
         more = a .good;
         least = a .least;
         most-lines = a .most-lines;
@@ -272,6 +291,7 @@ pub record Lined (text : List ℕ) : Type 0 where
   pub is : text ≡ lines (asks ∷ ls)
   pub good-asks : GoodFields 0 0 asks
   pub some-asks : 0 < length asks
+  pub few-asks : length asks ≤ maxStations
   pub good-lines : GoodLines (stations text) 1 ls
   pub least : 0 < length ls
   pub most-lines : length ls < 202
@@ -285,6 +305,7 @@ accepted-parsed text e =
       field-is = refl;
       no-cr = refl;
       within = λ z. absurd (omega arith);
+      asks-low = λ z. omega arith;
       low = omega arith;
       live = inr refl;
     }) in
@@ -294,6 +315,7 @@ accepted-parsed text e =
       is = r .is;
       good-asks = good-cons (field-good (r .x) start (r .digits) (r .small) (r .there)) (r .fields);
       some-asks = omega arith;
+      few-asks = omega (arith, r .few refl);
       good-lines = r .more;
       least = omega (arith, r .least);
       most-lines = omega (arith, r .most-lines);

@@ -18,7 +18,6 @@ use Rattle.model.specs.csv.Text.{ReadsExactlyWhatTextStates, ReadFits}
 use Rattle.model.proofs.Counting.{length-list, getD-list}
 use Rattle.model.proofs.Verdicts.{gave-accepted}
 use Rattle.model.proofs.sheet.Joined.{joined-length, getD-joined}
-use Rattle.model.proofs.csv.Counts.{counts-within}
 use Rattle.model.proofs.csv.Going.{GoodFields}
 use Rattle.model.proofs.csv.LaidOut.{ask-most, bays-most, ticket-most, amount-most, bid-most}
 use Rattle.model.proofs.csv.Lines.{GoodLines, stations-line}
@@ -136,7 +135,7 @@ module _ (a b : List (List ℕ)) (gs : List (List (List ℕ))) (ga : GoodFields 
 
 -- ---- what is read
 
-module _ (text : List ℕ) (e : firstFault (csvFaults text) ≡ accepted tt) (p : Lined text) where
+module _ (text : List ℕ) (p : Lined text) where
   abbrev asks : List (List ℕ)
   asks = p .asks
 
@@ -150,15 +149,14 @@ module _ (text : List ℕ) (e : firstFault (csvFaults text) ≡ accepted tt) (p 
   lined-states [] is good least low = absurd (omega arith)
   lined-states (b ∷ gs) is good least low =
       let m = m-is (b ∷ gs) is in
-      let few : length asks ≤ maxStations = omega (arith, m, counts-within text e .1) in
       let good′ : GoodLines (length asks) 1 (b ∷ gs) = subst (λ q. GoodLines q 1 (b ∷ gs)) m good in
-      let s = lines-state asks b gs (p .good-asks) (p .some-asks) few good′ low in
+      let s = lines-state asks b gs (p .good-asks) (p .some-asks) (p .few-asks) good′ low in
       (stated asks b gs, subst (λ x. StatesCsv x (stated asks b gs)) (sym is) s)
 
 accepted-states : (text : List ℕ) → firstFault (csvFaults text) ≡ accepted tt → (t : Tables) × StatesCsv text t
 accepted-states text e =
     let p = accepted-parsed text e in
-    lined-states text e p (p .ls) (p .is) (p .good-lines) (p .least) (p .most-lines)
+    lined-states text p (p .ls) (p .is) (p .good-lines) (p .least) (p .most-lines)
 
 pub reads-exactly-what-text-states : ReadsExactlyWhatTextStates
 unfolding readCsv

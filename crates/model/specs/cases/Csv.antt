@@ -7,10 +7,11 @@ use mathlib.Core.Path.{_≡_}
 use Rattle.model.specs.Counting.{list, joined}
 use Rattle.model.specs.Verdicts.{accepted, refused, firstFault, numberOf}
 use Rattle.model.specs.market.Market.{Tables, regular}
-use Rattle.model.specs.csv.Faults.{csvFaults, readingCsvFaults}
+use Rattle.model.specs.csv.Faults.{stations, csvFaults, readingCsvFaults}
 use Rattle.model.specs.sheet.Lent.{lentTables}
 use Rattle.model.specs.csv.Content.{readCsv}
 use Rattle.model.specs.csv.Text.{textOf}
+use Rattle.model.specs.claims.Csv.{bytesFaults}
 use Rattle.model.specs.cases.Cases.{tableI, pair, caseE}
 use Rattle.model.specs.cases.Sheets.{marketNine}
 
@@ -126,6 +127,10 @@ CsvLengthsRefused =
     (bytes "" ∷ bytes "00000000000" ∷ csvE ∷ [])
     ≡ (refused 10 ∷ refused 10 ∷ refused 10 ∷ [])
 
+-- the first bytes of a text, with a fault among them
+abbrev pub CsvFirstBytesRefused : Type 0
+CsvFirstBytesRefused = firstFault (bytesFaults (stations (bytes "1,x1\r\n")) [] (bytes "1,x")) ≡ refused 22
+
 abbrev pub AllAsExpected : List (List ℕ × ℕ) → Type 0
 AllAsExpected cases = map numberFor cases ≡ map expectedOf cases
 
@@ -137,3 +142,4 @@ pub record CsvRefused : Type 0 where
   pub stations : AllAsExpected stationCases
   pub guests : AllAsExpected guestCases
   pub lengths : CsvLengthsRefused
+  pub first-bytes : CsvFirstBytesRefused
