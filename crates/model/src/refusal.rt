@@ -25,6 +25,7 @@ pub enum Refusal {
     EmptyBid,
     StationsDiffer,
     TicketInBoth,
+    NoSuchGuest,
 }
 
 impl Refusal {
@@ -54,6 +55,7 @@ impl Refusal {
             Refusal::EmptyBid => 19,
             Refusal::StationsDiffer => 20,
             Refusal::TicketInBoth => 21,
+            Refusal::NoSuchGuest => 24,
         }
     }
 }
