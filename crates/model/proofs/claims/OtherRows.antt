@@ -172,7 +172,7 @@ unfolding changesWith gain decision
 try-tells-clearings rule t guest worths row c k k′ =
     let i = guest - 1 in
     let t′ = withRow t i row in
-    let w = λ (j : ℕ). getD worths j 0 in
+    let w : ℕ → ℕ = λ j. getD worths j 0 in
     let li = guest-below rule t guest worths row c in
     let n = length (t .amounts) in
     let is : c .exit ≡ changes n (λ g. getD (k .exit .stations) g 0) (λ g. getD (k′ .exit .stations) g 0) i =
