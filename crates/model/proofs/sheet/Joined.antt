@@ -7,7 +7,7 @@ use native.Mathlib.Nat.{eq-or-lt-of-le, le-of-suc-le-suc, not-suc-le-zero, mul-l
 use native.Mathlib.Nat.{div-add-mod', div-lt-iff-lt-mul, mod-lt}
 use native.Mathlib.Omega.{arith}
 use lib.ListN.{length, getD, take, drop, length-append, List·getD-append}
-use lib.Seq.{getD-append-add, paste, take-at, take-all, drop-at, drop-drop}
+use lib.Seq.{getD-append-add, ext-getD, paste, take-at, take-all, drop-at, drop-drop}
 use Rattle.model.specs.Counting.{list, joined}
 use Rattle.model.proofs.Counting.{up, here, length-list, getD-list}
 use Rattle.model.proofs.Tests.{lt-or-le}
@@ -29,6 +29,15 @@ getD-joined (suc n) m f i j l k = ⊎-elim
     (λ (h : i < n). List·getD-append (joined n (λ i. list m (f i))) _ 0 (i * m + j)
     (omega (arith, joined-length n m f, mul-le-mul-right m h)) ∙ getD-joined n m f i j h k)
     (eq-or-lt-of-le (le-of-suc-le-suc l))
+
+-- a list with those places is it
+pub joined-is :
+    (n m : ℕ) (f : ℕ → ℕ → ℕ) (l : List ℕ) → 0 < m → length l ≡ n * m
+    → ((i j : ℕ) → i < n → j < m → f i j ≡ getD l (i * m + j) 0) → joined n (λ i. list m (f i)) ≡ l
+joined-is n m f l z e h = ext-getD 0 (joined n (λ i. list m (f i))) l (joined-length n m f ∙ sym e) (λ k b.
+    let i : k / m < n = div-lt-iff-lt-mul z .1 (omega (arith, joined-length n m f)) in
+    let j : k % m < m = mod-lt k z in
+    rw (div-add-mod' k m) at (getD-joined n m f (k / m) (k % m) i j ∙ h (k / m) (k % m) i j))
 
 -- every place is that of some row
 pub joined-most :
