@@ -5,4 +5,5 @@ mod places;
 mod post;
 mod read;
 mod reasons;
+mod rows;
 mod write;

@@ -1,6 +1,7 @@
 use mathlib.Core.Path.{_∙_}
 use borrow.Author.Needs.{needs}
-use Rattle.whatif.proofs.TriedRow.{room-for-row, other-within, changes-room, first-ready, second-ready, tries-accepted}
+use Rattle.whatif.proofs.TriedRow.{room-for-row, other-within, changes-room, first-ready, second-ready}
+use Rattle.whatif.proofs.TriedRow.{tries-accepted}
 use Rattle.whatif.proofs.gains.Gains.{reads-back}
 use Rattle.whatif.proofs.tried.try_with_room.Statement.{statement}
 use Rattle.whatif.proofs.tried.try_with_room.Tie as tie
@@ -16,6 +17,9 @@ lay-before-rounds p = p .before .before .before .before .before .before .before 
 abbrev rounds-before-changes : tie.After-tell-changes-arg3 → tie.After-both-rounds
 rounds-before-changes p =
     p .before .before .before .before .before .before .before .before .before .before .before .before .before
+
+abbrev changes-before-gains : tie.After-gain-in-arg2 → tie.After-tell-changes
+changes-before-gains p = p .before .before .before .before
 
 lay-row-requires : tie.Need-lay-row-requires
 lay-row-requires c κs =
@@ -40,7 +44,7 @@ tell-changes-requires c κs =
 
 gain-in-requires : tie.Need-gain-in-requires
 gain-in-requires c κs =
-    let at-changes = c .before .before .before .before in
+    let at-changes = changes-before-gains c in
     let at-rounds = rounds-before-changes (at-changes .before) in
     let at-lay = lay-before-rounds (at-rounds .before) in
     let entry = entry-before-lay (at-lay .before) in
@@ -49,7 +53,7 @@ gain-in-requires c κs =
 gain-in-requires-2 : tie.Need-gain-in-requires-2
 gain-in-requires-2 c κs =
     let at-first = c .before .before in
-    let at-changes = at-first .before .before .before .before .before in
+    let at-changes = changes-before-gains (at-first .before) in
     let at-rounds = rounds-before-changes (at-changes .before) in
     let at-lay = lay-before-rounds (at-rounds .before) in
     let entry = entry-before-lay (at-lay .before) in
@@ -58,7 +62,7 @@ gain-in-requires-2 c κs =
 returns : tie.Need-returns
 returns c =
     let at-first = c .before .before .before in
-    let at-changes = at-first .before .before .before .before .before in
+    let at-changes = changes-before-gains (at-first .before) in
     let at-rounds = rounds-before-changes (at-changes .before) in
     let at-lay = lay-before-rounds (at-rounds .before) in
     let entry = entry-before-lay (at-lay .before) in
