@@ -115,6 +115,20 @@ unsafe extern "C" {
         reasons: *mut u8, reasons_len: usize,
     ) -> u8;
 
+    pub fn bay_market_try(
+        rule: u8,
+        asks: *const u32, asks_len: usize,
+        bays: *const u16, bays_len: usize,
+        amounts: *const u16, amounts_len: usize,
+        tickets: *const u32, tickets_len: usize,
+        bids: *const u32, bids_len: usize,
+        width: usize, guest: u32,
+        worths: *const u32, worths_len: usize,
+        row: *const u32, row_len: usize,
+        changes: *mut u8, changes_len: usize,
+        first_gain: *mut i64, second_gain: *mut i64,
+    ) -> u8;
+
     pub fn bay_market_post(
         rule: u8,
         asks: *const u32, asks_len: usize,
