@@ -200,7 +200,8 @@ int main(void)
                  {"write", call_write, BAY_MARKET_MAX_STACK}, {"clear", call_clear, BAY_MARKET_MAX_STACK},
                  {"clear_efficient", call_clear_efficient, BAY_MARKET_MAX_STACK},
                  {"explain", call_explain, BAY_MARKET_MAX_STACK}, {"try", call_try, BAY_MARKET_MAX_STACK_TRY},
-                 {"join", call_join, BAY_MARKET_MAX_STACK}, {"post", call_post, BAY_MARKET_MAX_STACK}, {"place_bids", call_place_bids, BAY_MARKET_MAX_STACK}};
+                 {"join", call_join, BAY_MARKET_MAX_STACK}, {"post", call_post, BAY_MARKET_MAX_STACK},
+                 {"place_bids", call_place_bids, BAY_MARKET_MAX_STACK}};
     size_t most = 0, most_csv = 0, most_try = 0;
 
     for (uint32_t spread = 1; spread <= 900000; spread *= 30) {
