@@ -3,7 +3,8 @@
 //! Mind the order of arguments: `bay_market_read` takes amounts, tickets, asks, bays, bids, the others that take a market
 //! asks, bays, amounts, tickets, bids, after the rule's number where they have one. Amounts and bays have one type,
 //! tickets, asks and bids another, so the compiler cannot see a swap. `bay_market_place_bids` takes prices, falls, then
-//! the guests' first and second coordinates, then the stations'. The safe functions name each.
+//! the guests' first and second coordinates, then the stations', and `bay_market_try` a guest's worths before its other row.
+//! The safe functions name each.
 
 use crate::StationAccount;
 
