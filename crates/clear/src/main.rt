@@ -18,8 +18,8 @@ ghost use Rattle.model.specs.text.Asked.{_spells_, ruleSpelt, ruleAsked, byRule
 ghost use Rattle.clear.specs.Input.{Within};
 ghost use Rattle.clear.specs.Kinds.{pageOf};
 
-// The bytes of the longest comma-separated market that is accepted, which is longer than the largest sheet: two lines of
-// 40 fields and 200 of 42, each of ten digits, with their commas and line ends.
+// The bytes of the longest comma-separated market that is accepted, which is longer than the largest sheet: two lines
+// of 40 fields and 200 of 42, each of ten digits, with their commas and line ends.
 const MAX_CSV: usize = 93_482;
 
 // How many bytes were read, or that a read failed.

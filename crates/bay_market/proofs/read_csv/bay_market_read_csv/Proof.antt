@@ -2,7 +2,7 @@ use mathlib.Core.Path.{ap}
 use native.Mathlib.Omega.{arith}
 use borrow.Author.Needs.{needs}
 use Rattle.model.specs.Numbers.{answerOfReading}
-use Rattle.model.proofs.contracts.ReadsCsv.{csv-counts}
+use Rattle.model.proofs.contracts.ReadsCsv.{read-csv-tables}
 use Rattle.bay_market.proofs.Told.{told, tells-refused, tells-accepted}
 use Rattle.bay_market.proofs.read_csv.bay_market_read_csv.Statement.{statement}
 use Rattle.bay_market.proofs.read_csv.bay_market_read_csv.Tie as tie
@@ -13,14 +13,14 @@ read-before-match p = p .before .before .before .before .before .before .before 
 cast-n : tie.Need-cast-n
 cast-n c =
     let at-read = read-before-match (c .before .before .before) in
-    let t = csv-counts _ _ _ _ (at-read .read-csv .ensures) _ _ (c .before .reading2 .given .1) in
-    omega (arith, t .0)
+    let t = read-csv-tables _ _ _ _ (at-read .read-csv .ensures) _ _ (c .before .reading2 .given .1) in
+    omega (arith, t .shape .guests-most, t .n-is)
 
 cast-m : tie.Need-cast-m
 cast-m c =
     let at-read = read-before-match (c .before .before .before) in
-    let t = csv-counts _ _ _ _ (at-read .read-csv .ensures) _ _ (c .before .reading2 .given .1) in
-    omega (arith, t .1)
+    let t = read-csv-tables _ _ _ _ (at-read .read-csv .ensures) _ _ (c .before .reading2 .given .1) in
+    omega (arith, t .shape .stations-most, t .m-is)
 
 returns : tie.Need-returns
 unfolding answerOfReading
