@@ -9,31 +9,35 @@ use lib.ListN.{getD, length, drop, set}
 use lib.Seq.{paste, paste-zero, paste-suc, length-paste, take-length, drop-length}
 use Rattle.model.proofs.sheet.Joined.{paste-next}
 
--- ---- a list over the places from `at` on: its first i stand there
+-- ---- the first n of a list over the places from `at` on: i of them stand there
 
-pub record Pasting (from table₀ table : List ℕ) (at i : ℕ) : Type 0 where
-  pub within : i ≤ length from
-  pub room : at + length from ≤ length table₀
+pub record Pasting (from table₀ table : List ℕ) (at n i : ℕ) : Type 0 where
+  pub within : i ≤ n
+  pub from-long : n ≤ length from
+  pub room : at + n ≤ length table₀
   pub is : table ≡ paste table₀ at from i
 
-pub pasting-none : {from table : List ℕ} {at : ℕ} → at + length from ≤ length table → Pasting from table table at 0
-pasting-none {from} {table} {at} room =
-    record { within = omega arith; room = room; is = paste-zero table at from }
+pub pasting-none :
+    {from table : List ℕ} {at n : ℕ} → (n ≤ length from) × (at + n ≤ length table) → Pasting from table table at n 0
+pasting-none {from} {table} {at} (long, room) =
+    record { within = omega arith; from-long = long; room = room; is = paste-zero table at from }
 
-module _ {from table₀ table : List ℕ} {at i : ℕ} (s : Pasting from table₀ table at i) where
+module _ {from table₀ table : List ℕ} {at n i : ℕ} (s : Pasting from table₀ table at n i) where
   pub pasting-same : length table ≡ length table₀
   pasting-same =
-      ap length (s .is) ∙ length-paste table₀ at from i (omega (arith, s .within, s .room)) (s .within)
+      ap length (s .is)
+      ∙ length-paste table₀ at from i (omega (arith, s .within, s .room)) (omega (arith, s .within, s .from-long))
 
-  pub pasting-turn : i < length from → Pasting from table₀ (set table (at + i) (getD from i 0)) at (i + 1)
+  pub pasting-turn : i < n → Pasting from table₀ (set table (at + i) (getD from i 0)) at n (i + 1)
   pasting-turn l = record {
     within = omega arith;
+    from-long = s .from-long;
     room = s .room;
-    is = rw (s .is, add-one) (paste-suc table₀ at from i 0 (omega (arith, s .room)) l);
+    is = rw (s .is, add-one) (paste-suc table₀ at from i 0 (omega (arith, s .room)) (omega (arith, s .from-long)));
   }
 
-  pub pasting-end : length from ≤ i → table ≡ paste table₀ at from (length from)
-  pasting-end l = let whole : i ≡ length from = omega (arith, s .within) in rw (← whole) (s .is)
+  pub pasting-end : n ≤ i → table ≡ paste table₀ at from n
+  pasting-end l = let whole : i ≡ n = omega (arith, s .within) in rw (← whole) (s .is)
 
 -- ---- over a whole table
 
