@@ -1,11 +1,13 @@
 /*
  * The bay market: reading and writing market sheets, reading comma-separated markets, placing bids from parking places,
  * joining two gates' markets, clearing a market, in a truthful round or in an efficient one for quiet days, telling
- * guests what decided a truthful round, posting one to a ledger.
+ * guests what decided a truthful round, telling one what another row of bids would have done, posting a round to a
+ * ledger.
  *
  * For x86-64 Linux: link libbay_market.a, or libbay_market.so. Both need memcpy and memset of the C library and
  * nothing else. Nothing is allocated; a call takes at most BAY_MARKET_MAX_STACK bytes of stack, but for
- * bay_market_read_csv, which takes at most BAY_MARKET_MAX_STACK_READ_CSV.
+ * bay_market_read_csv, which takes at most BAY_MARKET_MAX_STACK_READ_CSV, and bay_market_try, which takes at most
+ * BAY_MARKET_MAX_STACK_TRY.
  *
  * Every function answers 0, or the number of the first fault found (enum bay_market_refusal). A call
  * that is refused has changed no lent memory. Any lengths and values may be lent; every call returns.
@@ -17,9 +19,10 @@
  *
  * MIND THE ORDER OF ARGUMENTS. bay_market_read and bay_market_read_csv take amounts, tickets, asks, bays, bids, as a
  * reader fills them; bay_market_write, bay_market_join, bay_market_clear, bay_market_clear_efficient,
- * bay_market_explain and bay_market_post take asks, bays, amounts, tickets, bids, the last four after the rule's
- * number. Amounts and bays have one type, tickets, asks and bids another, so a compiler cannot see a swap.
+ * bay_market_explain, bay_market_try and bay_market_post take asks, bays, amounts, tickets, bids, the last five after
+ * the rule's number. Amounts and bays have one type, tickets, asks and bids another, so a compiler cannot see a swap.
  * bay_market_place_bids takes prices, falls, then the guests' first and second coordinates, then the stations'.
+ * bay_market_try takes a guest's worths, then its other row, both lists of prices.
  *
  * Prices are in mills (thousandths of the currency unit) per kWh, charges and payments in mills,
  * amounts in whole kWh. Guests and stations are numbered from 1; element 0 of a table is number 1. A ticket is any
@@ -35,13 +38,13 @@
 extern "C" {
 #endif
 
-#define BAY_MARKET_VERSION "0.4.3"
+#define BAY_MARKET_VERSION "0.4.4"
 
 /* Limits. Amounts and bays are at least 1, and so is the number of stations. */
 #define BAY_MARKET_MAX_GUESTS 200
 #define BAY_MARKET_MAX_STATIONS 40
 #define BAY_MARKET_MAX_BIDS 8000                      /* guests times stations */
-#define BAY_MARKET_MAX_PRICE 1000000                  /* of an ask, a bid, a price and a fall */
+#define BAY_MARKET_MAX_PRICE 1000000                  /* of an ask, a bid, a worth, a price and a fall */
 #define BAY_MARKET_MAX_AMOUNT 1000
 #define BAY_MARKET_MAX_BAYS 200
 #define BAY_MARKET_MAX_CELL 31                        /* of a cell's coordinate; the least is 0 */
@@ -50,12 +53,14 @@ extern "C" {
 #define BAY_MARKET_MAX_ACCOUNT UINT64_C(1000000000000000)
 #define BAY_MARKET_MAX_ROUND UINT32_C(4294967295)
 #define BAY_MARKET_MAX_STACK 16384                    /* bytes of stack that a call takes at most, */
-#define BAY_MARKET_MAX_STACK_READ_CSV 40960           /* and one of bay_market_read_csv, with tables of its own */
+#define BAY_MARKET_MAX_STACK_READ_CSV 40960           /* one of bay_market_read_csv, with tables of its own, */
+#define BAY_MARKET_MAX_STACK_TRY 45056                /* and one of bay_market_try, with a copy of the bids */
 
 /*
- * The rule of a clearing, an explanation or a posting: the position, from 1, of the cut among the m asks in rising
- * order. Under rule 1 it is ceil((m + 1) / 2), under rule 2 floor(2 m / 3) + 1. Asks 1, 2, 3, 4, 5, 6 give cut 4 under
- * rule 1 and 5 under rule 2. Two markets are compared, for what a false report would gain, only under one rule.
+ * The rule of a clearing, an explanation, a tried row or a posting: the position, from 1, of the cut among the m asks
+ * in rising order. Under rule 1 it is ceil((m + 1) / 2), under rule 2 floor(2 m / 3) + 1. Asks 1, 2, 3, 4, 5, 6 give
+ * cut 4 under rule 1 and 5 under rule 2. Two markets are compared, for what a false report would gain, only under one
+ * rule.
  */
 #define BAY_MARKET_RULE_MEDIAN 1
 #define BAY_MARKET_RULE_TWO_THIRDS 2
@@ -82,6 +87,13 @@ static inline const char *bay_market_code_text(uint8_t code)
     }
 }
 
+/* What another row of a guest does to another guest (bay_market_try). */
+enum bay_market_change {
+    BAY_MARKET_UNCHANGED = 0,       /* it is seated in both rounds or in neither */
+    BAY_MARKET_BECOMES_SEATED = 1,  /* it is seated in the second round alone */
+    BAY_MARKET_BECOMES_UNSEATED = 2 /* it is seated in the first round alone */
+};
+
 /* scripts/refusals writes what follows from refusals.txt */
 enum bay_market_refusal {
     BAY_MARKET_ACCEPTED = 0,                    /* accepted */
@@ -107,7 +119,8 @@ enum bay_market_refusal {
     BAY_MARKET_STATIONS_DIFFER = 20,            /* two markets differ in their stations' count, asks or bays */
     BAY_MARKET_TICKET_IN_BOTH = 21,             /* a ticket is in both markets */
     BAY_MARKET_MALFORMED_TEXT = 22,             /* a byte of the text, or its end, stands where it may not */
-    BAY_MARKET_FIELD_TOO_LARGE = 23             /* a field has more than ten digits, or does not fit its table */
+    BAY_MARKET_FIELD_TOO_LARGE = 23,            /* a field has more than ten digits, or does not fit its table */
+    BAY_MARKET_NO_SUCH_GUEST = 24               /* the guest's number is 0 or above the market's guests */
 };
 
 /* What an answer says. */
@@ -138,6 +151,7 @@ static inline const char *bay_market_refusal_text(uint8_t answer)
     case BAY_MARKET_TICKET_IN_BOTH: return "a ticket is in both markets";
     case BAY_MARKET_MALFORMED_TEXT: return "a byte of the text, or its end, stands where it may not";
     case BAY_MARKET_FIELD_TOO_LARGE: return "a field has more than ten digits, or does not fit its table";
+    case BAY_MARKET_NO_SUCH_GUEST: return "the guest's number is 0 or above the market's guests";
     default: return "not an answer of the engine";
     }
 }
@@ -319,6 +333,35 @@ uint8_t bay_market_explain(uint8_t rule,
                            uint16_t *stations, size_t stations_len,
                            uint32_t *charges, size_t charges_len,
                            uint8_t *reasons, size_t reasons_len);
+
+/*
+ * Tells what another row of bids would have done. In two truthful rounds by one rule, of the market as it is and of
+ * the one with `row` in place of the guest's bids, *first_gain and *second_gain are the guest's gains: its worth per
+ * kWh at the station where it is seated, times its amount, less its charge; 0 where it has no seat. A gain is NEGATIVE
+ * where the guest pays more than the station is worth to it. The guest is named by its number, from 1; worths[j] is
+ * what a kWh at station j, from 0, is worth to it, and row[j] its other bid there. Where its bids in the market are
+ * its worths, the second gain is never larger than the first.
+ *
+ * changes gets a byte for each guest (enum bay_market_change): 1 where another guest has no seat in the first round
+ * and one in the second, 2 the other way round, else 0, and 0 for the guest itself. Those others are never more than
+ * the stations where the guest holds a place in one of the rounds alone. A call takes at most BAY_MARKET_MAX_STACK_TRY
+ * bytes of stack.
+ *
+ * Refusals in this order: 18 where rule is neither 1 nor 2; 2, 5, 6 to 9 and 15 of the market as in clearing; 24 where
+ * guest is 0 or above n; 5 where worths_len or row_len is not m; 10 where changes_len is not n; 9 for any worth, or
+ * bid of the row, above 1,000,000.
+ */
+uint8_t bay_market_try(uint8_t rule,
+                       const uint32_t *asks, size_t asks_len,
+                       const uint16_t *bays, size_t bays_len,
+                       const uint16_t *amounts, size_t amounts_len,
+                       const uint32_t *tickets, size_t tickets_len,
+                       const uint32_t *bids, size_t bids_len,
+                       size_t width, uint32_t guest,
+                       const uint32_t *worths, size_t worths_len,
+                       const uint32_t *row, size_t row_len,
+                       uint8_t *changes, size_t changes_len,
+                       int64_t *first_gain, int64_t *second_gain);
 
 /*
  * Clears a market as bay_market_clear does, in a truthful round by the rule of that number, and posts it to the ledger

@@ -92,6 +92,18 @@ uint8_t real_bay_market_read_csv(const uint8_t *text, size_t text_len,
                                  uint32_t *bids, size_t bids_len,
                                  uint16_t *n, uint16_t *m);
 
+uint8_t real_bay_market_try(uint8_t rule,
+                            const uint32_t *asks, size_t asks_len,
+                            const uint16_t *bays, size_t bays_len,
+                            const uint16_t *amounts, size_t amounts_len,
+                            const uint32_t *tickets, size_t tickets_len,
+                            const uint32_t *bids, size_t bids_len,
+                            size_t width, uint32_t guest,
+                            const uint32_t *worths, size_t worths_len,
+                            const uint32_t *row, size_t row_len,
+                            uint8_t *changes, size_t changes_len,
+                            int64_t *first_gain, int64_t *second_gain);
+
 uint8_t real_bay_market_write(const uint32_t *asks, size_t asks_len,
                               const uint16_t *bays, size_t bays_len,
                               const uint16_t *amounts, size_t amounts_len,
@@ -201,6 +213,15 @@ uint8_t real_bay_market_write(const uint32_t *asks, size_t asks_len,
     bids, bids_len, n, m
 #define READ_CSV_PARTS LIST(text), LIST(amounts), LIST(tickets), LIST(asks), LIST(bays), LIST(bids), NUMBER(n), \
     NUMBER(m)
+
+#define TRY_PARAMETERS uint8_t rule, const uint32_t *asks, size_t asks_len, const uint16_t *bays, size_t bays_len, \
+    const uint16_t *amounts, size_t amounts_len, const uint32_t *tickets, size_t tickets_len, const uint32_t *bids, \
+    size_t bids_len, size_t width, uint32_t guest, const uint32_t *worths, size_t worths_len, const uint32_t *row, \
+    size_t row_len, uint8_t *changes, size_t changes_len, int64_t *first_gain, int64_t *second_gain
+#define TRY_ARGUMENTS rule, asks, asks_len, bays, bays_len, amounts, amounts_len, tickets, tickets_len, bids, \
+    bids_len, width, guest, worths, worths_len, row, row_len, changes, changes_len, first_gain, second_gain
+#define TRY_PARTS LIST(asks), LIST(bays), LIST(amounts), LIST(tickets), LIST(bids), LIST(worths), LIST(row), \
+    LIST(changes), NUMBER(first_gain), NUMBER(second_gain)
 
 #define WRITE_PARAMETERS const uint32_t *asks, size_t asks_len, const uint16_t *bays, size_t bays_len, \
     const uint16_t *amounts, size_t amounts_len, const uint32_t *tickets, size_t tickets_len, const uint32_t *bids, \

@@ -1,6 +1,7 @@
 #!/usr/bin/env python3
 """The shared library through tools/exports_table.py, at the path given: case E read, also as text, cleared, explained,
-joined of two gates, posted and written, and calls that are refused and leave what they were lent."""
+joined of two gates, posted and written, another row of case G, and calls that are refused and leave what they were
+lent."""
 import pathlib
 import sys
 
@@ -34,6 +35,12 @@ expect('clear', 0, cleared, rule=1, **MARKET, **RESULTS)
 expect('clear', 18, RESULTS, rule=3, **MARKET, **RESULTS)
 told = {'codes': [0, 1, 4, 1], 'stations': [1, 0], 'charges': [24, 0], 'reasons': [0, 4]}
 expect('explain', 0, told, rule=1, **MARKET, **{name: [7] * len(held) for name, held in told.items()})
+case_g = {**MARKET, 'amounts': [3, 2], 'bids': [9, 0, 10, 0]}
+tried = {'changes': [7, 7], 'first_gain': 7, 'second_gain': 7}
+expect('try', 0, {'changes': [2, 0], 'first_gain': 0, 'second_gain': -7}, rule=1, **case_g, guest=2, worths=[10, 0],
+       row=[14, 0], **tried)
+expect('try', 24, tried, rule=1, **case_g, guest=3, worths=[10, 0], row=[14, 0], **tried)
+expect('try', 9, tried, rule=1, **case_g, guest=2, worths=[10, 0], row=[14, 1_000_001], **tried)
 north = {'asks': [2, 6], 'bays': [1, 1], 'amounts': [3], 'tickets': [1], 'bids': [8, 0], 'width': 2}
 south = {f'{name}2': held for name, held in {**north, 'tickets': [2]}.items()}
 joined = {f'joined_{name}': held for name, held in MARKET.items() if name != 'width'}

@@ -34,21 +34,23 @@ finds() {
     found=$((found + 1))
 }
 
-for part in read write trip read_csv csv_trip place_bids join gates clear clear_efficient explain facts post truth \
-    truth_efficient; do
+for part in read write trip read_csv csv_trip place_bids join gates clear clear_efficient explain facts try rows post \
+    truth truth_efficient; do
     BAY_MARKET_FAULT='' "$compare" $seed $part >/dev/null
 done
-# what has the faults of comma-separated markets, of efficient clearing and of telling is right without one
+# what has the faults of comma-separated markets, of efficient clearing, of telling and of trying is right without one
 BAY_MARKET_FAULT='read_csv own' "$compare" $seed read_csv >/dev/null
 BAY_MARKET_FAULT='clear_efficient own' "$compare" $seed clear_efficient >/dev/null
 BAY_MARKET_FAULT='explain own' "$compare" $seed explain >/dev/null
 BAY_MARKET_FAULT='explain own' "$compare" $seed facts >/dev/null
+BAY_MARKET_FAULT='try own' "$compare" $seed try >/dev/null
+BAY_MARKET_FAULT='try own' "$compare" $seed rows >/dev/null
 
 # what a function only reads, what it fills, the numbers that it gives
 lists() { scripts/exports --parts slice "$1"; }
 filled() { scripts/exports --parts lent "$1"; }
 numbers() { scripts/exports --parts out "$1"; }
-# the types that own what guests are told take no other code, station, charge or reason than there is
+# the types that own what guests are told take no other code, station, charge, reason or change than there is
 no_such='the engine gave'
 for function in "${functions[@]}"; do
     for way in c slices owned; do
@@ -140,11 +142,11 @@ for list in $(filled read_csv); do
 done
 # faults of tickets
 for way in c slices owned; do
-    for function in clear clear_efficient explain post; do
+    for function in clear clear_efficient explain try post; do
         finds "$function higher" 'differ' $function $way
     done
-    for function in write clear clear_efficient explain post; do
-        finds "$function equal" 'answered 0, expected 15|owned [a-z]+ differs' $function $way
+    for function in write clear clear_efficient explain try post; do
+        finds "$function equal" 'answered [0-9]+, expected 15|owned [a-z]+ differs' $function $way
         finds "$function repeat-early" 'answered 15, expected 9|owned [a-z]+ differs' $function $way
     done
     finds 'post repeat-late' 'answered 13, expected 15|owned ledger differs' post $way
@@ -159,7 +161,7 @@ for way in c slices; do
     finds 'write repeat-late' 'answered 14, expected 15' write $way
 done
 # faults of the rule; the types know no other rule than two
-for function in clear clear_efficient explain post; do
+for function in clear clear_efficient explain try post; do
     for way in c slices owned; do
         finds "$function first" 'differ|answered 0, expected 18' $function $way
         finds "$function second" 'differ' $function $way
@@ -242,6 +244,45 @@ for way in c slices; do
         finds "join $list short taken" 'answered 0, expected 10' join $way
     done
 done
+# faults of trying; the types that own their lists make the list of changes
+for way in c slices owned; do
+    for fault in exchanged larger unsigned clamped by-bids by-row price charge free unseated rules quiet next ticket; do
+        finds "try $fault" '(gain|changes|answer) differs?' try $way
+        finds "try $fault" 'the second gain is larger|the (gains|changes) are told as|others change' rows $way
+    done
+    for fault in turned itself moved shifted many; do
+        finds "try $fault" 'changes differ|owned answer differs' try $way
+        finds "try $fault" 'the changes are told as|others change' rows $way
+    done
+    finds 'try larger' 'the second gain is larger' rows $way
+    finds 'try many' 'others change, and [0-9]+ places of the guest' rows $way
+    finds 'try answer' 'answered 5, expected 0' rows $way
+    for fault in zero over; do
+        finds "try $fault" 'answered [0-9]+, expected 24|owned answer differs' try $way
+    done
+    for fault in worth bid; do
+        finds "try $fault" 'answered 0, expected 9|owned answer differs' try $way
+    done
+    finds 'try guest-early' 'answered 24, expected 15|owned answer differs' try $way
+    finds 'try guest-late' 'answered 5, expected 24|owned answer differs' try $way
+    for list in worths row; do
+        finds "try $list long taken" 'answered 0, expected 5|owned answer differs' try $way
+        finds "try $list short taken" 'answered 0, expected 5|owned answer differs' try $way
+    done
+done
+for way in c slices; do
+    for fault in kept untouched; do
+        finds "try $fault" 'changes differ' try $way
+        finds "try $fault" 'the changes are told as|others change' rows $way
+    done
+    finds 'try list-early' 'answered 10, expected 5' try $way
+    finds 'try price-early' 'answered 9, expected 10' try $way
+    finds 'try changes long taken' 'answered 0, expected 10' try $way
+    finds 'try changes short taken' 'answered 0, expected 10' try $way
+done
+finds 'explain seated' 'others change, and [0-9]+ places of the guest' rows
+finds 'clear bid' 'the gains are told as' rows
+finds 'clear higher' 'the (gains|changes) are told as' rows
 finds 'explain seated' 'holds a place that joining gave|is charged less' gates
 finds 'join front' 'holds a place that joining gave|is charged less' gates
 finds 'clear bid' 'guest [0-9]+ gains by' truth

@@ -102,6 +102,37 @@
  *   join ticket-early            21 goes before 2
  *   join list-early              10 goes before 21
  *   join LIST WAY taken          a table that alone is too long or too short is taken
+ *   try own                      none: what tells of another row, with the next faults, without one
+ *   try exchanged                the second gain stands first
+ *   try turned                   1 and 2 are exchanged
+ *   try itself                   the guest itself is listed too
+ *   try moved                    a guest that moves to another station becomes seated
+ *   try shifted                  the list is one off: a guest's change is the next one's
+ *   try many                     of more others than there are stations all become unseated
+ *   try larger                   where the worths are the guest's bids, the second gain is one more than the first
+ *   try kept                     where nothing changes the list stays as it was
+ *   try untouched                the list stays as it was
+ *   try unsigned                 a negative gain wraps round at 32 bits
+ *   try clamped                  a negative gain is 0
+ *   try by-bids                  the first gain is by the guest's bids in the market, not by its worths
+ *   try by-row                   the second gain is by the other row, not by the worths
+ *   try price                    a gain is by the kWh: the worth is not multiplied by the amount
+ *   try charge                   the second gain has the first round's charge
+ *   try free                     a gain has no charge taken off
+ *   try unseated                 a guest with no seat gains its worth at station 1
+ *   try rules                    the second round is by the other rule
+ *   try quiet                    both rounds are efficient ones
+ *   try next                     the other row is laid over the next guest's
+ *   try ticket                   the guest has the highest ticket in the second round
+ *   try zero                     guest number 0 is taken, as guest 1
+ *   try over                     guest number n + 1 is taken, as guest n
+ *   try worth                    a worth one beyond its limit is taken
+ *   try bid                      a bid of the row one beyond its limit is taken
+ *   try guest-early              24 goes before 15
+ *   try guest-late               24 comes after 5
+ *   try list-early               10 goes before 5
+ *   try price-early              9 of the row goes before 10
+ *   try LIST WAY taken           a list that alone is too long or too short is taken
  */
 #include "bay_market.h"
 
@@ -1188,4 +1219,201 @@ uint8_t bay_market_read_csv(READ_CSV_PARAMETERS)
         *m = (uint16_t)csv.m;
     }
     return SPOIL("read_csv", answer, parts);
+}
+
+/* Another row of a guest, from 0, in an accepted market, with a fault. */
+struct tried {
+    const char *wrong;
+    size_t guest;
+    const uint32_t *worths, *row;
+};
+
+static int tries(const struct tried *tried, const char *wrong)
+{
+    return strcmp(tried->wrong, wrong) == 0;
+}
+
+/* Where a round seats the guests, and for what. */
+struct round {
+    uint16_t stations[BAY_MARKET_MAX_GUESTS];
+    uint32_t charges[BAY_MARKET_MAX_GUESTS];
+};
+
+static void clear_round(const struct tried *tried, uint8_t rule, MARKET_PARAMETERS, struct round *round)
+{
+    const size_t n = amounts_len, m = asks_len;
+    uint32_t sold[BAY_MARKET_MAX_STATIONS], cut;
+    uint64_t paid[BAY_MARKET_MAX_STATIONS], margin;
+
+    if (tries(tried, "quiet")) {
+        REAL(bay_market_clear_efficient)(rule, MARKET(tickets), round->stations, n, round->charges, n, sold, m, paid, m,
+                                         &cut, &margin);
+    } else {
+        REAL(bay_market_clear)(rule, MARKET(tickets), round->stations, n, round->charges, n, sold, m, paid, m, &cut,
+                               &margin);
+    }
+}
+
+/* The market with the other row. */
+static void clear_second(const struct tried *tried, uint8_t rule, MARKET_PARAMETERS, struct round *round)
+{
+    static uint32_t other[BAY_MARKET_MAX_BIDS], late[BAY_MARKET_MAX_GUESTS];
+    const size_t n = amounts_len, at = tries(tried, "next") ? (tried->guest + 1) % n : tried->guest;
+
+    memcpy(other, bids, bids_len * sizeof *bids);
+    memcpy(other + at * asks_len, tried->row, asks_len * sizeof *tried->row);
+    if (tries(tried, "ticket")) {
+        for (size_t i = 0; i < n; i++) {
+            late[i] = 0;
+            for (size_t k = 0; k < n; k++) {
+                late[i] += tickets[k] < tickets[i];
+            }
+        }
+        late[tried->guest] = BAY_MARKET_MAX_GUESTS;
+        tickets = late;
+    }
+    rule = tries(tried, "rules") ? (uint8_t)(3 - rule) : rule;
+    clear_round(tried, rule, asks, asks_len, bays, bays_len, amounts, amounts_len, tickets, tickets_len, other,
+                bids_len, width, round);
+}
+
+/* The gain of a guest with these worths at a station, 0 for none. */
+static int64_t gain_at(const struct tried *tried, const uint32_t *worths, uint16_t station, uint16_t amount,
+                       uint32_t charge)
+{
+    int64_t gain = 0;
+
+    if (station == 0 && tries(tried, "unseated")) {
+        gain = (int64_t)worths[0] * amount;
+    }
+    if (station != 0) {
+        gain = (int64_t)worths[station - 1] * (tries(tried, "price") ? 1 : amount)
+               - (tries(tried, "free") ? 0 : charge);
+    }
+    if (gain < 0 && tries(tried, "clamped")) {
+        return 0;
+    }
+    return gain < 0 && tries(tried, "unsigned") ? (int64_t)(uint32_t)gain : gain;
+}
+
+static uint8_t change_of(const struct tried *tried, size_t guest, uint16_t before, uint16_t after)
+{
+    const int turned = tries(tried, "turned");
+
+    if (guest == tried->guest && !tries(tried, "itself")) {
+        return BAY_MARKET_UNCHANGED;
+    }
+    if (before == 0 && after != 0) {
+        return turned ? BAY_MARKET_BECOMES_UNSEATED : BAY_MARKET_BECOMES_SEATED;
+    }
+    if (before != 0 && after == 0) {
+        return turned ? BAY_MARKET_BECOMES_SEATED : BAY_MARKET_BECOMES_UNSEATED;
+    }
+    return before != after && tries(tried, "moved") ? BAY_MARKET_BECOMES_SEATED : BAY_MARKET_UNCHANGED;
+}
+
+static void tell_row(const struct tried *tried, uint8_t rule, MARKET_PARAMETERS, uint8_t *changes, int64_t *first_gain,
+                     int64_t *second_gain)
+{
+    static struct round first, second;
+    const size_t n = amounts_len, i = tried->guest;
+    const uint32_t *by_first = tries(tried, "by-bids") ? bids + i * asks_len : tried->worths;
+    const uint32_t *by_second = tries(tried, "by-row") ? tried->row : tried->worths;
+
+    clear_round(tried, rule, MARKET(tickets), &first);
+    clear_second(tried, rule, MARKET(tickets), &second);
+    const uint32_t charge = tries(tried, "charge") && first.stations[i] != 0 ? first.charges[i] : second.charges[i];
+    const int64_t gains[] = {gain_at(tried, by_first, first.stations[i], amounts[i], first.charges[i]),
+                             gain_at(tried, by_second, second.stations[i], amounts[i], charge)};
+    *first_gain = gains[tries(tried, "exchanged")];
+    *second_gain = gains[!tries(tried, "exchanged")];
+    if (tries(tried, "larger") && memcmp(tried->worths, bids + i * asks_len, asks_len * sizeof *bids) == 0) {
+        *second_gain = *first_gain + 1;
+    }
+    for (size_t k = 0; k < n; k++) {
+        const size_t at = tries(tried, "shifted") ? (k + n - 1) % n : k;
+        const uint8_t change = tries(tried, "many") && n > asks_len + 1 ? (k == i ? 0 : BAY_MARKET_BECOMES_UNSEATED)
+                               : change_of(tried, k, first.stations[k], second.stations[k]);
+        if (!tries(tried, "untouched") && !(tries(tried, "kept") && change == BAY_MARKET_UNCHANGED)) {
+            changes[at] = change;
+        }
+    }
+}
+
+/* A list of prices in which those one beyond the limit are at it. */
+static const uint32_t *at_limit(const uint32_t *list, size_t count)
+{
+    static uint32_t copy[BAY_MARKET_MAX_STATIONS];
+
+    for (size_t j = 0; j < count; j++) {
+        copy[j] = list[j] == BAY_MARKET_MAX_PRICE + 1 ? BAY_MARKET_MAX_PRICE : list[j];
+    }
+    return copy;
+}
+
+/* The answer to a call that is refused, out of its place. */
+static uint8_t try_out_of_place(char words[4][16], uint8_t answer, MARKET_PARAMETERS, uint32_t guest,
+                                const uint32_t *worths, size_t worths_len, const uint32_t *row, size_t row_len,
+                                size_t changes_len)
+{
+    const size_t n = amounts_len, m = asks_len;
+    const struct fit lists[] = {{"worths", worths_len, m}, {"row", row_len, m}, {"changes", changes_len, n}};
+    const int fits = bays_len == m && tickets_len == n && bids_len == n * m && width == m;
+    const int prices = above32(worths, worths_len, BAY_MARKET_MAX_PRICE) || above32(row, row_len, BAY_MARKET_MAX_PRICE);
+
+    (void)asks, (void)bays, (void)amounts, (void)tickets, (void)bids;
+    if ((answer == BAY_MARKET_LENGTHS_DIFFER || answer == BAY_MARKET_LENT_LENGTHS) && fits
+        && taken(words, lists, sizeof lists / sizeof *lists)) {
+        return BAY_MARKET_ACCEPTED;
+    }
+    if (strcmp(words[1], "guest-early") == 0 && answer == BAY_MARKET_TICKETS_REPEAT && (guest == 0 || guest > n)) {
+        return BAY_MARKET_NO_SUCH_GUEST;
+    }
+    if (strcmp(words[1], "guest-late") == 0 && answer == BAY_MARKET_NO_SUCH_GUEST
+        && (worths_len != m || row_len != m)) {
+        return BAY_MARKET_LENGTHS_DIFFER;
+    }
+    if (strcmp(words[1], "list-early") == 0 && answer == BAY_MARKET_LENGTHS_DIFFER && fits && changes_len != n) {
+        return BAY_MARKET_LENT_LENGTHS;
+    }
+    if (strcmp(words[1], "price-early") == 0 && answer == BAY_MARKET_LENT_LENGTHS && prices) {
+        return BAY_MARKET_BID_OUT_OF_RANGE;
+    }
+    return answer;
+}
+
+uint8_t bay_market_try(TRY_PARAMETERS)
+{
+    const struct part parts[] = {TRY_PARTS};
+    const uint32_t *seen = others("try", tickets, tickets_len), *worths_seen = worths, *row_seen = row;
+    static uint8_t before[BAY_MARKET_MAX_GUESTS];
+    char words[4][16];
+    uint8_t answer;
+
+    rule = other_rule("try", rule, asks_len);
+    if (!fault("try", words)) {
+        return REAL(bay_market_try)(TRY_ARGUMENTS);
+    }
+    if (strcmp(words[1], "zero") == 0 && guest == 0) {
+        guest = 1;
+    } else if (strcmp(words[1], "over") == 0 && guest == amounts_len + 1 && guest > 1) {
+        guest--;
+    } else if (strcmp(words[1], "worth") == 0 && worths_len <= BAY_MARKET_MAX_STATIONS) {
+        worths_seen = at_limit(worths, worths_len);
+    } else if (strcmp(words[1], "bid") == 0 && row_len <= BAY_MARKET_MAX_STATIONS) {
+        row_seen = at_limit(row, row_len);
+    }
+    if (changes_len <= sizeof before) {
+        memcpy(before, changes, changes_len);
+    }
+    answer = REAL(bay_market_try)(rule, MARKET(seen), guest, worths_seen, worths_len, row_seen, row_len, changes,
+                                  changes_len, first_gain, second_gain);
+    if (answer == 0 && seen == tickets) {
+        const struct tried tried = {words[1], guest - 1, worths_seen, row_seen};
+        memcpy(changes, before, changes_len);
+        tell_row(&tried, rule, MARKET(tickets), changes, first_gain, second_gain);
+    }
+    answer = out_of_place("try", answer, tickets, tickets_len, 0);
+    answer = try_out_of_place(words, answer, MARKET(tickets), guest, worths, worths_len, row, row_len, changes_len);
+    return SPOIL("try", answer, parts);
 }

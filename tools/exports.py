@@ -27,6 +27,8 @@ KINDS = (('lent', r'&mut \[(\w+)\]'), ('slice', r'&\[(\w+)\]'), ('out', r'&mut (
 GROUPS = {'MARKET': 'asks bays amounts tickets bids width', 'RESULT': 'stations charges sold paid cut margin',
           'TOLD': 'codes stations charges reasons',
           'PLACES': 'prices falls guest_first guest_second station_first station_second'}
+# names that Rust takes only as r#NAME
+KEYWORDS = ('try',)
 BEGIN, END = 'scripts/exports writes what follows', 'end of what scripts/exports writes'
 
 Parameter = collections.namedtuple('Parameter', 'name kind type')
@@ -84,6 +86,12 @@ def snake(name):
 
 def c_type(name):
     return C.get(name) or f'struct {PREFIX}{snake(name)}'
+
+
+def rust_name(f):
+    """A function's name among those over slices."""
+    name = f.name[len(PREFIX):]
+    return f'r#{name}' if name in KEYWORDS else name
 
 
 def words(p):
@@ -176,7 +184,7 @@ def slices(_):
         return [f'{p.name}.{pointers[p.kind]}()', f'{p.name}.len()'] if p.kind in pointers else [p.name]
 
     for f in ALL:
-        out += ['', f'pub(crate) fn {f.name[len(PREFIX):]}(',
+        out += ['', f'pub(crate) fn {rust_name(f)}(',
                 *(f'    {line},' for line in lines(f.parameters, declared)), ') -> u8 {',
                 '    // SAFETY: every pointer and length is that of a live slice or number, and borrows keep',
                 '    // the written ones apart.', '    unsafe {', f'        c::{f.name}(',

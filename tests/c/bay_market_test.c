@@ -1,6 +1,6 @@
 /*
- * Case E of document 01 by rule 1, rules, tickets, quiet rounds, what decided, parking places, two gates,
- * comma-separated markets, refusals and limits, through include/bay_market.h.
+ * Case E of document 01 by rule 1, rules, tickets, quiet rounds, what decided, another row of case G, parking places,
+ * two gates, comma-separated markets, refusals and limits, through include/bay_market.h.
  */
 #include "bay_market.h"
 
@@ -322,6 +322,55 @@ static void test_explain_table_i(void)
     expect(memcmp(reasons, lost, sizeof lost) == 0, "its losses");
 }
 
+/* What another row of a guest of case G does, with room for more changes. */
+struct tried {
+    uint8_t changes[3];
+    int64_t first, second;
+};
+
+static uint8_t try_g(uint8_t rule, const uint32_t *tickets_g, uint32_t guest, const uint32_t *worths,
+                     size_t worths_len, const uint32_t *row, size_t row_len, size_t changes_len, struct tried *tried)
+{
+    static const uint32_t asked[2] = {2, 6}, table[4] = {9, 0, 10, 0};
+    static const uint16_t ones[2] = {1, 1}, kwh[2] = {3, 2};
+
+    return bay_market_try(rule, asked, 2, ones, 2, kwh, 2, tickets_g, 2, table, 4, 2, guest, worths, worths_len, row,
+                          row_len, tried->changes, changes_len, &tried->first, &tried->second);
+}
+
+/* Guest 2, to which a kWh at station 1 is worth 10, tries 14; guest 1 leaves; then every refusal, in its order. */
+static void test_try(void)
+{
+    static const uint32_t two[2] = {1, 2}, equal[2] = {7, 7}, worths[3] = {10, 0, 0}, row[3] = {14, 0, 0};
+    static const uint32_t nothing[2] = {0, 0}, over[3] = {BAY_MARKET_MAX_PRICE + 1, 0, 0};
+    static const uint32_t most[2] = {BAY_MARKET_MAX_PRICE, BAY_MARKET_MAX_PRICE};
+    struct tried tried = {{77, 77, 77}, 77, 77};
+
+    expect(try_g(3, equal, 0, over, 1, over, 2, 1, &tried) == BAY_MARKET_UNKNOWN_RULE, "18 goes before the market");
+    expect(try_g(1, equal, 0, over, 1, over, 2, 1, &tried) == BAY_MARKET_TICKETS_REPEAT, "the market before the guest");
+    expect(try_g(1, two, 0, over, 1, over, 2, 1, &tried) == BAY_MARKET_NO_SUCH_GUEST, "guest 0");
+    expect(try_g(1, two, 3, over, 1, over, 2, 1, &tried) == BAY_MARKET_NO_SUCH_GUEST, "a guest too many");
+    expect(try_g(1, two, UINT32_MAX, over, 1, over, 2, 1, &tried) == BAY_MARKET_NO_SUCH_GUEST, "a guest far beyond");
+    for (size_t wrong = 1; wrong <= 3; wrong += 2) { /* one too short, one too long */
+        expect(try_g(1, two, 2, over, wrong, over, 2, 1, &tried) == BAY_MARKET_LENGTHS_DIFFER, "other worths");
+        expect(try_g(1, two, 2, over, 2, over, wrong, 1, &tried) == BAY_MARKET_LENGTHS_DIFFER, "another row");
+        expect(try_g(1, two, 2, over, 2, over, 2, wrong, &tried) == BAY_MARKET_LENT_LENGTHS, "other changes");
+    }
+    expect(try_g(1, two, 2, over, 2, row, 2, 2, &tried) == BAY_MARKET_BID_OUT_OF_RANGE, "a worth above the limit");
+    expect(try_g(1, two, 2, worths, 2, over, 2, 2, &tried) == BAY_MARKET_BID_OUT_OF_RANGE, "a bid above the limit");
+    expect(try_g(1, two, 2, NULL, 0, NULL, 0, 2, &tried) == BAY_MARKET_LENGTHS_DIFFER, "neither worths nor row");
+    expect(tried.first == 77 && tried.second == 77 && tried.changes[0] == 77 && tried.changes[1] == 77,
+           "a refused trial writes nothing");
+    expect(try_g(1, two, 2, worths, 2, row, 2, 2, &tried) == BAY_MARKET_ACCEPTED, "guest 2 of case G tries 14");
+    expect(tried.first == 0 && tried.second == -7, "it had no seat, and would lose 7");
+    expect(tried.changes[0] == BAY_MARKET_BECOMES_UNSEATED && tried.changes[1] == BAY_MARKET_UNCHANGED
+           && tried.changes[2] == 77, "guest 1 would lose its seat, and nothing beyond is written");
+    expect(try_g(2, two, 1, most, 2, nothing, 2, 2, &tried) == BAY_MARKET_ACCEPTED, "guest 1 leaves");
+    expect(tried.first == INT64_C(2999980) && tried.second == 0, "3 kWh at the greatest worth, less its charge of 20");
+    expect(tried.changes[0] == BAY_MARKET_UNCHANGED && tried.changes[1] == BAY_MARKET_BECOMES_SEATED,
+           "guest 2 has its seat");
+}
+
 /* A guest at (0, 0) and stations at (3, 4), (1, 1) and (31, 31): what is stated, and how long the bid table is. */
 static uint8_t place(uint32_t price, uint32_t fall, const uint16_t *first, size_t seconds, uint32_t *table,
                      size_t length)
@@ -469,6 +518,7 @@ static void test_null(void)
     uint32_t sold = 77, cut = 77, last = 0, joined_ask = 77;
     uint16_t joined_bay = 77;
     uint64_t paid = 77, margin = 77, house = 3;
+    int64_t gain = 77, other_gain = 77;
     struct bay_market_station_account station = {1, 2};
     uint8_t output[10];
     size_t length = 77;
@@ -497,6 +547,13 @@ static void test_null(void)
            == BAY_MARKET_ACCEPTED, "no guests to tell");
     expect(bay_market_explain(1, NULL, 0, NULL, 0, NULL, 0, NULL, 0, NULL, 0, 0, NULL, 0, NULL, 0, NULL, 0, NULL, 0)
            == BAY_MARKET_COUNTS_OUT_OF_RANGE, "no station to tell of");
+    expect(bay_market_try(1, NULL, 0, NULL, 0, NULL, 0, NULL, 0, NULL, 0, 0, 0, NULL, 0, NULL, 0, NULL, 0, &gain,
+                          &other_gain) == BAY_MARKET_COUNTS_OUT_OF_RANGE, "no station to try");
+    expect(bay_market_try(1, &ask, 1, &bay, 1, NULL, 0, NULL, 0, NULL, 0, 1, 1, NULL, 0, NULL, 0, NULL, 0, &gain,
+                          &other_gain) == BAY_MARKET_NO_SUCH_GUEST, "no guests to try");
+    expect(bay_market_try(1, &ask, 1, &bay, 1, &bay, 1, &ask, 1, &ask, 1, 1, 1, &ask, 1, &ask, 1, NULL, 0, &gain,
+                          &other_gain) == BAY_MARKET_LENT_LENGTHS, "no list of changes");
+    expect(gain == 77 && other_gain == 77, "no gain is written");
     expect(bay_market_post(1, NULL, 0, NULL, 0, NULL, 0, NULL, 0, NULL, 0, 0, 1, NULL, 0, NULL, 0, &house, &last)
            == BAY_MARKET_COUNTS_OUT_OF_RANGE, "no station to post");
     expect(bay_market_post(1, &ask, 1, &bay, 1, NULL, 0, NULL, 0, NULL, 0, 1, 2, NULL, 0, NULL, 0, &house, &last)
@@ -524,7 +581,7 @@ static void test_null(void)
 
 static void test_texts(void)
 {
-    const uint8_t beyond = BAY_MARKET_FIELD_TOO_LARGE + 1;
+    const uint8_t beyond = BAY_MARKET_NO_SUCH_GUEST + 1;
 
     expect(strcmp(bay_market_refusal_text(BAY_MARKET_ACCEPTED), "accepted") == 0, "the text of 0");
     expect(strcmp(bay_market_refusal_text(beyond), bay_market_refusal_text(255)) == 0, "no answer of the engine");
@@ -555,6 +612,7 @@ int main(void)
     test_floor();
     test_explain();
     test_explain_table_i();
+    test_try();
     test_places();
     test_placed_market();
     test_join();

@@ -22,7 +22,8 @@ static uint16_t stations[BAY_MARKET_MAX_GUESTS];
 static uint32_t charges[BAY_MARKET_MAX_GUESTS], sold[BAY_MARKET_MAX_STATIONS];
 static uint64_t paid[BAY_MARKET_MAX_STATIONS], margin, guests[BAY_MARKET_MAX_GUESTS], house;
 static struct bay_market_station_account accounts[BAY_MARKET_MAX_STATIONS];
-static uint8_t codes[BAY_MARKET_MAX_BIDS], reasons[BAY_MARKET_MAX_GUESTS];
+static uint8_t codes[BAY_MARKET_MAX_BIDS], reasons[BAY_MARKET_MAX_GUESTS], changes[BAY_MARKET_MAX_GUESTS];
+static int64_t gain, other_gain;
 static uint16_t joined_amounts[BAY_MARKET_MAX_GUESTS], joined_bays[BAY_MARKET_MAX_STATIONS];
 static uint32_t joined_asks[BAY_MARKET_MAX_STATIONS], joined_tickets[BAY_MARKET_MAX_GUESTS];
 static uint32_t joined_bids[BAY_MARKET_MAX_BIDS];
@@ -69,6 +70,13 @@ static void call_explain(void)
 {
     answer = bay_market_explain(2, asks, m, bays, m, amounts, n, tickets, n, bids, (size_t)n * m, m, codes,
                                 (size_t)n * m, stations, n, charges, n, reasons, n);
+}
+
+/* The last guest with the first one's row, its own bids being its worths. */
+static void call_try(void)
+{
+    answer = bay_market_try(2, asks, m, bays, m, amounts, n, tickets, n, bids, (size_t)n * m, m, n,
+                            bids + (size_t)(n - 1) * m, m, bids, m, changes, n, &gain, &other_gain);
 }
 
 /* The market's two halves. */
@@ -191,9 +199,10 @@ int main(void)
     } calls[] = {{"read", call_read, BAY_MARKET_MAX_STACK}, {"read_csv", call_read_csv, BAY_MARKET_MAX_STACK_READ_CSV},
                  {"write", call_write, BAY_MARKET_MAX_STACK}, {"clear", call_clear, BAY_MARKET_MAX_STACK},
                  {"clear_efficient", call_clear_efficient, BAY_MARKET_MAX_STACK},
-                 {"explain", call_explain, BAY_MARKET_MAX_STACK}, {"join", call_join, BAY_MARKET_MAX_STACK},
-                 {"post", call_post, BAY_MARKET_MAX_STACK}, {"place_bids", call_place_bids, BAY_MARKET_MAX_STACK}};
-    size_t most = 0, most_csv = 0;
+                 {"explain", call_explain, BAY_MARKET_MAX_STACK}, {"try", call_try, BAY_MARKET_MAX_STACK_TRY},
+                 {"join", call_join, BAY_MARKET_MAX_STACK}, {"post", call_post, BAY_MARKET_MAX_STACK},
+                 {"place_bids", call_place_bids, BAY_MARKET_MAX_STACK}};
+    size_t most = 0, most_csv = 0, most_try = 0;
 
     for (uint32_t spread = 1; spread <= 900000; spread *= 30) {
         write_sheet(spread);
@@ -203,7 +212,8 @@ int main(void)
         for (size_t i = 0; i < sizeof calls / sizeof *calls; i++) {
             answer = 255;
             size_t taken = depth(calls[i].call, calls[i].allowed) - depth(none, calls[i].allowed);
-            size_t *so_far = calls[i].call == call_read_csv ? &most_csv : &most;
+            size_t *so_far = calls[i].call == call_read_csv ? &most_csv
+                             : calls[i].call == call_try ? &most_try : &most;
             if (answer != BAY_MARKET_ACCEPTED) {
                 fprintf(stderr, "%s: refused %d\n", calls[i].name, answer);
                 return 1;
@@ -213,7 +223,7 @@ int main(void)
             }
         }
     }
-    printf("stack test: a call took at most %zu bytes of %d, one of read_csv %zu of %d\n", most, BAY_MARKET_MAX_STACK,
-           most_csv, BAY_MARKET_MAX_STACK_READ_CSV);
+    printf("stack test: a call took at most %zu bytes of %d, one of read_csv %zu of %d, one of try %zu of %d\n", most,
+           BAY_MARKET_MAX_STACK, most_csv, BAY_MARKET_MAX_STACK_READ_CSV, most_try, BAY_MARKET_MAX_STACK_TRY);
     return 0;
 }

@@ -6,4 +6,5 @@ mod post;
 mod read;
 mod read_csv;
 mod reasons;
+mod rows;
 mod write;

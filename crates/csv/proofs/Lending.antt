@@ -27,7 +27,7 @@ use Rattle.model.proofs.sheet.Tables.{first-places, room-for}
 use Rattle.model.specs.Limits.{maxGuests, maxStations, maxBids}
 use Rattle.csv.specs.Copies.{Fits, copied}
 use Rattle.csv.specs.Parses.{Parsed, ParseRead}
-use Rattle.csv.proofs.Copies.{tables-are}
+use Rattle.copies.proofs.Tables.{tables-are}
 
 -- ---- what is copied
 

@@ -1,5 +1,4 @@
 pub mod Asking
-pub mod Copies
 pub mod Ending
 pub mod Faulty
 pub mod Going

@@ -20,12 +20,6 @@ use Rattle.model.proofs.contracts.Rows.{bids-shown}
 use Rattle.model.proofs.market.Acceptance.{accepted-iff-within-limits}
 use Rattle.model.proofs.market.Joining.{joining-within}
 
-pub tables-are :
-    {amounts amounts′ tickets tickets′ asks asks′ bays bays′ bids bids′ : List ℕ} → amounts ≡ amounts′
-    → tickets ≡ tickets′ → asks ≡ asks′ → bays ≡ bays′ → bids ≡ bids′
-    → lentTables amounts tickets asks bays bids ≡ lentTables amounts′ tickets′ asks′ bays′ bids′
-tables-are a k s b d = λ x. record { amounts = a x; tickets = k x; asks = s x; bays = b x; bids = d x }
-
 -- each market's own checks
 pub own-within :
     (t u : Tables) → firstFault (marketFaults t ++ marketFaults u) ≡ accepted tt → WithinLimits t × WithinLimits u

@@ -35,8 +35,8 @@ fn put_together(
         ≡ lentTables (now (amounts .entry) ++ now (amounts2 .entry)) (now (tickets .entry) ++ now (tickets2 .entry))
         (now (asks .entry)) (now (bays .entry)) (now (bids .entry) ++ now (bids2 .entry)) ⌝ }
 {
-    lists::put32(asks, 0, joined_asks);
-    lists::put16(bays, 0, joined_bays);
+    copies::put32(asks, 0, joined_asks);
+    copies::put16(bays, 0, joined_bays);
     lists::join16(amounts, amounts2, joined_amounts);
     lists::join32(tickets, tickets2, joined_tickets);
     lists::join32(bids, bids2, joined_bids);

@@ -5,6 +5,7 @@ pub mod Example
 pub mod Gates
 pub mod GatesInstance
 pub mod Instances
+pub mod OtherRows
 pub mod Places
 pub mod Reasons
 pub mod Sheets

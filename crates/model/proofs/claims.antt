@@ -5,6 +5,7 @@ pub mod Efficient
 pub mod Existence
 pub mod Gates
 pub mod OneSheet
+pub mod OtherRows
 pub mod Places
 pub mod Postings
 pub mod Promises

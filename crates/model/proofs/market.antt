@@ -1,5 +1,6 @@
 pub mod Acceptance
 pub mod Candidacies
+pub mod Changes
 pub mod Choice
 pub mod Cut
 pub mod Decisions
@@ -9,6 +10,7 @@ pub mod Joining
 pub mod Limits
 pub mod Menus
 pub mod Order
+pub mod Others
 pub mod Outcomes
 pub mod Pivots
 pub mod Queues
@@ -16,3 +18,4 @@ pub mod Reasons
 pub mod Stations
 pub mod Taking
 pub mod Truthful
+pub mod Trying

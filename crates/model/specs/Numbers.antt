@@ -1,5 +1,6 @@
 -- Document 01's number and values for each case of the enums that calls answer with.
 use Prim.Native.Nat.{ℕ}
+use lib.IntN.{ℤ}
 use Rattle.model.specs.Verdicts.{Answer, accepted, refused}
 use Rattle.model.specs.declared.answers.Reading.{Reading}
 use Rattle.model.specs.declared.answers.Reading.the-variants as reading
@@ -7,6 +8,8 @@ use Rattle.model.specs.declared.answers.Writing.{Writing}
 use Rattle.model.specs.declared.answers.Writing.the-variants as writing
 use Rattle.model.specs.declared.answers.Clearing.{Clearing}
 use Rattle.model.specs.declared.answers.Clearing.the-variants as clearing
+use Rattle.model.specs.declared.answers.Trying.{Trying}
+use Rattle.model.specs.declared.answers.Trying.the-variants as trying
 use Rattle.model.specs.declared.answers.Verdict.{Verdict}
 use Rattle.model.specs.declared.answers.Verdict.the-variants as verdict
 use Rattle.model.specs.declared.reason.Reason.{Reason}
@@ -22,6 +25,7 @@ use Rattle.model.specs.declared.refusal.Refusal.the-variants.{BookSize, 
 use Rattle.model.specs.declared.refusal.Refusal.the-variants.{CellOffGrid, PriceOrFallOutOfRange, UnknownRule}
 use Rattle.model.specs.declared.refusal.Refusal.the-variants.{EmptyBid, StationsDiffer, TicketInBoth}
 use Rattle.model.specs.declared.refusal.Refusal.the-variants.{MalformedText, FieldTooLarge}
+use Rattle.model.specs.declared.refusal.Refusal.the-variants.{NoSuchGuest}
 
 abbrev pub number : Refusal → ℕ
 number SheetEnds = 1
@@ -47,6 +51,7 @@ number StationsDiffer = 20
 number TicketInBoth = 21
 number MalformedText = 22
 number FieldTooLarge = 23
+number NoSuchGuest = 24
 
 -- of the reader: n and m
 unfoldable pub answerOfReading : Reading → Answer (ℕ × ℕ)
@@ -62,6 +67,11 @@ answerOfWriting (writing.Refused r) = refused (number r)
 unfoldable pub answerOfClearing : Clearing → Answer (ℕ × ℕ)
 answerOfClearing (clearing.Cleared cut margin) = accepted (cut .0, margin .0)
 answerOfClearing (clearing.Refused r) = refused (number r)
+
+-- of a row that is tried: both gains
+unfoldable pub answerOfTrying : Trying → Answer (ℤ × ℤ)
+answerOfTrying (trying.Tried first second) = accepted (first, second)
+answerOfTrying (trying.Refused r) = refused (number r)
 
 -- of a posting, of placing bids, and of every check
 unfoldable pub answerOfVerdict : Verdict → Answer Unit

@@ -4,6 +4,7 @@ pub mod Efficient
 pub mod Gates
 pub mod Meaning
 pub mod OneSheet
+pub mod OtherRows
 pub mod Places
 pub mod Postings
 pub mod Promises

@@ -1,3 +1,4 @@
+pub mod Changes
 pub mod Efficient
 pub mod Faults
 pub mod Gains

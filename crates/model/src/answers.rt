@@ -21,6 +21,12 @@ pub enum Clearing {
     Refused(Refusal),
 }
 
+// What a guest's other row comes to: its gain by the market as it is and by the one with the row, or the refusal.
+pub enum Trying {
+    Tried { first: i64, second: i64 },
+    Refused(Refusal),
+}
+
 // Whether a call is accepted; a posting is posted then.
 pub enum Verdict {
     Accepted,

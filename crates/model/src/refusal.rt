@@ -27,6 +27,7 @@ pub enum Refusal {
     TicketInBoth,
     MalformedText,
     FieldTooLarge,
+    NoSuchGuest,
 }
 
 impl Refusal {
@@ -58,6 +59,7 @@ impl Refusal {
             Refusal::TicketInBoth => 21,
             Refusal::MalformedText => 22,
             Refusal::FieldTooLarge => 23,
+            Refusal::NoSuchGuest => 24,
         }
     }
 }

@@ -3,7 +3,8 @@
 //! Mind the order of arguments: `bay_market_read` takes amounts, tickets, asks, bays, bids, the others that take a market
 //! asks, bays, amounts, tickets, bids, after the rule's number where they have one. Amounts and bays have one type,
 //! tickets, asks and bids another, so the compiler cannot see a swap. `bay_market_place_bids` takes prices, falls, then
-//! the guests' first and second coordinates, then the stations'. The safe functions name each.
+//! the guests' first and second coordinates, then the stations', and `bay_market_try` a guest's worths before its other row.
+//! The safe functions name each.
 
 use crate::StationAccount;
 
@@ -113,6 +114,20 @@ unsafe extern "C" {
         stations: *mut u16, stations_len: usize,
         charges: *mut u32, charges_len: usize,
         reasons: *mut u8, reasons_len: usize,
+    ) -> u8;
+
+    pub fn bay_market_try(
+        rule: u8,
+        asks: *const u32, asks_len: usize,
+        bays: *const u16, bays_len: usize,
+        amounts: *const u16, amounts_len: usize,
+        tickets: *const u32, tickets_len: usize,
+        bids: *const u32, bids_len: usize,
+        width: usize, guest: u32,
+        worths: *const u32, worths_len: usize,
+        row: *const u32, row_len: usize,
+        changes: *mut u8, changes_len: usize,
+        first_gain: *mut i64, second_gain: *mut i64,
     ) -> u8;
 
     pub fn bay_market_post(

@@ -1,4 +1,4 @@
-//! What decided a truthful round, as the guests are told.
+//! What decided a truthful round, as the guests are told, and what another row of one does to the others.
 
 /// Why a guest holds no place at a station; the first that applies counts.
 #[derive(Clone, Copy, Debug, PartialEq, Eq, PartialOrd, Ord, Hash)]
@@ -95,6 +95,35 @@ impl GuestOutcome {
     }
 }
 
+/// What another row of a guest does to another guest.
+#[derive(Clone, Copy, Debug, PartialEq, Eq, Hash)]
+#[repr(u8)]
+pub enum Change {
+    /// It is seated in both rounds or in neither.
+    Unchanged = 0,
+    /// It is seated in the second round alone.
+    BecomesSeated = 1,
+    /// It is seated in the first round alone.
+    BecomesUnseated = 2,
+}
+
+impl Change {
+    /// Its number in the header.
+    pub const fn number(self) -> u8 {
+        self as u8
+    }
+
+    /// The change with a number of the header.
+    pub const fn from_number(number: u8) -> Option<Change> {
+        match number {
+            0 => Some(Change::Unchanged),
+            1 => Some(Change::BecomesSeated),
+            2 => Some(Change::BecomesUnseated),
+            _ => None,
+        }
+    }
+}
+
 #[cfg(test)]
 mod tests {
     use super::*;
@@ -113,6 +142,14 @@ mod tests {
         for number in 5..=255 {
             assert_eq!((Reason::from_number(number), Code::from_number(number)), (None, None));
         }
+    }
+
+    #[test]
+    fn changes_keep_their_numbers() {
+        for (number, change) in (0..).zip([Change::Unchanged, Change::BecomesSeated, Change::BecomesUnseated]) {
+            assert_eq!((change.number(), Change::from_number(number)), (number, Some(change)));
+        }
+        assert!((3..=255).all(|number| Change::from_number(number).is_none()));
     }
 
     #[test]

@@ -74,6 +74,14 @@ pub struct Explanation<'a> {
     pub reasons: &'a mut [u8],
 }
 
+/// What trying a row answers besides its list of changes: the guest's gain by its bids in the market and by the other row,
+/// in mills; negative where it would pay more than its station is worth to it.
+#[derive(Clone, Copy, Debug, PartialEq, Eq)]
+pub struct Gains {
+    pub first: i64,
+    pub second: i64,
+}
+
 /// What a reader fills: the first places of tables of the greatest size.
 ///
 /// Another size is no table:
@@ -338,6 +346,52 @@ pub fn explain(rule: Rule, market: &Market, explanation: &mut Explanation) -> Re
     let Explanation { codes, stations, charges, reasons } = explanation;
     let rule = rule.number();
     Refusal::check(slices::explain(rule, asks, bays, amounts, tickets, bids, width, codes, stations, charges, reasons))
+}
+
+/// Tells what another row of bids would have done, in truthful rounds by a rule: a guest's gains by its bids in the market
+/// and by the other row, where a kWh at each station has these worths to it, and a number of [`Change`](crate::Change) for
+/// each guest, 0 for the guest itself. Guests are numbered from 1. Where its bids in the market are its worths, the second
+/// gain is never the larger. The call takes up to [`MAX_STACK_TRY`](crate::MAX_STACK_TRY) bytes of stack.
+///
+/// ```
+/// use bay_market::lent::{Gains, Market, try_row};
+/// use bay_market::{Refusal, Rule};
+///
+/// // guest 2, to which a kWh at station 1 is worth 10, tries 14: it has the bay for guest 1's total of 27
+/// let (amounts, tickets) = (&[3, 2], &[1, 2]);
+/// let market = Market { asks: &[2, 6], bays: &[1, 1], amounts, tickets, bids: &[9, 0, 10, 0], width: 2 };
+/// let mut changes = [77; 2];
+/// assert_eq!(try_row(Rule::Median, &market, 3, &[10, 0], &[14, 0], &mut changes), Err(Refusal::NoSuchGuest));
+/// assert_eq!(changes, [77; 2]);
+/// let gains = try_row(Rule::Median, &market, 2, &[10, 0], &[14, 0], &mut changes);
+/// assert_eq!((gains, changes), (Ok(Gains { first: 0, second: -7 }), [2, 0]));
+/// ```
+pub fn try_row(
+    rule: Rule,
+    market: &Market,
+    guest: u32,
+    worths: &[u32],
+    row: &[u32],
+    changes: &mut [u8],
+) -> Result<Gains, Refusal> {
+    let Market { asks, bays, amounts, tickets, bids, width } = *market;
+    let mut gains = Gains { first: 0, second: 0 };
+    let answer = slices::r#try(
+        rule.number(),
+        asks,
+        bays,
+        amounts,
+        tickets,
+        bids,
+        width,
+        guest,
+        worths,
+        row,
+        changes,
+        &mut gains.first,
+        &mut gains.second,
+    );
+    Refusal::check(answer).map(|()| gains)
 }
 
 /// Clears a market by a rule as [`clear`] does and posts it to the ledger as a round.

@@ -1,7 +1,7 @@
 //! The proved clearing engine for charging bays.
 //!
-//! [`Market`], [`Places`], [`Clearing`], [`Explanation`] and [`Ledger`] own their lists; the module [`lent`] has the same
-//! over slices that the caller lends, and [`c`] the functions of the C header.
+//! [`Market`], [`Places`], [`Clearing`], [`Explanation`], [`Tried`] and [`Ledger`] own their lists; the module [`lent`] has
+//! the same over slices that the caller lends, and [`c`] the functions of the C header.
 //!
 //! ```
 //! use bay_market::{Ledger, Market, Refusal, Rule};
@@ -29,15 +29,15 @@ mod refusal;
 #[rustfmt::skip] // pointer and length on one line
 mod slices;
 
-pub use decided::{Code, GuestOutcome, Reason};
-pub use owned::{Cell, Clearing, Explanation, Ledger, Market, Places};
+pub use decided::{Change, Code, GuestOutcome, Reason};
+pub use owned::{Cell, Clearing, Explanation, Ledger, Market, Places, Tried};
 pub use refusal::Refusal;
 
 pub const MAX_GUESTS: usize = 200;
 pub const MAX_STATIONS: usize = 40;
 /// Guests times stations.
 pub const MAX_BIDS: usize = MAX_GUESTS * MAX_STATIONS;
-/// Of an ask, a bid and a price in mills per kWh, and of a fall.
+/// Of an ask, a bid, a worth and a price in mills per kWh, and of a fall.
 pub const MAX_PRICE: u32 = 1_000_000;
 /// Of a guest's amount in kWh; the least is 1.
 pub const MAX_AMOUNT: u16 = 1_000;
@@ -52,13 +52,15 @@ pub const MAX_TEXT: usize = 93_482;
 /// Of an account in mills, and of a sum in kWh.
 pub const MAX_ACCOUNT: u64 = 1_000_000_000_000_000;
 pub const MAX_ROUND: u32 = u32::MAX;
-/// Bytes of stack that a call of the engine takes at most, but for that of [`lent::read_csv`].
+/// Bytes of stack that a call of the engine takes at most, but for those of [`lent::read_csv`] and [`lent::try_row`].
 pub const MAX_STACK: usize = 16_384;
 /// Bytes of stack that the engine takes at most to read a comma-separated market.
 pub const MAX_STACK_READ_CSV: usize = 40_960;
+/// Bytes of stack that the engine takes at most to try a row, with a copy of the bids.
+pub const MAX_STACK_TRY: usize = 45_056;
 
-/// The rule of a clearing, an explanation or a posting: the position of the cut, from 1, among the m asks in rising
-/// order.
+/// The rule of a clearing, an explanation, a tried row or a posting: the position of the cut, from 1, among the m asks in
+/// rising order.
 #[derive(Clone, Copy, Debug, PartialEq, Eq, Hash)]
 #[repr(u8)]
 pub enum Rule {

@@ -1,6 +1,6 @@
 //! The engine over lists of its own.
 
-use crate::{Code, GuestOutcome, MAX_BIDS, MAX_GUESTS, MAX_SHEET, MAX_STATIONS, Refusal, Rule, StationAccount, lent};
+use crate::{Change, Code, GuestOutcome, MAX_BIDS, MAX_GUESTS, MAX_SHEET, MAX_STATIONS, Refusal, Rule, StationAccount, lent};
 
 /// A market: n amounts and tickets, m asks, m bays, and n times m bids, guest after guest (0: no bid).
 #[derive(Clone, Debug, Default, PartialEq, Eq)]
@@ -46,6 +46,15 @@ pub struct Clearing {
 pub struct Explanation {
     pub codes: Vec<Code>,
     pub outcomes: Vec<GuestOutcome>,
+}
+
+/// What another row of a guest would have done: its gains by its bids in the market and by the other row, in mills, negative
+/// where it would pay more than its station is worth to it; and a change for each guest, none for the guest itself.
+#[derive(Clone, Debug, PartialEq, Eq)]
+pub struct Tried {
+    pub first_gain: i64,
+    pub second_gain: i64,
+    pub changes: Vec<Change>,
 }
 
 /// The ledger (document 01: the book).
@@ -242,6 +251,31 @@ impl Market {
         })
     }
 
+    /// Tells what another row of bids would have done, in truthful rounds by a rule. The guest is named by its number, from
+    /// 1; `worths` are what a kWh at each station is worth to it. Where its bids in the market are its worths, the second
+    /// gain is never the larger.
+    ///
+    /// ```
+    /// use bay_market::{Change, Market, Refusal, Rule};
+    ///
+    /// // a kWh at station 1 is worth 10 to guest 2, which bids so, and is outbid; by 14 it has the bay for 27, and loses 7
+    /// let (amounts, tickets) = (vec![3, 2], vec![1, 2]);
+    /// let market = Market { asks: vec![2, 6], bays: vec![1, 1], amounts, tickets, bids: vec![9, 0, 10, 0] };
+    /// let tried = market.try_row(Rule::Median, 2, &[10, 0], &[14, 0])?;
+    /// assert_eq!((tried.first_gain, tried.second_gain), (0, -7));
+    /// assert_eq!(tried.changes, [Change::BecomesUnseated, Change::Unchanged]);
+    /// assert_eq!(market.try_row(Rule::Median, 3, &[10, 0], &[14, 0]), Err(Refusal::NoSuchGuest));
+    /// # Ok::<(), Refusal>(())
+    /// ```
+    pub fn try_row(&self, rule: Rule, guest: u32, worths: &[u32], row: &[u32]) -> Result<Tried, Refusal> {
+        let (n, _) = within_limits(self.amounts.len(), self.asks.len());
+        let mut changes = vec![0; n];
+        let gains = lent::try_row(rule, &self.lend(), guest, worths, row, &mut changes)?;
+        let change = |number| Change::from_number(number).unwrap_or_else(|| unreachable!("the engine gave change {number}"));
+        let changes = changes.into_iter().map(change).collect();
+        Ok(Tried { first_gain: gains.first, second_gain: gains.second, changes })
+    }
+
     pub fn lend(&self) -> lent::Market<'_> {
         lent::Market {
             asks: &self.asks,
@@ -324,7 +358,7 @@ impl Ledger {
 #[cfg(test)]
 mod tests {
     use super::*;
-    use crate::MAX_TEXT;
+    use crate::{MAX_PRICE, MAX_TEXT};
 
     const SHEET_E: [u8; 38] = [
         2, 0, 2, 0, 2, 0, 0, 0, 1, 0, 6, 0, 0, 0, 1, 0, //
@@ -417,6 +451,30 @@ mod tests {
     }
 
     #[test]
+    fn tries_rows_of_case_g() {
+        let case_g = Market { amounts: vec![3, 2], bids: vec![9, 0, 10, 0], ..case_e() };
+        let tried = |guest, worths: &[u32], row: &[u32]| {
+            let tried = case_g.try_row(Rule::Median, guest, worths, row)?;
+            Ok((tried.first_gain, tried.second_gain, tried.changes.into_iter().map(Change::number).collect()))
+        };
+        assert_eq!(tried(2, &[10, 0], &[14, 0]), Ok((0, -7, vec![2, 0])));
+        assert_eq!(tried(1, &[9, 0], &[0, 0]), Ok((7, 0, vec![0, 1])));
+        assert_eq!(tried(1, &[0, MAX_PRICE], &[MAX_PRICE; 2]), Ok((-20, -20, vec![0, 0])));
+        assert_eq!(tried(0, &[9, 0], &[0, 0]), Err(Refusal::NoSuchGuest));
+        assert_eq!(tried(3, &[9], &[0, 0]), Err(Refusal::NoSuchGuest));
+        assert_eq!(tried(2, &[9], &[0, 0]), Err(Refusal::LengthsDiffer));
+        assert_eq!(tried(2, &[9, 0], &[0, 0, 0]), Err(Refusal::LengthsDiffer));
+        assert_eq!(tried(2, &[9, MAX_PRICE + 1], &[0, 0]), Err(Refusal::BidOutOfRange));
+        assert_eq!(tried(2, &[9, 0], &[MAX_PRICE + 1, 0]), Err(Refusal::BidOutOfRange));
+        let mut changes = [77; 3];
+        for wrong in [1, 3] {
+            let answer = lent::try_row(Rule::Median, &case_g.lend(), 2, &[9, 0], &[0, 0], &mut changes[..wrong]);
+            assert_eq!(answer, Err(Refusal::LentLengths));
+        }
+        assert_eq!(changes, [77; 3]);
+    }
+
+    #[test]
     fn writes_case_e() {
         assert_eq!(case_e().to_sheet(), Ok(SHEET_E.into()));
         assert_eq!(Market { asks: vec![2, 1_000_001], ..case_e() }.to_sheet(), Err(Refusal::AskOutOfRange));
@@ -467,6 +525,10 @@ mod tests {
         assert_eq!(Market { asks: vec![1; 41], ..case_e() }.explain(Rule::Median), Err(Refusal::CountsOutOfRange));
         assert_eq!(Market { bays: vec![1], ..case_e() }.explain(Rule::Median), Err(Refusal::LengthsDiffer));
         assert_eq!(Market { tickets: vec![4, 4], ..case_e() }.explain(Rule::Median), Err(Refusal::TicketsRepeat));
+        let tried = |market: &Market| market.try_row(Rule::Median, 0, &[], &[]);
+        assert_eq!(tried(&Market::default()), Err(Refusal::CountsOutOfRange));
+        assert_eq!(tried(&Market { amounts: vec![1; 201], ..case_e() }), Err(Refusal::CountsOutOfRange));
+        assert_eq!(tried(&Market { tickets: vec![4, 4], ..case_e() }), Err(Refusal::TicketsRepeat));
     }
 
     fn cells<const N: usize>(cells: [(u16, u16); N]) -> Vec<Cell> {

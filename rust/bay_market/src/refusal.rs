@@ -50,11 +50,13 @@ pub enum Refusal {
     MalformedText = 22,
     /// a field has more than ten digits, or does not fit its table
     FieldTooLarge = 23,
+    /// the guest's number is 0 or above the market's guests
+    NoSuchGuest = 24,
 }
 
 impl Refusal {
     /// All refusals, by rising number.
-    pub const ALL: [Refusal; 23] = [
+    pub const ALL: [Refusal; 24] = [
         Refusal::SheetEnds,
         Refusal::CountsOutOfRange,
         Refusal::StrayBit,
@@ -78,6 +80,7 @@ impl Refusal {
         Refusal::TicketInBoth,
         Refusal::MalformedText,
         Refusal::FieldTooLarge,
+        Refusal::NoSuchGuest,
     ];
 
     /// What the refusal says.
@@ -106,6 +109,7 @@ impl Refusal {
             Refusal::TicketInBoth => "a ticket is in both markets",
             Refusal::MalformedText => "a byte of the text, or its end, stands where it may not",
             Refusal::FieldTooLarge => "a field has more than ten digits, or does not fit its table",
+            Refusal::NoSuchGuest => "the guest's number is 0 or above the market's guests",
         }
     }
 }

@@ -251,6 +251,38 @@ pub(crate) fn read_csv(
     }
 }
 
+pub(crate) fn r#try(
+    rule: u8,
+    asks: &[u32],
+    bays: &[u16],
+    amounts: &[u16],
+    tickets: &[u32],
+    bids: &[u32],
+    width: usize, guest: u32,
+    worths: &[u32],
+    row: &[u32],
+    changes: &mut [u8],
+    first_gain: &mut i64, second_gain: &mut i64,
+) -> u8 {
+    // SAFETY: every pointer and length is that of a live slice or number, and borrows keep
+    // the written ones apart.
+    unsafe {
+        c::bay_market_try(
+            rule,
+            asks.as_ptr(), asks.len(),
+            bays.as_ptr(), bays.len(),
+            amounts.as_ptr(), amounts.len(),
+            tickets.as_ptr(), tickets.len(),
+            bids.as_ptr(), bids.len(),
+            width, guest,
+            worths.as_ptr(), worths.len(),
+            row.as_ptr(), row.len(),
+            changes.as_mut_ptr(), changes.len(),
+            first_gain, second_gain,
+        )
+    }
+}
+
 pub(crate) fn write(
     asks: &[u32],
     bays: &[u16],

@@ -3,10 +3,11 @@
 mod baseline;
 
 use baseline::Scratch;
-use bay_market::lent::{self, Cleared, Counts, Explanation, Joined, Results, Tables};
+use bay_market::lent::{self, Cleared, Counts, Explanation, Gains, Joined, Results, Tables};
 use bay_market::{Ledger, MAX_BIDS, MAX_GUESTS, MAX_SHEET, MAX_STATIONS, Rule, StationAccount};
 use reference::clearing::{self, Outcome};
 use reference::market::Market;
+use reference::other_rows::{self, OtherRow};
 use reference::places::{self, Places};
 use reference::random::{self, Random, Shape, Spread};
 use reference::{csv, explaining, gates, ledger, sheet};
@@ -521,6 +522,67 @@ fn joinings(random: &mut Random) {
     }
 }
 
+type TryRow = fn(&mut Scratch, &lent::Market, &OtherRow, &mut [u8]) -> Result<Gains, u8>;
+
+const TRIALS: [TryRow; 2] = [
+    |_, market, OtherRow { guest, worths, row }, changes| {
+        lent::try_row(Rule::Median, market, *guest, worths, row, changes).map_err(|refusal| refusal.number())
+    },
+    |scratch, market, OtherRow { guest, worths, row }, changes| {
+        baseline::try_row(scratch, Rule::Median, market, *guest, worths, row, changes)
+    },
+];
+
+/// A guest of a market, whose bids are its worths, with a row of the same range.
+fn another_row(random: &mut Random, market: &Market) -> OtherRow {
+    let (place, m) = (random.below(market.guests()), market.stations());
+    let row = (0..m).map(|_| random.within(0..=1_000_000) as u32).collect();
+    OtherRow { guest: place as u32 + 1, worths: market.bids[place * m..(place + 1) * m].to_vec(), row }
+}
+
+/// Times the engine against a baseline that checks once and clears twice, and against the plain clearing with `select`.
+fn trials(random: &mut Random) {
+    print_head("trying a row", &["select twice", "select, one clearing"]);
+    for (name, shape) in [
+        ("200 by 40, bays 1 to 200", full()),
+        ("200 by 40, bays 1 to 10", Shape { bays: 1..=10, ..full() }),
+        ("100 by 10, bays 1 to 10", Shape { guests: 100..=100, stations: 10..=10, bays: 1..=10, ..full() }),
+        ("200 by 40, bays 1 to 200, random tickets", Shape { tickets: random::mixed, ..full() }),
+    ] {
+        let mut input = || {
+            let market = shape.market(random);
+            let other = another_row(random, &market);
+            (market, other)
+        };
+        let inputs: Vec<(Market, OtherRow)> = (0..MARKETS).map(|_| input()).collect();
+        let n = inputs[0].0.guests();
+        let mut working = TRIALS.map(|_| (Scratch::new(), vec![77; n], Gains { first: 77, second: 77 }));
+        let (mut scratch, mut lists) = (Scratch::new(), Lists::new(&inputs[0].0));
+        type Working = (Box<Scratch>, Vec<u8>, Gains);
+        let run = |try_row: TryRow, (market, other): &(Market, OtherRow), (scratch, changes, gains): &mut Working| {
+            *gains = black_box(try_row(scratch, &lend(market), other, changes)).expect("a row that is tried");
+        };
+        for input in &inputs {
+            let expected = other_rows::try_row(1, &input.0, &input.1, n).expect("a row that is tried");
+            for (try_row, working) in TRIALS.iter().zip(&mut working) {
+                run(*try_row, input, working);
+                let gains = (i128::from(working.2.first), i128::from(working.2.second));
+                let same = gains == (expected.first_gain, expected.second_gain) && working.1 == expected.changes;
+                assert!(same, "a contender differs from the reference");
+            }
+        }
+        let [engine, twice] = &mut working;
+        let mut once = |(market, _): &(Market, OtherRow)| {
+            black_box(TRUTHFUL[1](&mut scratch, Rule::Median, &lend(market), &mut lists.lend())).expect("an accepted market");
+        };
+        let medians = medians(
+            &inputs,
+            &mut [&mut |input| run(TRIALS[0], input, engine), &mut |input| run(TRIALS[1], input, twice), &mut once],
+        );
+        print_row(name, &medians);
+    }
+}
+
 /// The first half of a market's guests, and the second.
 fn halves(market: &Market) -> (Market, Market) {
     let (half, m) = (market.guests() / 2, market.stations());
@@ -545,4 +607,5 @@ fn main() {
     placings(&mut random);
     joinings(&mut random);
     csv_readings(&mut random);
+    trials(&mut random);
 }

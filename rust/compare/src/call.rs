@@ -4,15 +4,18 @@
 use crate::lent::Lent;
 use bay_market::c::{
     bay_market_clear, bay_market_clear_efficient, bay_market_explain, bay_market_join, bay_market_place_bids, bay_market_post,
-    bay_market_read, bay_market_read_csv, bay_market_write,
+    bay_market_read, bay_market_read_csv, bay_market_try, bay_market_write,
 };
-use bay_market::{Cell, Code, MAX_BIDS, MAX_GUESTS, MAX_SHEET, MAX_STATIONS, Reason, Refusal, Rule, StationAccount, lent};
+use bay_market::{
+    Cell, Change, Code, MAX_BIDS, MAX_GUESTS, MAX_SHEET, MAX_STATIONS, Reason, Refusal, Rule, StationAccount, lent,
+};
 use reference::clearing::{self, Outcome};
 use reference::explaining::{Explanation, GuestOutcome};
 use reference::faults::{ExplanationLengths, ListLengths, OUTPUT_TOO_SHORT};
 use reference::gates::joined_lengths;
 use reference::ledger::Ledger;
 use reference::market::Market;
+use reference::other_rows::{OtherRow, Tried};
 use reference::places::Places;
 use reference::random::Random;
 use reference::sheet::{GREATEST, TableLengths};
@@ -719,6 +722,127 @@ fn tell_by(way: Way, rule: Rule, market: &Market) -> Result<Told, String> {
     Ok(told)
 }
 
+/// What trying a row is lent: the number of a rule, a market, the other row, and a list of changes of this length.
+#[derive(Clone, Copy)]
+pub struct Trying<'a> {
+    pub rule: u8,
+    pub market: &'a Market,
+    pub other: &'a OtherRow,
+    pub changes: usize,
+}
+
+/// Tries a row and holds answer and memory to what is expected.
+pub fn try_row(random: &mut Random, trying: Trying, expected: &Result<Tried, u8>) -> Result<(), String> {
+    let Trying { rule, market, other, changes } = trying;
+    each_way(|way| match (way, Rule::from_number(rule)) {
+        (Way::C, _) | (Way::Slices, Some(_)) => try_lent(way, random, trying, expected),
+        (_, None) => Ok(()), // the types do not let it happen
+        (Way::Owned, _) if market.width != market.stations() || changes != market.guests() => Ok(()),
+        (Way::Owned, Some(rule)) => {
+            let tried = own(market).try_row(rule, other.guest, &other.worths, &other.row).map_err(Refusal::number);
+            let expected = expected.as_ref().map(own_tried).map_err(|&number| number);
+            require(tried == expected, "the owned answer differs")
+        }
+    })
+}
+
+#[rustfmt::skip] // pointer and length on one line
+fn try_lent(way: Way, random: &mut Random, trying: Trying, expected: &Result<Tried, u8>) -> Result<(), String> {
+    let Trying { rule, market, other, changes } = trying;
+    let mut tables = Tables::of(random, market);
+    let mut worths: Lent<u32> = Lent::holding(random, &other.worths);
+    let mut row: Lent<u32> = Lent::holding(random, &other.row);
+    let mut changes: Lent<u8> = Lent::noise(random, changes);
+    let mut first: Lent<i64> = Lent::noise(random, 1);
+    let mut second: Lent<i64> = Lent::noise(random, 1);
+    let answer = match way {
+        // SAFETY: as in `read_lent`.
+        Way::C => unsafe {
+            bay_market_try(
+                rule,
+                tables.asks.pointer(), tables.asks.len(),
+                tables.bays.pointer(), tables.bays.len(),
+                tables.amounts.pointer(), tables.amounts.len(),
+                tables.tickets.pointer(), tables.tickets.len(),
+                tables.bids.pointer(), tables.bids.len(),
+                market.width, other.guest,
+                worths.pointer(), worths.len(),
+                row.pointer(), row.len(),
+                changes.pointer(), changes.len(),
+                first.pointer(), second.pointer(),
+            )
+        },
+        _ => {
+            let tables = tables.lend(market.width);
+            let gains = lent::try_row(known(rule), &tables, other.guest, worths.slice(), row.slice(), changes.slice());
+            numbered(gains, |gains| {
+                *first.number() = gains.first;
+                *second.number() = gains.second;
+            })
+        }
+    };
+    require_answer(answer, expected)?;
+    require(tables.untouched() && worths.untouched() && row.untouched(), "the market, worths or row were written")?;
+    let Ok(tried) = expected else {
+        return require(changes.untouched() && first.untouched() && second.untouched(), "a refused call wrote");
+    };
+    require(first.holds([signed(tried.first_gain)]), "the first gain differs")?;
+    require(second.holds([signed(tried.second_gain)]), "the second gain differs")?;
+    require(changes.holds(tried.changes.iter().copied()), "changes differ")
+}
+
+/// What the engine tells of another row, as numbers.
+#[derive(Clone, Debug)]
+pub struct RowTold {
+    pub gains: [i64; 2],
+    pub changes: Vec<u8>,
+}
+
+/// What the engine tells of another row of an accepted market, by each way, held to something.
+pub fn tell_row(
+    rule: Rule,
+    market: &Market,
+    other: &OtherRow,
+    hold: impl Fn(&RowTold) -> Result<(), String>,
+) -> Result<(), String> {
+    each_way(|way| hold(&tell_row_by(way, rule, market, other)?))
+}
+
+#[rustfmt::skip] // pointer and length on one line
+fn tell_row_by(way: Way, rule: Rule, market: &Market, other: &OtherRow) -> Result<RowTold, String> {
+    let mut told = RowTold { gains: [77; 2], changes: vec![77; market.guests()] };
+    let [first, second] = &mut told.gains;
+    let answer = match way {
+        // SAFETY: each pointer and length is that of a vector or a number.
+        Way::C => unsafe {
+            bay_market_try(
+                rule.number(),
+                market.asks.as_ptr(), market.asks.len(),
+                market.bays.as_ptr(), market.bays.len(),
+                market.amounts.as_ptr(), market.amounts.len(),
+                market.tickets.as_ptr(), market.tickets.len(),
+                market.bids.as_ptr(), market.bids.len(),
+                market.width, other.guest,
+                other.worths.as_ptr(), other.worths.len(),
+                other.row.as_ptr(), other.row.len(),
+                told.changes.as_mut_ptr(), told.changes.len(),
+                first, second,
+            )
+        },
+        Way::Slices => {
+            let market = own(market);
+            let gains = lent::try_row(rule, &market.lend(), other.guest, &other.worths, &other.row, &mut told.changes);
+            numbered(gains, |gains| told.gains = [gains.first, gains.second])
+        }
+        Way::Owned => numbered(own(market).try_row(rule, other.guest, &other.worths, &other.row), |tried| {
+            told.gains = [tried.first_gain, tried.second_gain];
+            told.changes = tried.changes.into_iter().map(Change::number).collect();
+        }),
+    };
+    require_answer::<()>(answer, &Ok(()))?;
+    Ok(told)
+}
+
 /// A posting to a ledger as it is before, and the ledger as it is to be after.
 pub struct Posting<'a> {
     pub rule: u8,
@@ -840,6 +964,15 @@ fn own_explanation(explanation: &Explanation) -> bay_market::Explanation {
     }
 }
 
+fn own_tried(tried: &Tried) -> bay_market::Tried {
+    let change = |&number: &u8| Change::from_number(number).expect("a change");
+    bay_market::Tried {
+        first_gain: signed(tried.first_gain),
+        second_gain: signed(tried.second_gain),
+        changes: tried.changes.iter().map(change).collect(),
+    }
+}
+
 fn own_ledger(ledger: &Ledger) -> bay_market::Ledger {
     bay_market::Ledger {
         guests: guest_accounts(ledger),
@@ -852,6 +985,11 @@ fn own_ledger(ledger: &Ledger) -> bay_market::Ledger {
 /// A number of the reference at the engine's width.
 fn narrow<T: TryFrom<u128>>(number: u128) -> T {
     T::try_from(number).ok().expect("the reference is beyond the engine's width")
+}
+
+/// A signed number of the reference at the engine's width.
+fn signed(number: i128) -> i64 {
+    i64::try_from(number).expect("the reference is beyond the engine's width")
 }
 
 #[cfg(test)]

@@ -33,6 +33,12 @@ impl Noise for u64 {
     }
 }
 
+impl Noise for i64 {
+    fn noise(random: &mut Random) -> i64 {
+        random.bits() as i64
+    }
+}
+
 impl Noise for usize {
     fn noise(random: &mut Random) -> usize {
         random.bits() as usize

@@ -1,10 +1,10 @@
 //! Runs the static library and the clearing program against the reference on seeded random cases:
 //! `compare [SEED [PART [WAY]]]`, where a part is read, write, trip (sheets read, written, read and written again),
 //! read_csv, csv_trip (comma-separated markets read, and cleared as their tables are), place_bids, join, clear,
-//! clear_efficient, explain, facts (what is told against the clearing), post, gates (a search for a place that joining gives
-//! or a charge that it lowers), truth (a search for false reports that pay), truth_efficient, print
-//! or print_csv, and the first twelve are called by all ways or by one: c, slices or owned. A failing case prints itself and
-//! ends the run with 1; wrong use ends it with 2.
+//! clear_efficient, explain, facts (what is told against the clearing), try, rows (what another row does, against the
+//! clearings and codes of both markets), post, gates (a search for a place that joining gives or a charge that it lowers),
+//! truth (a search for false reports that pay), truth_efficient, print or print_csv, and the first fourteen are called by
+//! all ways or by one: c, slices or owned. A failing case prints itself and ends the run with 1; wrong use ends it with 2.
 
 mod call;
 mod clearing;
@@ -18,6 +18,7 @@ mod posting;
 mod printing;
 mod reading;
 mod truth;
+mod trying;
 mod writing;
 
 use call::{WAYS, Way};
@@ -53,7 +54,7 @@ struct Part {
     cases: usize,
 }
 
-const PARTS: [Part; 17] = [
+const PARTS: [Part; 19] = [
     Part { name: "read", run: reading::run, cases: 6_000 },
     Part { name: "write", run: writing::run, cases: 12_000 },
     Part { name: "trip", run: reading::run_trips, cases: 6_000 },
@@ -65,6 +66,8 @@ const PARTS: [Part; 17] = [
     Part { name: "clear_efficient", run: clearing::run_efficient, cases: 20_000 },
     Part { name: "explain", run: explaining::run, cases: 20_000 },
     Part { name: "facts", run: explaining::run_facts, cases: 10_000 },
+    Part { name: "try", run: trying::run, cases: 16_000 },
+    Part { name: "rows", run: trying::run_facts, cases: 20_000 },
     Part { name: "post", run: posting::run, cases: 4_000 },
     Part { name: "gates", run: joining::run_places, cases: 30_000 },
     Part { name: "truth", run: truth::run_truthful, cases: 3_000 },

@@ -1,4 +1,4 @@
-//! The C header agrees with the Rust crate: the account's fields, limits, version. scripts/exports writes the functions of
+//! The C header agrees with the Rust crate: the account's fields, codes, changes, limits, version. scripts/exports writes the functions of
 //! both.
 
 use std::collections::BTreeMap;
@@ -30,21 +30,38 @@ fn the_account_agrees() {
     assert_eq!(size_of::<bay_market::StationAccount>(), 16);
 }
 
+/// The names and numbers of an enum of the header.
+fn numbers(named: &str) -> Vec<(String, u8)> {
+    let (_, rest) = HEADER.split_once(&format!("enum {named} {{")).expect("the enum");
+    let (numbers, _) = rest.split_once('}').expect("its end");
+    bare(numbers)
+        .split(',')
+        .filter_map(|number| number.trim().strip_prefix("BAY_MARKET_")?.split_once(" = "))
+        .map(|(name, number)| (name.to_string(), number.parse().expect("a number")))
+        .collect()
+}
+
+#[test]
+fn the_changes_agree() {
+    use bay_market::Change;
+    let named = [
+        ("UNCHANGED", Change::Unchanged),
+        ("BECOMES_SEATED", Change::BecomesSeated),
+        ("BECOMES_UNSEATED", Change::BecomesUnseated),
+    ];
+    let expected = named.map(|(name, change)| (name.to_string(), change.number()));
+    assert_eq!(numbers("bay_market_change"), expected);
+}
+
 #[test]
 fn the_codes_agree() {
-    let (_, rest) = HEADER.split_once("enum bay_market_code {").expect("the codes");
-    let (codes, _) = rest.split_once('}').expect("their end");
-    let codes = bare(codes);
-    let codes: Vec<(&str, u8)> = codes
-        .split(',')
-        .filter_map(|code| code.trim().strip_prefix("BAY_MARKET_")?.split_once(" = "))
-        .map(|(name, number)| (name, number.parse().expect("a number")))
-        .collect();
+    let codes = numbers("bay_market_code");
     use bay_market::{Code, Reason};
     let reasons =
         [("NO_BID", Reason::NoBid), ("NOT_OPEN", Reason::NotOpen), ("BELOW_CUT", Reason::BelowCut), ("OUTBID", Reason::Outbid)];
-    let named = |(name, reason)| (name, Code::NotHeld(reason).number());
-    let expected: Vec<(&str, u8)> = [("HELD", Code::Held.number())].into_iter().chain(reasons.map(named)).collect();
+    let named = |(name, reason): (&str, Reason)| (name.to_string(), Code::NotHeld(reason).number());
+    let held = [("HELD".to_string(), Code::Held.number())];
+    let expected: Vec<(String, u8)> = held.into_iter().chain(reasons.map(named)).collect();
     assert_eq!(codes, expected);
     for (name, reason) in reasons {
         let text = format!("case BAY_MARKET_{name}: return \"{}\";", reason.text());
@@ -80,6 +97,7 @@ fn limits_and_version_agree() {
         ("MAX_ROUND", bay_market::MAX_ROUND.into()),
         ("MAX_STACK", bay_market::MAX_STACK as u64),
         ("MAX_STACK_READ_CSV", bay_market::MAX_STACK_READ_CSV as u64),
+        ("MAX_STACK_TRY", bay_market::MAX_STACK_TRY as u64),
     ]);
     assert_eq!(limits, expected);
     let rules = [defined["RULE_MEDIAN"], defined["RULE_TWO_THIRDS"]].map(number);

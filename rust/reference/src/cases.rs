@@ -8,6 +8,7 @@ use crate::faults::{ExplanationLengths, ListLengths, clearing_fault, explaining_
 use crate::gates::{join, joining_fault};
 use crate::ledger::{Ledger, MAX_ACCOUNT, StationAccount};
 use crate::market::Market;
+use crate::other_rows::{OtherRow, Tried, try_row, trying_fault, with_row};
 use crate::places::{Cell, Places, place_bids, placing_fault, squared_distance, walk};
 use crate::report::Form;
 use crate::sheet::{GREATEST, TableLengths, read, shortest, stating, write};
@@ -599,6 +600,54 @@ fn joining_refuses_in_order() {
     assert_eq!(joining_fault(&first, &second, room(199, 1)), Err(10));
     assert_eq!(joining_fault(&first, &second, TableLengths { bids: 201, ..room(200, 1) }), Err(10));
     assert_eq!(joining_fault(&first, &second, room(200, 1)), Ok(()));
+}
+
+/// Another row at two stations, the worths first.
+fn other(guest: u32, worths: &[u32], row: &[u32]) -> OtherRow {
+    OtherRow { guest, worths: worths.to_vec(), row: row.to_vec() }
+}
+
+#[test]
+fn other_rows_of_case_g() {
+    let case_g = one_bay(&[2, 6], &[3, 2], &[9, 0, 10, 0]);
+    let tried = |first_gain, second_gain, changes: [u8; 2]| Ok(Tried { first_gain, second_gain, changes: changes.to_vec() });
+    let false_row = other(2, &[10, 0], &[14, 0]);
+    assert_eq!(try_row(1, &case_g, &false_row, 2), tried(0, -7, [2, 0]));
+    let with = with_row(&case_g, &false_row);
+    assert_eq!(with.bids, [9, 0, 14, 0]);
+    assert_eq!(try_row(1, &with, &other(2, &[10, 0], &[10, 0]), 2), tried(-7, 0, [1, 0]));
+    assert_eq!(try_row(1, &case_g, &other(1, &[9, 0], &[0, 0]), 2), tried(7, 0, [0, 1]));
+    // a guest that moves to another station is no change
+    let two = one_bay(&[1, 1, 6, 6], &[1, 1], &[8, 0, 0, 0, 7, 7, 0, 0]);
+    assert_eq!(try_row(1, &two, &other(1, &[8, 0, 0, 0], &[0; 4]), 2), tried(1, 0, [0, 0]));
+}
+
+#[test]
+fn trying_refuses_in_order() {
+    // every fault at once, mended one after the other
+    let mut market = Market::new(&[2, 1_000_001], &[1, 1], &[3, 2], &[1, 1], &[9, 0, 10, 0]);
+    let mut row = other(3, &[1_000_001], &[14, 0]);
+    assert_eq!(trying_fault(3, &market, &row, 1), Err(18));
+    assert_eq!(trying_fault(1, &market, &row, 1), Err(6));
+    market.asks[1] = 6;
+    assert_eq!(trying_fault(1, &market, &row, 1), Err(15));
+    market.tickets[1] = 2;
+    assert_eq!(trying_fault(1, &market, &row, 1), Err(24));
+    row.guest = 0;
+    assert_eq!(trying_fault(2, &market, &row, 1), Err(24));
+    row.guest = 2;
+    assert_eq!(trying_fault(1, &market, &row, 1), Err(5));
+    (row.worths, row.row) = (vec![1_000_001, 0], vec![14]);
+    assert_eq!(trying_fault(1, &market, &row, 1), Err(5));
+    row.row = vec![14, 1_000_001];
+    assert_eq!(trying_fault(1, &market, &row, 1), Err(10));
+    assert_eq!(trying_fault(1, &market, &row, 3), Err(10));
+    assert_eq!(trying_fault(1, &market, &row, 2), Err(9));
+    row.worths[0] = 1_000_000;
+    assert_eq!(trying_fault(1, &market, &row, 2), Err(9));
+    row.row[1] = 1_000_000;
+    assert_eq!(trying_fault(1, &market, &row, 2), Ok(()));
+    assert_eq!(trying_fault(1, &one_bay(&[2, 6], &[], &[]), &other(1, &[0, 0], &[0, 0]), 0), Err(24));
 }
 
 /// The answer to a text.

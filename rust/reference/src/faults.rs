@@ -1,5 +1,5 @@
 //! Document 01, 'Refusals by place', with document 02's: the rows of clearing and of explaining. Those of reading,
-//! writing, placing, joining and posting stand with these.
+//! writing, placing, joining, trying and posting stand with these.
 
 use crate::market::Market;
 
@@ -26,6 +26,7 @@ pub const STATIONS_DIFFER: u8 = 20;
 pub const TICKET_IN_BOTH: u8 = 21;
 pub const MALFORMED_TEXT: u8 = 22;
 pub const FIELD_TOO_LARGE: u8 = 23;
+pub const NO_SUCH_GUEST: u8 = 24;
 
 pub const MAX_GUESTS: usize = 200;
 pub const MAX_STATIONS: usize = 40;

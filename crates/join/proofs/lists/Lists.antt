@@ -1,22 +1,15 @@
--- Laws of the loops over lists: whether two differ, and a list that is written over a table.
-use Prim.Native.Nat.{ℕ, _+_, _≤_, _<_}
+-- Laws of the loops that look whether two lists differ.
+use Prim.Native.Nat.{ℕ, _≤_}
 use mathlib.Core.Bool.{Bool, true, not}
-use mathlib.Core.List.{List, _++_, append-nil}
-use mathlib.Core.Path.{_≡_, refl, sym, ap, ap₂, _∙_}
-use native.Mathlib.Nat.{zero-add, le-refl}
-use native.Mathlib.Numerals.{add-one}
-use native.Mathlib.Omega.{arith}
+use mathlib.Core.List.{List}
+use mathlib.Core.Path.{_≡_, refl, sym, _∙_}
 use lib.Dec.{eqb}
-use lib.ListN.{getD, length, drop, set}
-use lib.Seq.{paste, paste-zero, paste-suc, length-paste, take-length, drop-length}
+use lib.ListN.{getD, length}
 use Rattle.model.specs.Counting.{_=?_, some}
 use Rattle.model.specs.market.Gates.{differs}
 use Rattle.model.proofs.Tests.{or-left, or-skip, not-not, not-eq}
 use Rattle.model.proofs.Loops.{Folded, folded-end}
 use Rattle.model.proofs.market.Acceptance.{not-unequal}
-use Rattle.model.proofs.sheet.Joined.{paste-next}
-
--- ---- whether two differ
 
 pub unequal-is : (a b : ℕ) → not (eqb a b) ≡ not (a =? b)
 unfolding _=?_
@@ -31,56 +24,3 @@ pub differ-end :
     → Folded some (length xs) (λ k. not (getD xs k 0 =? getD ys k 0)) found i → length xs ≤ i → found ≡ differs xs ys
 unfolding differs
 differ-end xs ys e h l = folded-end h l ∙ sym (or-skip _ (not-unequal _ _ e))
-
--- ---- a list over the places from `at` on: its first i stand there
-
-pub record Pasting (from table₀ table : List ℕ) (at i : ℕ) : Type 0 where
-  pub within : i ≤ length from
-  pub room : at + length from ≤ length table₀
-  pub is : table ≡ paste table₀ at from i
-
-pub pasting-none : {from table : List ℕ} {at : ℕ} → at + length from ≤ length table → Pasting from table table at 0
-pasting-none {from} {table} {at} room =
-    record { within = omega arith; room = room; is = paste-zero table at from }
-
-module _ {from table₀ table : List ℕ} {at i : ℕ} (s : Pasting from table₀ table at i) where
-  pub pasting-same : length table ≡ length table₀
-  pasting-same =
-      ap length (s .is) ∙ length-paste table₀ at from i (omega (arith, s .within, s .room)) (s .within)
-
-  pub pasting-turn : i < length from → Pasting from table₀ (set table (at + i) (getD from i 0)) at (i + 1)
-  pasting-turn l = record {
-    within = omega arith;
-    room = s .room;
-    is = rw (s .is, add-one) (paste-suc table₀ at from i 0 (omega (arith, s .room)) l);
-  }
-
-  pub pasting-end : length from ≤ i → table ≡ paste table₀ at from (length from)
-  pasting-end l = let whole : i ≡ length from = omega (arith, s .within) in rw (← whole) (s .is)
-
--- ---- over a whole table
-
-front : (xs table : List ℕ) → paste table 0 xs (length xs) ≡ xs ++ drop (length xs) table
-front xs table = ap₂ _++_ (take-length xs) (ap (λ n. drop n table) (zero-add (length xs)))
-
-nothing-left : (xs table : List ℕ) (n : ℕ) → length table ≡ n → xs ++ drop n table ≡ xs
-nothing-left xs table n e = rw (← e) (ap (λ l. xs ++ l) (drop-length table) ∙ append-nil xs)
-
-module _ (xs table : List ℕ) where
-  pub front-long :
-      {table′ : List ℕ} → length xs ≤ length table → table′ ≡ paste table 0 xs (length xs)
-      → length table′ ≡ length table
-  front-long h e = ap length e ∙ length-paste table 0 xs (length xs) (omega arith) (le-refl (length xs))
-
-  -- a list as long as the table
-  pub whole-is : {table′ : List ℕ} → length table ≡ length xs → table′ ≡ paste table 0 xs (length xs) → table′ ≡ xs
-  whole-is long e = e ∙ front xs table ∙ nothing-left xs table (length xs) long
-
-  -- two as long together
-  pub both-are :
-      (ys : List ℕ) {table′ table″ : List ℕ} → length table ≡ length xs + length ys
-      → table′ ≡ paste table 0 xs (length xs) → table″ ≡ paste table′ (length xs) ys (length ys) → table″ ≡ xs ++ ys
-  both-are ys long e e′ =
-      e′ ∙ ap (λ l. paste l (length xs) ys (length ys)) (e ∙ front xs table)
-      ∙ paste-next xs table ys (length xs) (length ys) refl refl
-      ∙ nothing-left (xs ++ ys) table (length xs + length ys) long

@@ -1,7 +1,7 @@
 -- Each table is written by one call.
 use borrow.Author.Needs.{needs}
-use Rattle.join.proofs.Joins.{tables-are}
-use Rattle.join.proofs.lists.Lists.{whole-is}
+use Rattle.copies.proofs.Tables.{tables-are}
+use Rattle.copies.proofs.Pasting.{whole-is}
 use Rattle.join.proofs.put_together.Statement.{statement}
 use Rattle.join.proofs.put_together.Tie as tie
 

@@ -51,7 +51,7 @@ module _ {made : Rule → Tables → Outcome} (mechanism : Screened → Decision
   margin-is =
       sym (ap (λ p. p .1) (was-accepted (k .call) (k .cleared) .1)) ∙ ap (λ o. o .margin) (made-by (ruleOf rule) t)
 
-  station-of : (i : ℕ) → i < length (t .amounts) → getD (k .exit .stations) i 0 ≡ D .assigned i
+  pub station-of : (i : ℕ) → i < length (t .amounts) → getD (k .exit .stations) i 0 ≡ D .assigned i
   unfolding outcomeBy screened screen market marketBy
   station-of i l = ap (λ r. getD (r .stations) i 0) leaves ∙ getD-list _ _ i l
 
@@ -68,7 +68,7 @@ module _ {made : Rule → Tables → Outcome} (mechanism : Screened → Decision
   paid-of j l = ap (λ r. getD (r .paid) j 0) leaves ∙ getD-list _ _ j l
 
   -- the gains that the lists show are those of the definitions
-  guest-gain :
+  pub guest-gain :
       (w : ℕ → ℕ) (i : ℕ) → i < length (t .amounts)
       → guestGain (screened (ruleOf rule) t) D w i ≡ guestGainIn t (k .exit) w i
   unfolding guestGain guestGainIn obtained screened screen market marketBy
@@ -116,7 +116,7 @@ station-truthful-calls-by mechanism made-by truth rule t t′ k k′ j l A =
     (is-accepted mechanism made-by rule t′ k′) l A)
 
 -- `clear` clears by document 01's mechanism, `clear_efficient` by the efficient one
-by-truthful : (rule : Rule) (t : Tables) → outcome rule t ≡ outcomeBy (screened rule t) (truthful (screened rule t))
+pub by-truthful : (rule : Rule) (t : Tables) → outcome rule t ≡ outcomeBy (screened rule t) (truthful (screened rule t))
 unfolding outcome decision
 by-truthful rule t = refl
 

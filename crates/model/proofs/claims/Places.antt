@@ -2,14 +2,13 @@
 use Prim.Native.Nat.{ℕ, _+_, _*_, _≤_, _<_}
 use mathlib.Core.List.{List}
 use mathlib.Core.Path.{_≡_, refl, sym, ap, _∙_}
-use native.Mathlib.Nat.{mul-le-mul-left, div-add-mod', div-lt-iff-lt-mul, mod-lt, le-trans}
+use native.Mathlib.Nat.{mul-le-mul-left, le-trans}
 use native.Mathlib.Omega.{arith}
 use lib.ListN.{getD, length, replicate, length-replicate, getD-replicate}
 use Rattle.model.specs.Limits.{maxPrice}
 use Rattle.model.specs.Numbers.{answerOfVerdict}
 use Rattle.model.specs.Verdicts.{accepted}
-use Rattle.model.specs.market.Market.{Tables, tables, bidAt}
-use Rattle.model.specs.market.Faults.{Accepted}
+use Rattle.model.specs.market.Market.{bidAt}
 use Rattle.model.specs.places.Bids.{squaredDistance, bidBetween, Places, guestsPlaced, stationsPlaced}
 use Rattle.model.specs.places.Bids.{placedBid, placedBids}
 use Rattle.model.specs.contracts.EntryPoints.{placing}
@@ -19,8 +18,8 @@ use Rattle.model.specs.claims.Places.{PlacedWithinPrice, PlacedNearerNev
 use Rattle.model.specs.claims.Places.{PlacedMarketAccepted}
 use Rattle.model.specs.declared.answers.Verdict.the-variants as verdicts
 use Rattle.model.proofs.Promises.{keeps-accepted, was-accepted}
-use Rattle.model.proofs.market.Acceptance.{accepted-iff-within-limits}
-use Rattle.model.proofs.sheet.Joined.{joined-length, getD-joined}
+use Rattle.model.proofs.market.Acceptance.{exchanged}
+use Rattle.model.proofs.sheet.Joined.{joined-length, getD-joined, joined-most}
 use Rattle.model.proofs.places.Acceptance.{placing-accepted-iff-within-limits}
 use Rattle.model.proofs.places.Walks.{walk-mono}
 
@@ -28,32 +27,6 @@ pub nearer-never-lowers : NearerNeverLowers
 unfolding bidBetween
 nearer-never-lowers price fall guest station guest′ station′ l =
     omega (arith, mul-le-mul-left fall (walk-mono (squaredDistance guest station) (squaredDistance guest′ station′) l))
-
--- an accepted market with other bids, as many and within the limit, is accepted
-exchanged :
-    (t : Tables) (bids : List ℕ) → length bids ≡ length (t .bids)
-    → ((k : ℕ) → k < length bids → getD bids k 0 ≤ maxPrice) → Accepted t
-    → Accepted (tables (t .asks) (t .bays) (t .amounts) (t .tickets) bids (t .width))
-exchanged t bids long low a =
-    let w = accepted-iff-within-limits t .0 a in
-    accepted-iff-within-limits (tables (t .asks) (t .bays) (t .amounts) (t .tickets) bids (t .width)) .1 record {
-      shape = record {
-        guests-most = w .shape .guests-most;
-        stations-least = w .shape .stations-least;
-        stations-most = w .shape .stations-most;
-        bays-length = w .shape .bays-length;
-        tickets-length = w .shape .tickets-length;
-        bids-length = long ∙ w .shape .bids-length;
-        width-is = w .shape .width-is;
-      };
-      ask-most = w .ask-most;
-      bays-least = w .bays-least;
-      bays-most = w .bays-most;
-      amount-least = w .amount-least;
-      amount-most = w .amount-most;
-      tickets-differ = w .tickets-differ;
-      bid-most = low;
-    }
 
 -- ---- what an accepted call left
 
@@ -84,13 +57,11 @@ module _ (p : Places) (bids : List ℕ) (c : Placed p bids) where
   unfolding placedBid bidBetween
   within-price i j li lj = rw (bid-is i j li lj) (omega arith)
 
-  -- every place of the table is some guest's at some station
   bid-most : (k : ℕ) → k < length bids → getD bids k 0 ≤ maxPrice
+  unfolding placedBids
   bid-most k l =
-      let some : 0 < stationsPlaced p = limits .stations-least in
-      let inside : k < guestsPlaced p * stationsPlaced p = omega (arith, bids-long) in
-      let i = div-lt-iff-lt-mul some .1 inside in
-      rw (div-add-mod' k (stationsPlaced p)) at (le-trans (within-price _ _ i (mod-lt k some)) (limits .price-most _ i))
+      rw bids-are (joined-most (guestsPlaced p) (stationsPlaced p) (placedBid p) maxPrice (λ i j li lj.
+      le-trans (rw (bid-is i j li lj) at (within-price i j li lj)) (limits .price-most i li)) k (rw bids-are at l))
 
 -- ---- there is such a call
 

@@ -18,7 +18,8 @@ use Rattle.model.proofs.Counting.{length-list}
 use Rattle.model.proofs.Tests.{is-lt, only-yes}
 use Rattle.model.proofs.Verdicts.{giving-accepted}
 use Rattle.model.proofs.sheet.Joined.{getD-joined, joined-cong}
-use Rattle.model.proofs.sheet.Truth.{list-is, joined-is}
+use Rattle.model.proofs.sheet.Joined.{joined-is}
+use Rattle.model.proofs.sheet.Truth.{list-is}
 use Rattle.model.proofs.csv.Going.{GoodFields}
 use Rattle.model.proofs.csv.Lines.{Comes, lines-come}
 

@@ -3,7 +3,7 @@ use Prim.Native.Nat.{ℕ, _*_, _≤_, _<_}
 use mathlib.Core.Bool.{Bool, true, false, not, cond}
 use mathlib.Core.List.{List}
 use mathlib.Core.Logic.{inl, inr, ⊎-elim}
-use mathlib.Core.Path.{_≡_, refl, sym, ap}
+use mathlib.Core.Path.{_≡_, refl, sym, ap, _∙_}
 use native.Mathlib.Omega.{arith}
 use native.Mathlib.Nat.{mul-le-mul-right, eq-or-lt-of-le}
 use lib.ListN.{getD, length}
@@ -127,6 +127,32 @@ accept t w =
 
 pub accepted-iff-within-limits : AcceptedIffWithinLimits
 accepted-iff-within-limits t = (within t, accept t)
+
+-- an accepted market with other bids, as many and within the limit, is accepted
+pub exchanged :
+    (t : Tables) (bids : List ℕ) → length bids ≡ length (t .bids)
+    → ((k : ℕ) → k < length bids → getD bids k 0 ≤ maxPrice) → Accepted t
+    → Accepted (tables (t .asks) (t .bays) (t .amounts) (t .tickets) bids (t .width))
+exchanged t bids long low a =
+    let w = accepted-iff-within-limits t .0 a in
+    accepted-iff-within-limits (tables (t .asks) (t .bays) (t .amounts) (t .tickets) bids (t .width)) .1 record {
+      shape = record {
+        guests-most = w .shape .guests-most;
+        stations-least = w .shape .stations-least;
+        stations-most = w .shape .stations-most;
+        bays-length = w .shape .bays-length;
+        tickets-length = w .shape .tickets-length;
+        bids-length = long ∙ w .shape .bids-length;
+        width-is = w .shape .width-is;
+      };
+      ask-most = w .ask-most;
+      bays-least = w .bays-least;
+      bays-most = w .bays-most;
+      amount-least = w .amount-least;
+      amount-most = w .amount-most;
+      tickets-differ = w .tickets-differ;
+      bid-most = low;
+    }
 
 -- the row width is the number of stations
 pub width-of :

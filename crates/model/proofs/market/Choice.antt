@@ -81,6 +81,13 @@ best-none m h g e j l = ⊎-elim
     (λ p. p)
     (decide (h j))
 
+pub best-nothing : (m : ℕ) (h : ℕ → Bool) (g : ℕ → ℕ) → ((j : ℕ) → j < m → h j ≡ false) → best m h g ≡ 0
+best-nothing m h g none = go (best m h g) refl
+  where
+    go : (r : ℕ) → best m h g ≡ r → r ≡ 0
+    go zero e = refl
+    go (suc j) e = let (l, p) = best-holds m h g j e in absurd (clash p (none j l))
+
 -- it depends on what holds below m, and on the values of those
 pub best-cong :
     (m : ℕ) (h h′ : ℕ → Bool) (g g′ : ℕ → ℕ) → ((k : ℕ) → k < m → h k ≡ h′ k)

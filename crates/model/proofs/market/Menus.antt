@@ -76,16 +76,16 @@ rebid M b = record {
   key = M .key;
 }
 
--- at one station, where the others bid the same there: the menu says whether i wins, and its charge
-module _ (M : Market) (K : Keys (M .key) (M .guestCount)) (i : ℕ) (li : i < M .guestCount) (some : 1 ≤ M .amount i)
-    (b : ℕ → ℕ → ℕ) (j : ℕ) (bays : 1 ≤ M .bays j)
+-- at one station, where the others bid the same there: they are candidates with the same totals, so that i's bar and
+-- pivot stay
+module _ (M : Market) (i : ℕ) (b : ℕ → ℕ → ℕ) (j : ℕ)
     (alike : (k : ℕ) → k < M .guestCount → (k ≡ i → ⊥) → b k j ≡ M .bid k j) where
-  candidates-same :
+  pub candidates-same :
       (k : ℕ) → k < M .guestCount → (k ≡ i → ⊥) → (screen M) .candidate k j ≡ (screen (rebid M b)) .candidate k j
   unfolding screen cut opens
   candidates-same k lk n = ap (λ x. opens M j and cut M ≤? x) (sym (alike k lk n))
 
-  totals-same : (k : ℕ) → k < M .guestCount → (k ≡ i → ⊥) → (screen M) .total k j ≡ (screen (rebid M b)) .total k j
+  pub totals-same : (k : ℕ) → k < M .guestCount → (k ≡ i → ⊥) → (screen M) .total k j ≡ (screen (rebid M b)) .total k j
   unfolding screen
   totals-same k lk n = ap (λ x. x * M .amount k) (sym (alike k lk n))
 
@@ -97,6 +97,10 @@ module _ (M : Market) (K : Keys (M .key) (M .guestCount)) (i : ℕ) (li : i < M 
   unfolding queue screen
   pivots-same = pivot-same (queue (screen M) j) _ _ i candidates-same totals-same
 
+-- the menu says whether i wins there, and its charge
+module _ (M : Market) (K : Keys (M .key) (M .guestCount)) (i : ℕ) (li : i < M .guestCount) (some : 1 ≤ M .amount i)
+    (b : ℕ → ℕ → ℕ) (j : ℕ) (bays : 1 ≤ M .bays j)
+    (alike : (k : ℕ) → k < M .guestCount → (k ≡ i → ⊥) → b k j ≡ M .bid k j) where
   pub menu-provisional :
       provisional (queue (screen (rebid M b)) j) i
       ≡ ((menu M i) .offered j and (menu M i) .bar j ≤? b i j * M .amount i)
@@ -107,7 +111,7 @@ module _ (M : Market) (K : Keys (M .key) (M .guestCount)) (i : ℕ) (li : i < M 
       (is-le _ _ (omega (
         arith,
         mul-le-mul-right (M .amount i) (candidate-bid (rebid M b) i j c),
-        bars-same,
+        bars-same M i b j alike,
         provisional-bar (queue (screen (rebid M b)) j) K i li h,
       ))))
       (λ e.
@@ -117,14 +121,15 @@ module _ (M : Market) (K : Keys (M .key) (M .guestCount)) (i : ℕ) (li : i < M 
       (λ (q : b i j < cut M). absurd (omega (arith, mul-le-mul-right (M .amount i) q)))
       (λ (q : cut M ≤ b i j). q)
       (lt-or-le (b i j) (cut M)))))
-      bays (omega (arith, bars-same)))
+      bays (omega (arith, bars-same M i b j alike)))
 
   pub menu-charge :
       provisional (queue (screen (rebid M b)) j) i ≡ true
       → charge (screen (rebid M b)) (truthful (screen (rebid M b))) i j ≡ (menu M i) .price j
   unfolding menu charge truthful queue screen cut
   menu-charge h =
-      ap (max (cut M * M .amount i)) (critical-pivot (queue (screen (rebid M b)) j) K i li h ∙ sym pivots-same)
+      ap (max (cut M * M .amount i))
+      (critical-pivot (queue (screen (rebid M b)) j) K i li h ∙ sym (pivots-same M i b j alike))
 
 module _ (M : Market) (K : Keys (M .key) (M .guestCount)) (i : ℕ) (li : i < M .guestCount) (some : 1 ≤ M .amount i)
     (bays : (j : ℕ) → j < M .stationCount → 1 ≤ M .bays j)

@@ -82,6 +82,12 @@ rank-without-lt Q i k li ci e = count-strict (Q .guestCount) _ _
     (λ l ll p. both (second _ _ (first _ _ p)) (second _ _ p))
     i li (and-no _ _ (and-no _ _ (ap not (is-eq i i refl)))) (both ci e)
 
+pub rank-without-eq :
+    (Q : Queue) (i k : ℕ) → (Q .candidate i and before Q i k) ≡ false → rank Q k ≤ rank (without Q i) k
+unfolding rank without before
+rank-without-eq Q i k e = count-mono (Q .guestCount) _ _ (λ l ll p.
+    both (both (not-not (not-eq l i (λ q. clash p (rw q e)))) (first _ _ p)) (second _ _ p))
+
 pub left-out-other : (Q : Queue) (i k : ℕ) → left-out Q i k ≡ true → k ≡ i → ⊥
 unfolding left-out
 left-out-other Q i k e = without-other Q i k (first _ _ e)

@@ -233,7 +233,7 @@ module _ (Q : Queue) (D : Distinct Q) where
       (decide (before Q i k)))
       (λ b. is-provisional Q i c (omega (arith, rank-lt Q i k li c b))))
 
-  zero-if-none : count (Q .guestCount) (Q .candidate) ≤ Q .bays → critical Q ≡ 0
+  pub zero-if-none : count (Q .guestCount) (Q .candidate) ≤ Q .bays → critical Q ≡ 0
   unfolding critical
   zero-if-none h = le-antisymm (greatest-le (Q .guestCount) _ 0 (λ k lk. only-le _ _ _ (λ p.
       let r : Q .bays ≤ rank Q k = lt-no _ _ (not-true _ (second _ _ p)) in

@@ -1,11 +1,10 @@
 -- A sheet is read as a market exactly where it states that market.
-use Prim.Native.Nat.{ℕ, zero, suc, _+_, _*_, _/_, _%_, _^_, _<_, _≤_}
+use Prim.Native.Nat.{ℕ, zero, suc, _+_, _*_, _^_, _<_, _≤_}
 use mathlib.Core.Bool.{Bool, true, false}
 use mathlib.Core.List.{List}
 use mathlib.Core.Logic.{⊎-elim}
 use mathlib.Core.Path.{_≡_, refl, sym, ap, _∙_, subst}
-use native.Mathlib.Nat.{eq-or-lt-of-le, le-of-suc-le-suc, le-antisymm, div-add-mod', div-lt-iff-lt-mul}
-use native.Mathlib.Nat.{mod-lt}
+use native.Mathlib.Nat.{eq-or-lt-of-le, le-of-suc-le-suc, le-antisymm}
 use native.Mathlib.Omega.{arith}
 use lib.ListN.{length, getD}
 use lib.Seq.{ext-getD}
@@ -21,7 +20,7 @@ use Rattle.model.specs.sheet.Rows.{mapAt, bidsAt, nextAt, rowAt, askOf, 
 use Rattle.model.specs.sheet.Rows.{bidOf, rowsFaults}
 use Rattle.model.proofs.sheet.Rows.{bids-at, RowSound, row-either, rows-either, sound-at, all-sound, first-row}
 use Rattle.model.proofs.sheet.Fields.{number-low}
-use Rattle.model.proofs.sheet.Joined.{joined-length, getD-joined}
+use Rattle.model.proofs.sheet.Joined.{joined-length, getD-joined, joined-is}
 use Rattle.model.specs.sheet.Content.{guests, stations, tablesOf, sheetFaults, readSheet}
 use Rattle.model.proofs.sheet.Faults.{Headed, counts-good, bad-rows, whole, Sound, sheet-sound}
 use Rattle.model.specs.sheet.Layout.{layout, bidden, Fitting, States, Bytes, ReadsExactlyWhatIsStated}
@@ -35,14 +34,6 @@ pub list-is : (n : ℕ) (f : ℕ → ℕ) (l : List ℕ) → length l ≡ n → 
 list-is n f l e h =
     ext-getD 0 (list n f) l (length-list n f ∙ sym e)
     (λ k b. let c : k < n = omega (arith, length-list n f) in getD-list n f k c ∙ h k c)
-
-pub joined-is :
-    (n m : ℕ) (f : ℕ → ℕ → ℕ) (l : List ℕ) → 0 < m → length l ≡ n * m
-    → ((i j : ℕ) → i < n → j < m → f i j ≡ getD l (i * m + j) 0) → joined n (λ i. list m (f i)) ≡ l
-joined-is n m f l z e h = ext-getD 0 (joined n (λ i. list m (f i))) l (joined-length n m f ∙ sym e) (λ k b.
-    let i : k / m < n = div-lt-iff-lt-mul z .1 (omega (arith, joined-length n m f)) in
-    let j : k % m < m = mod-lt k z in
-    rw (div-add-mod' k m) at (getD-joined n m f (k / m) (k % m) i j ∙ h (k / m) (k % m) i j))
 
 only-low : (b : Bool) (x : ℕ) {y : ℕ} → x < y → only b x < y
 only-low b x h = omega (arith, only-le b x x (λ e. omega arith))

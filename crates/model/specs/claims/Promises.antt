@@ -7,7 +7,7 @@ use Rattle.model.specs.Counting.{_≤?_, _and_}
 use Rattle.model.specs.Promises.{Promise, Keeps, KeepsOut}
 use Rattle.model.specs.Verdicts.{Answer, accepted, refused, Row, _gives_, firstFault}
 use Rattle.model.specs.contracts.EntryPoints.{clearing, reading, readingCsv, writing, placing, explaining}
-use Rattle.model.specs.contracts.EntryPoints.{joining, entering}
+use Rattle.model.specs.contracts.EntryPoints.{joining, trying, entering}
 use Rattle.model.specs.market.Market.{Tables}
 use Rattle.model.specs.market.Outcome.{Results, Outcome}
 use Rattle.model.specs.market.Reasons.{Explanation}
@@ -78,4 +78,7 @@ pub record FaultsNumberedFromOne : Type 0 where
   pub of-explaining :
       (rule : ℕ) (t : Tables) (entry : Explanation) → numberedFromOne (explaining rule t entry .faults) ≡ true
   pub of-joining : (t u : Tables) (entry : LentTables) → numberedFromOne (joining t u entry .faults) ≡ true
+  pub of-trying :
+      (rule : ℕ) (t : Tables) (guest : ℕ) (worths row entry : List ℕ)
+      → numberedFromOne (trying rule t guest worths row entry .faults) ≡ true
   pub of-entering : (p : Posting) (entry : PlainBook) → numberedFromOne (entering p entry .faults) ≡ true

@@ -1,9 +1,11 @@
 -- What each entry point promises: faults, value, what it leaves, by what it is lent at entry (`Promise`). Its contract
 -- says that it keeps that, and the contract of its export is `KeepsOut` or `RepliesOut` of the same promise.
-use Prim.Native.Nat.{ℕ}
+use Prim.Native.Nat.{ℕ, _-_}
 use mathlib.Core.List.{List}
+use lib.IntN.{ℤ}
 use lib.ListN.{length}
 use Rattle.model.specs.Numbers.{answerOfReading, answerOfWriting, answerOfClearing, answerOfVerdict}
+use Rattle.model.specs.Numbers.{answerOfTrying}
 use Rattle.model.specs.Promises.{Promise, Keeps}
 use Rattle.model.specs.Verdicts.{Verdict}
 use Rattle.model.specs.market.Market.{Tables}
@@ -12,6 +14,7 @@ use Rattle.model.specs.market.Outcome.{Results, Outcome}
 use Rattle.model.specs.market.Reasons.{codes, outcomeLengths, guestOutcomes, Explanation, explanation}
 use Rattle.model.specs.market.Rules.{ruleOf}
 use Rattle.model.specs.market.Gates.{joiningFaults, joinedTables}
+use Rattle.model.specs.market.Changes.{changesWith, tryingFaults, bothGains}
 use Rattle.model.specs.sheet.Content.{guests, stations, tablesOf}
 use Rattle.model.specs.sheet.Lent.{LentTables, readingFaults, filled}
 use Rattle.model.specs.csv.Content.{guests as csvGuests, csvTables}
@@ -25,6 +28,7 @@ use Rattle.model.specs.book.Posting.{Posting}
 use Rattle.model.specs.declared.answers.Reading.{Reading}
 use Rattle.model.specs.declared.answers.Writing.{Writing}
 use Rattle.model.specs.declared.answers.Clearing.{Clearing}
+use Rattle.model.specs.declared.answers.Trying.{Trying}
 use Rattle.model.specs.declared.answers.Verdict.{Verdict as Coded}
 use Rattle.model.specs.declared.rule.Rule.{Rule}
 
@@ -108,6 +112,21 @@ joining t u entry = record { faults = joiningFaults t u entry; value = tt; leave
 
 abbrev pub Joins : (t u : Tables) (entry : LentTables) (answer : Coded) (exit : LentTables) → Type 0
 Joins t u entry answer exit = Keeps (joining t u) entry (answerOfVerdict answer) exit
+
+-- ---- `try_row`, of a guest that is named from 1 on: both gains
+
+unfoldable pub trying :
+    (rule : ℕ) (t : Tables) (guest : ℕ) (worths row : List ℕ) (entry : List ℕ) → Promise (ℤ × ℤ) (List ℕ)
+trying rule t guest worths row entry = record {
+  faults = tryingFaults rule t guest worths row (length entry);
+  value = bothGains (ruleOf rule) t guest worths row;
+  leaves = changesWith (ruleOf rule) t (guest - 1) row;
+}
+
+abbrev pub Tries : (rule : ℕ) (t : Tables) (guest : ℕ) (worths row : List ℕ) (entry : List ℕ) (answer : Trying)
+    (exit : List ℕ) → Type 0
+Tries rule t guest worths row entry answer exit =
+    Keeps (trying rule t guest worths row) entry (answerOfTrying answer) exit
 
 -- ---- `post`: no value; its book is held to the plain one
 
