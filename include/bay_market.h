@@ -38,11 +38,12 @@
 extern "C" {
 #endif
 
-#define BAY_MARKET_VERSION "0.4.4"
+#define BAY_MARKET_VERSION "0.5.0"
 
 /* Limits. Amounts and bays are at least 1, and so is the number of stations. */
 #define BAY_MARKET_MAX_GUESTS 200
 #define BAY_MARKET_MAX_STATIONS 40
+#define BAY_MARKET_MAX_DESKS 8                        /* that share a ledger; they are numbered from 0 */
 #define BAY_MARKET_MAX_BIDS 8000                      /* guests times stations */
 #define BAY_MARKET_MAX_PRICE 1000000                  /* of an ask, a bid, a worth, a price and a fall */
 #define BAY_MARKET_MAX_AMOUNT 1000
@@ -107,7 +108,7 @@ enum bay_market_refusal {
     BAY_MARKET_AMOUNT_OUT_OF_RANGE = 8,         /* an amount is 0 or above 1,000 */
     BAY_MARKET_BID_OUT_OF_RANGE = 9,            /* a bid is above 1,000,000 */
     BAY_MARKET_LENT_LENGTHS = 10,               /* a lent table or a result list has another length */
-    BAY_MARKET_ROUND_OUT_OF_TURN = 11,          /* the round is not the last one plus 1, or no round is left */
+    BAY_MARKET_ROUND_OUT_OF_TURN = 11,          /* the round is not the desk's last one plus 1, or no round is left */
     BAY_MARKET_ACCOUNT_OVER_LIMIT = 12,         /* an account is above 10^15, or would be */
     BAY_MARKET_BOOK_SIZE = 13,                  /* the ledger is beyond the limits, or smaller than the market */
     BAY_MARKET_OUTPUT_TOO_SHORT = 14,           /* the output is shorter than the sheet */
@@ -120,7 +121,8 @@ enum bay_market_refusal {
     BAY_MARKET_TICKET_IN_BOTH = 21,             /* a ticket is in both markets */
     BAY_MARKET_MALFORMED_TEXT = 22,             /* a byte of the text, or its end, stands where it may not */
     BAY_MARKET_FIELD_TOO_LARGE = 23,            /* a field has more than ten digits, or does not fit its table */
-    BAY_MARKET_NO_SUCH_GUEST = 24               /* the guest's number is 0 or above the market's guests */
+    BAY_MARKET_NO_SUCH_GUEST = 24,              /* the guest's number is 0 or above the market's guests */
+    BAY_MARKET_DESK_OUT_OF_RANGE = 25           /* the desk is none of the eight: its number is above 7 */
 };
 
 /* What an answer says. */
@@ -138,7 +140,7 @@ static inline const char *bay_market_refusal_text(uint8_t answer)
     case BAY_MARKET_AMOUNT_OUT_OF_RANGE: return "an amount is 0 or above 1,000";
     case BAY_MARKET_BID_OUT_OF_RANGE: return "a bid is above 1,000,000";
     case BAY_MARKET_LENT_LENGTHS: return "a lent table or a result list has another length";
-    case BAY_MARKET_ROUND_OUT_OF_TURN: return "the round is not the last one plus 1, or no round is left";
+    case BAY_MARKET_ROUND_OUT_OF_TURN: return "the round is not the desk's last one plus 1, or no round is left";
     case BAY_MARKET_ACCOUNT_OVER_LIMIT: return "an account is above 10^15, or would be";
     case BAY_MARKET_BOOK_SIZE: return "the ledger is beyond the limits, or smaller than the market";
     case BAY_MARKET_OUTPUT_TOO_SHORT: return "the output is shorter than the sheet";
@@ -152,6 +154,7 @@ static inline const char *bay_market_refusal_text(uint8_t answer)
     case BAY_MARKET_MALFORMED_TEXT: return "a byte of the text, or its end, stands where it may not";
     case BAY_MARKET_FIELD_TOO_LARGE: return "a field has more than ten digits, or does not fit its table";
     case BAY_MARKET_NO_SUCH_GUEST: return "the guest's number is 0 or above the market's guests";
+    case BAY_MARKET_DESK_OUT_OF_RANGE: return "the desk is none of the eight: its number is above 7";
     default: return "not an answer of the engine";
     }
 }
@@ -365,13 +368,15 @@ uint8_t bay_market_try(uint8_t rule,
 
 /*
  * Clears a market as bay_market_clear does, in a truthful round by the rule of that number, and posts it to the ledger
- * as the given round: charges to the guests' accounts, sales and payments to the stations', the margin to *house, the
- * round to *last. Accounts beyond the market's guests and stations stay. An empty ledger is all zeros; round 1 is
- * first.
+ * as the given round of a desk, 0 to 7: charges to the guests' accounts, sales and payments to the stations', the
+ * margin to *house, the round to last[desk]. The list last has each desk's last round, and is 8 long. Other desks'
+ * rounds stay, as do accounts beyond the market's guests and stations. An empty ledger is all zeros; each desk's
+ * round 1 is its first.
  *
  * Refusals in this order: 18, 2, 5, 6 to 9 and 15 as in clearing; 13 for a ledger over 200 guests or 40 stations
- * or smaller than the market; 11 where round is not *last + 1, and always after 4,294,967,295;
- * 12 where any account or kWh sum is above 10^15 before the posting or would be after it.
+ * or smaller than the market, or where last_len is not 8; 25 for a desk above 7; 11 where round is not last[desk] + 1,
+ * and always after 4,294,967,295; 12 where any account or kWh sum is above 10^15 before the posting or would be after
+ * it.
  */
 uint8_t bay_market_post(uint8_t rule,
                         const uint32_t *asks, size_t asks_len,
@@ -379,10 +384,11 @@ uint8_t bay_market_post(uint8_t rule,
                         const uint16_t *amounts, size_t amounts_len,
                         const uint32_t *tickets, size_t tickets_len,
                         const uint32_t *bids, size_t bids_len,
-                        size_t width, uint32_t round,
+                        size_t width, uint8_t desk, uint32_t round,
                         uint64_t *guests, size_t guests_len,
                         struct bay_market_station_account *stations, size_t stations_len,
-                        uint64_t *house, uint32_t *last);
+                        uint64_t *house,
+                        uint32_t *last, size_t last_len);
 
 #ifdef __cplusplus
 }

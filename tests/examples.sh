@@ -1,7 +1,7 @@
 #!/usr/bin/env bash
 # The examples in C and Rust. Two gates' sheets, joined, are cleared as the sheet of both; a gate joined with itself is
-# refused. A comma-separated market is written as its sheet; lines that end in LF alone are refused. Takes the folder with
-# the library.
+# refused. A comma-separated market is written as its sheet; lines that end in LF alone are refused. A round comes once
+# from a desk, and once more from another. Takes the folder with the library.
 set -euo pipefail
 cd -- "$(dirname -- "$(readlink -f -- "$0")")/.."
 
@@ -25,7 +25,7 @@ refuses() {
     grep -Eq "$pattern" "$work/err"
     [ ! -s "$work/out" ]
 }
-for name in two_gates csv_to_sheet; do
+for name in two_gates csv_to_sheet two_desks; do
     gcc -std=c11 -Wall -Wextra -Wpedantic -Wconversion -Werror -Iinclude "examples/$name.c" \
         "$libraries/libbay_market.a" -o "$work/$name"
 done
@@ -40,5 +40,19 @@ for language in "$work/" 'in_rust '; do
     ${language}csv_to_sheet examples/fleet.csv | cmp - examples/fleet.sheet
     # shellcheck disable=SC2086
     refuses 'stands where it may not|MalformedText' ${language}csv_to_sheet "$work/lines.csv"
+    # shellcheck disable=SC2086
+    ${language}two_desks | cmp - <(cat <<'END'
+desk 0 round 1: posted
+desk 0 round 1: refused 11: the round is not the desk's last one plus 1, or no round is left
+desk 1 round 1: posted
+guest 1 owes 48
+guest 2 owes 0
+station 1 sold 6 paid 36
+station 2 sold 0 paid 0
+house 12
+desk 0 last round 1
+desk 1 last round 1
+END
+)
 done
 echo 'examples: as expected'

@@ -71,10 +71,11 @@ uint8_t real_bay_market_post(uint8_t rule,
                              const uint16_t *amounts, size_t amounts_len,
                              const uint32_t *tickets, size_t tickets_len,
                              const uint32_t *bids, size_t bids_len,
-                             size_t width, uint32_t round,
+                             size_t width, uint8_t desk, uint32_t round,
                              uint64_t *guests, size_t guests_len,
                              struct bay_market_station_account *stations, size_t stations_len,
-                             uint64_t *house, uint32_t *last);
+                             uint64_t *house,
+                             uint32_t *last, size_t last_len);
 
 uint8_t real_bay_market_read(const uint8_t *sheet, size_t sheet_len,
                              uint16_t *amounts, size_t amounts_len,
@@ -192,12 +193,12 @@ uint8_t real_bay_market_write(const uint32_t *asks, size_t asks_len,
 
 #define POST_PARAMETERS uint8_t rule, const uint32_t *asks, size_t asks_len, const uint16_t *bays, size_t bays_len, \
     const uint16_t *amounts, size_t amounts_len, const uint32_t *tickets, size_t tickets_len, const uint32_t *bids, \
-    size_t bids_len, size_t width, uint32_t round, uint64_t *guests, size_t guests_len, \
-    struct bay_market_station_account *stations, size_t stations_len, uint64_t *house, uint32_t *last
+    size_t bids_len, size_t width, uint8_t desk, uint32_t round, uint64_t *guests, size_t guests_len, \
+    struct bay_market_station_account *stations, size_t stations_len, uint64_t *house, uint32_t *last, size_t last_len
 #define POST_ARGUMENTS rule, asks, asks_len, bays, bays_len, amounts, amounts_len, tickets, tickets_len, bids, \
-    bids_len, width, round, guests, guests_len, stations, stations_len, house, last
+    bids_len, width, desk, round, guests, guests_len, stations, stations_len, house, last, last_len
 #define POST_PARTS LIST(asks), LIST(bays), LIST(amounts), LIST(tickets), LIST(bids), LIST(guests), LIST(stations), \
-    NUMBER(house), NUMBER(last)
+    NUMBER(house), LIST(last)
 
 #define READ_PARAMETERS const uint8_t *sheet, size_t sheet_len, uint16_t *amounts, size_t amounts_len, \
     uint32_t *tickets, size_t tickets_len, uint32_t *asks, size_t asks_len, uint16_t *bays, size_t bays_len, \

@@ -1,7 +1,7 @@
 #!/usr/bin/env python3
 """The shared library through tools/exports_table.py, at the path given: case E read, also as text, cleared, explained,
-joined of two gates, posted and written, another row of case G, and calls that are refused and leave what they were
-lent."""
+joined of two gates, posted by a desk and written, another row of case G, and calls that are refused and leave what they
+were lent."""
 import pathlib
 import sys
 
@@ -49,8 +49,14 @@ expect('join', 0, joined, **north, **south, **lent)
 expect('join', 21, lent, **north, **{**south, 'tickets2': [1]}, **lent)
 expect('write', 0, {'sheet': [*SHEET, 5, 5], 'length': len(SHEET)}, **MARKET, sheet=[5] * (len(SHEET) + 2), length=0)
 
-account = exports_table.TYPES['StationAccount']
-answer, book = exports_table.call(LIBRARY, 'bay_market_post', rule=1, **MARKET, round=1, guests=[0, 0],
-                                  stations=[account(0, 0), account(0, 0)], house=0, last=0)
-stations = [(a.sold, a.paid) for a in book.pop('stations')]
-assert (answer, book, stations) == (0, {'guests': [24, 0], 'house': 6, 'last': 1}, [(3, 18), (0, 0)])
+
+def post(desk):
+    account = exports_table.TYPES['StationAccount']
+    answer, book = exports_table.call(LIBRARY, 'bay_market_post', rule=1, **MARKET, desk=desk, round=1, guests=[0, 0],
+                                      stations=[account(0, 0), account(0, 0)], house=0, last=[2] * 7 + [0])
+    book['stations'] = [(a.sold, a.paid) for a in book['stations']]
+    return answer, book
+
+
+assert post(7) == (0, {'guests': [24, 0], 'stations': [(3, 18), (0, 0)], 'house': 6, 'last': [2] * 7 + [1]})
+assert post(8) == (25, {'guests': [0, 0], 'stations': [(0, 0), (0, 0)], 'house': 0, 'last': [2] * 7 + [0]})

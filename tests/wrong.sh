@@ -169,6 +169,19 @@ for function in clear clear_efficient explain try post; do
     finds "$function any" 'answered [0-9]+, expected 18' $function c
     finds "$function counts" 'answered 2, expected 18' $function c
 done
+# faults of the desk; the types know no desk above 7, and own as many last rounds as there are desks
+for way in c slices owned; do
+    finds 'post desk-one' 'answered 11, expected 0|last rounds differ|owned ledger differs' post $way
+    finds 'post desk-next' 'last rounds differ|owned ledger differs' post $way
+    finds 'post desk-kept' 'last rounds differ|owned ledger differs' post $way
+done
+for way in c slices; do
+    finds 'post last long taken' 'answered 0, expected 13' post $way
+    finds 'post last short taken' 'answered 0, expected 13' post $way
+done
+finds 'post desk-early' 'answered 25, expected 13' post c
+finds 'post desk-late' 'answered 11, expected 25' post c
+finds 'post desk-modulo' 'answered [0-9]+, expected 25' post c
 # faults of efficient clearing
 for way in c slices owned; do
     for fault in truthful rising far later skipped last unseated full no-floor untouched; do

@@ -47,6 +47,13 @@
  *   FUNCTION any                 a number of no rule is taken as rule 1
  *   FUNCTION second              rule 1 is taken as rule 2
  *   FUNCTION counts              2 for the stations' count goes before 18
+ *   post desk-early              25 goes before 13
+ *   post desk-late               25 comes after 11, which goes by desk 0 where the desk is too high
+ *   post desk-one                every desk's rounds are counted as desk 0's
+ *   post desk-modulo             desk 8 is taken as desk 0, 9 as 1 and so on
+ *   post desk-next               a posted round moves the next desk's count too
+ *   post desk-kept               the desk's last round stays as it was
+ *   post last WAY taken          a list of last rounds that is too long or too short is taken
  *   read place                   a ticket is read from the row's first bytes, where the amount stands
  *   read untouched               the tickets stay as they were
  *   read second                  every second market that is read has another first ask
@@ -845,14 +852,52 @@ uint8_t bay_market_explain(EXPLAIN_PARAMETERS)
     return SPOIL("explain", answer, parts);
 }
 
+/* The desk that the real engine is given. */
+static uint8_t other_desk(uint8_t desk)
+{
+    char words[4][16];
+
+    if (!fault("post", words)) {
+        return desk;
+    }
+    if (strcmp(words[1], "desk-one") == 0 && desk < BAY_MARKET_MAX_DESKS) {
+        return 0;
+    }
+    return strcmp(words[1], "desk-modulo") == 0 ? desk % BAY_MARKET_MAX_DESKS : desk;
+}
+
+/* The answer with 25 out of its place. */
+static uint8_t desk_out_of_place(const char *wrong, uint8_t answer, uint8_t desk, uint32_t round, const uint32_t *last)
+{
+    if (strcmp(wrong, "desk-early") == 0 && answer == BAY_MARKET_BOOK_SIZE && desk >= BAY_MARKET_MAX_DESKS) {
+        return BAY_MARKET_DESK_OUT_OF_RANGE;
+    }
+    if (strcmp(wrong, "desk-late") == 0 && answer == BAY_MARKET_DESK_OUT_OF_RANGE && round != last[0] + 1) {
+        return BAY_MARKET_ROUND_OUT_OF_TURN;
+    }
+    return answer;
+}
+
 uint8_t bay_market_post(POST_PARAMETERS)
 {
     const struct part parts[] = {POST_PARTS};
+    const struct fit lists[] = {{"last", last_len, BAY_MARKET_MAX_DESKS}};
     const uint32_t *seen = others("post", tickets, tickets_len);
-    uint8_t answer = REAL(bay_market_post)(other_rule("post", rule, asks_len), MARKET(seen), round, guests, guests_len,
-                                           stations, stations_len, house, last);
+    char words[4][16];
+    uint8_t answer = REAL(bay_market_post)(other_rule("post", rule, asks_len), MARKET(seen), other_desk(desk), round,
+                                           guests, guests_len, stations, stations_len, house, last, last_len);
 
     answer = out_of_place("post", answer, tickets, tickets_len, guests_len < amounts_len ? BAY_MARKET_BOOK_SIZE : 0);
+    if (fault("post", words)) {
+        answer = desk_out_of_place(words[1], answer, desk, round, last);
+        if (answer == BAY_MARKET_BOOK_SIZE && taken(words, lists, 1)) {
+            answer = BAY_MARKET_ACCEPTED;
+        } else if (answer == BAY_MARKET_ACCEPTED && strcmp(words[1], "desk-next") == 0) {
+            last[(desk + 1) % BAY_MARKET_MAX_DESKS]++;
+        } else if (answer == BAY_MARKET_ACCEPTED && strcmp(words[1], "desk-kept") == 0) {
+            last[desk]--;
+        }
+    }
     return SPOIL("post", answer, parts);
 }
 

@@ -83,11 +83,12 @@ EXPORTS = {
         ('tickets', 'slice', 'u32'),
         ('bids', 'slice', 'u32'),
         ('width', 'value', 'usize'),
+        ('desk', 'value', 'u8'),
         ('round', 'value', 'u32'),
         ('guests', 'lent', 'u64'),
         ('stations', 'lent', 'StationAccount'),
         ('house', 'out', 'u64'),
-        ('last', 'out', 'u32'),
+        ('last', 'lent', 'u32'),
     ],
     'bay_market_read': [
         ('sheet', 'slice', 'u8'),

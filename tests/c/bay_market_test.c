@@ -183,7 +183,7 @@ static void test_rules(void)
     uint32_t charge = 77, sold[6], cut = 77;
     uint64_t paid[6], margin = 77, guest = 0, house = 0;
     struct bay_market_station_account accounts[6] = {{0, 0}};
-    uint32_t last = 0;
+    uint32_t last[BAY_MARKET_MAX_DESKS] = {0};
 
     for (size_t i = 0; i < sizeof none; i++) {
         expect(bay_market_clear(none[i], NULL, 0, ones, 6, ones, 1, ticket, 1, table, 6, 6, &station, 1, &charge, 1,
@@ -192,10 +192,10 @@ static void test_rules(void)
         expect(bay_market_clear_efficient(none[i], asked, 6, ones, 6, ones, 1, ticket, 1, table, 6, 6, &station, 1,
                                           &charge, 1, sold, 6, paid, 6, &cut, &margin) == BAY_MARKET_UNKNOWN_RULE,
                "so it is in a quiet round");
-        expect(bay_market_post(none[i], NULL, 0, ones, 6, ones, 1, ticket, 1, table, 6, 6, 1, &guest, 1, accounts, 6,
-                               &house, &last) == BAY_MARKET_UNKNOWN_RULE, "and where a market is posted");
+        expect(bay_market_post(none[i], NULL, 0, ones, 6, ones, 1, ticket, 1, table, 6, 6, 8, 1, &guest, 1, accounts,
+                               6, &house, last, 7) == BAY_MARKET_UNKNOWN_RULE, "and where a market is posted");
     }
-    expect(station == 77 && charge == 77 && cut == 77 && margin == 77 && last == 0, "they write nothing");
+    expect(station == 77 && charge == 77 && cut == 77 && margin == 77 && last[0] == 0, "they write nothing");
     expect(bay_market_clear(BAY_MARKET_RULE_MEDIAN, asked, 6, ones, 6, ones, 1, ticket, 1, table, 6, 6, &station, 1,
                             &charge, 1, sold, 6, paid, 6, &cut, &margin) == BAY_MARKET_ACCEPTED
            && cut == 4 && station == 0 && charge == 0, "by rule 1 the cut is 4, and station 4 is not open");
@@ -203,10 +203,10 @@ static void test_rules(void)
                             &charge, 1, sold, 6, paid, 6, &cut, &margin) == BAY_MARKET_ACCEPTED
            && cut == 5 && station == 4 && charge == 5 && paid[3] == 5, "by rule 2 the cut is 5, and station 4 is open");
     for (uint8_t rule = 1; rule <= 2; rule++) {
-        expect(bay_market_post(rule, asked, 6, ones, 6, ones, 1, ticket, 1, table, 6, 6, rule, &guest, 1, accounts, 6,
-                               &house, &last) == BAY_MARKET_ACCEPTED, "a round by each rule is posted");
+        expect(bay_market_post(rule, asked, 6, ones, 6, ones, 1, ticket, 1, table, 6, 6, 5, rule, &guest, 1, accounts,
+                               6, &house, last, 8) == BAY_MARKET_ACCEPTED, "a round by each rule is posted");
     }
-    expect(guest == 5 && accounts[3].sold == 1 && accounts[3].paid == 5 && last == 2, "each by its own rule");
+    expect(guest == 5 && accounts[3].sold == 1 && accounts[3].paid == 5 && last[5] == 2, "each by its own rule");
 }
 
 /* Table I of document 000, with tickets in guest order. */
@@ -474,14 +474,15 @@ static void test_limits(void)
     expect(clear_one(1, 1, 1, price + 1) == BAY_MARKET_BID_OUT_OF_RANGE, "a bid beyond");
 }
 
-/* Posts case E as the next round to a ledger with the given accounts. */
-static uint8_t post_to(uint64_t house, uint32_t last)
+/* Posts case E as desk 7's next round to a ledger with the given accounts. */
+static uint8_t post_to(uint64_t house, uint32_t round)
 {
+    uint32_t last[BAY_MARKET_MAX_DESKS] = {0, 9, 9, 9, 9, 9, 9, round};
     uint64_t guests[2] = {0};
     struct bay_market_station_account stations[2] = {{0, 0}, {0, 0}};
 
-    return bay_market_post(1, asks, m, bays, m, amounts, n, tickets, n, bids, 4, m, last + 1, guests, 2, stations, 2,
-                           &house, &last);
+    return bay_market_post(1, asks, m, bays, m, amounts, n, tickets, n, bids, 4, m, 7, round + 1, guests, 2,
+                           stations, 2, &house, last, BAY_MARKET_MAX_DESKS);
 }
 
 static void test_ledger_limits(void)
@@ -497,16 +498,28 @@ static void test_post(void)
     uint64_t guests[3] = {0};
     struct bay_market_station_account stations[2] = {{0, 0}, {0, 0}};
     uint64_t house = 0;
-    uint32_t last = 0;
+    uint32_t last[9] = {0};
+    uint8_t answer;
 
     for (int posting = 0; posting < 2; posting++) {
-        uint8_t answer = bay_market_post(1, asks, m, bays, m, amounts, n, tickets, n, bids, 4, m, 1, guests, 3,
-                                         stations, 2, &house, &last);
+        answer = bay_market_post(1, asks, m, bays, m, amounts, n, tickets, n, bids, 4, m, 0, 1, guests, 3, stations, 2,
+                                 &house, last, 8);
         expect(answer == (posting == 0 ? BAY_MARKET_ACCEPTED : BAY_MARKET_ROUND_OUT_OF_TURN), "round 1 is posted once");
         expect(guests[0] == 24 && guests[1] == 0 && guests[2] == 0, "guest accounts");
         expect(stations[0].sold == 3 && stations[0].paid == 18 && stations[1].sold == 0 && stations[1].paid == 0,
                "station accounts");
-        expect(house == 6 && last == 1, "house and last round");
+        expect(house == 6 && last[0] == 1, "house and last round");
+    }
+    for (size_t lasts = 7; lasts <= 9; lasts++) {
+        answer = bay_market_post(1, asks, m, bays, m, amounts, n, tickets, n, bids, 4, m, 8, 7, guests, 3, stations, 2,
+                                 &house, last, lasts);
+        expect(answer == (lasts == 8 ? BAY_MARKET_DESK_OUT_OF_RANGE : BAY_MARKET_BOOK_SIZE), "eight desks, no ninth");
+    }
+    for (uint8_t desk = 1; desk < BAY_MARKET_MAX_DESKS; desk++) {
+        answer = bay_market_post(1, asks, m, bays, m, amounts, n, tickets, n, bids, 4, m, desk, 1, guests, 3, stations,
+                                 2, &house, last, 8);
+        expect(answer == BAY_MARKET_ACCEPTED && last[desk] == 1 && last[desk + 1] == 0, "each desk has its round 1");
+        expect(guests[0] == (desk + 1) * 24u && house == (desk + 1) * 6u, "accounts are the sums of all desks' rounds");
     }
 }
 
@@ -515,7 +528,7 @@ static void test_null(void)
 {
     const uint32_t ask = 5;
     const uint16_t bay = 1;
-    uint32_t sold = 77, cut = 77, last = 0, joined_ask = 77;
+    uint32_t sold = 77, cut = 77, last[BAY_MARKET_MAX_DESKS] = {0}, joined_ask = 77;
     uint16_t joined_bay = 77;
     uint64_t paid = 77, margin = 77, house = 3;
     int64_t gain = 77, other_gain = 77;
@@ -532,9 +545,9 @@ static void test_null(void)
     expect(bay_market_clear(1, &ask, 1, &bay, 1, NULL, 0, NULL, 0, NULL, 0, 1, NULL, 0, NULL, 0, &sold, 1, &paid, 1,
                             &cut, &margin) == BAY_MARKET_ACCEPTED, "a market with no guests is cleared");
     expect(sold == 0 && paid == 0 && cut == 5 && margin == 0, "nobody buys");
-    expect(bay_market_post(1, &ask, 1, &bay, 1, NULL, 0, NULL, 0, NULL, 0, 1, 1, NULL, 0, &station, 1, &house, &last)
-           == BAY_MARKET_ACCEPTED, "a market with no guests is posted");
-    expect(station.sold == 1 && station.paid == 2 && house == 3 && last == 1, "only the round is posted");
+    expect(bay_market_post(1, &ask, 1, &bay, 1, NULL, 0, NULL, 0, NULL, 0, 1, 0, 1, NULL, 0, &station, 1, &house, last,
+                           8) == BAY_MARKET_ACCEPTED, "a market with no guests is posted");
+    expect(station.sold == 1 && station.paid == 2 && house == 3 && last[0] == 1, "only the round is posted");
     expect(bay_market_clear(1, NULL, 0, NULL, 0, NULL, 0, NULL, 0, NULL, 0, 0, NULL, 0, NULL, 0, NULL, 0, NULL, 0, &cut,
                             &margin) == BAY_MARKET_COUNTS_OUT_OF_RANGE, "no station");
     sold = 77, paid = 77, cut = 77, margin = 77;
@@ -554,9 +567,9 @@ static void test_null(void)
     expect(bay_market_try(1, &ask, 1, &bay, 1, &bay, 1, &ask, 1, &ask, 1, 1, 1, &ask, 1, &ask, 1, NULL, 0, &gain,
                           &other_gain) == BAY_MARKET_LENT_LENGTHS, "no list of changes");
     expect(gain == 77 && other_gain == 77, "no gain is written");
-    expect(bay_market_post(1, NULL, 0, NULL, 0, NULL, 0, NULL, 0, NULL, 0, 0, 1, NULL, 0, NULL, 0, &house, &last)
+    expect(bay_market_post(1, NULL, 0, NULL, 0, NULL, 0, NULL, 0, NULL, 0, 0, 0, 1, NULL, 0, NULL, 0, &house, NULL, 0)
            == BAY_MARKET_COUNTS_OUT_OF_RANGE, "no station to post");
-    expect(bay_market_post(1, &ask, 1, &bay, 1, NULL, 0, NULL, 0, NULL, 0, 1, 2, NULL, 0, NULL, 0, &house, &last)
+    expect(bay_market_post(1, &ask, 1, &bay, 1, NULL, 0, NULL, 0, NULL, 0, 1, 0, 2, NULL, 0, NULL, 0, &house, NULL, 0)
            == BAY_MARKET_BOOK_SIZE, "no ledger");
     expect(bay_market_read(NULL, 0, NULL, 0, NULL, 0, NULL, 0, NULL, 0, NULL, 0, &n, &m) == BAY_MARKET_LENT_LENGTHS,
            "no tables");
@@ -581,7 +594,7 @@ static void test_null(void)
 
 static void test_texts(void)
 {
-    const uint8_t beyond = BAY_MARKET_NO_SUCH_GUEST + 1;
+    const uint8_t beyond = BAY_MARKET_DESK_OUT_OF_RANGE + 1;
 
     expect(strcmp(bay_market_refusal_text(BAY_MARKET_ACCEPTED), "accepted") == 0, "the text of 0");
     expect(strcmp(bay_market_refusal_text(beyond), bay_market_refusal_text(255)) == 0, "no answer of the engine");

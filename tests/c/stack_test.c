@@ -12,7 +12,8 @@
 #define PAINT 0xA5
 
 static uint16_t amounts[BAY_MARKET_MAX_GUESTS], bays[BAY_MARKET_MAX_STATIONS], n, m;
-static uint32_t asks[BAY_MARKET_MAX_STATIONS], tickets[BAY_MARKET_MAX_GUESTS], bids[BAY_MARKET_MAX_BIDS], cut, last;
+static uint32_t asks[BAY_MARKET_MAX_STATIONS], tickets[BAY_MARKET_MAX_GUESTS], bids[BAY_MARKET_MAX_BIDS], cut;
+static uint32_t last[BAY_MARKET_MAX_DESKS];
 static uint32_t prices[BAY_MARKET_MAX_GUESTS], falls[BAY_MARKET_MAX_GUESTS];
 static uint16_t guest_cells[BAY_MARKET_MAX_GUESTS], station_cells[BAY_MARKET_MAX_STATIONS];
 static uint8_t sheet[BAY_MARKET_MAX_SHEET];
@@ -91,8 +92,8 @@ static void call_join(void)
 
 static void call_post(void)
 {
-    answer = bay_market_post(2, asks, m, bays, m, amounts, n, tickets, n, bids, (size_t)n * m, m, last + 1, guests, n,
-                             accounts, m, &house, &last);
+    answer = bay_market_post(2, asks, m, bays, m, amounts, n, tickets, n, bids, (size_t)n * m, m, 0, last[0] + 1,
+                             guests, n, accounts, m, &house, last, BAY_MARKET_MAX_DESKS);
 }
 
 /* It goes after the calls on the market, whose bids it writes over. */

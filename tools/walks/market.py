@@ -6,14 +6,16 @@ RULE = Number('rule', 'u8')
 ASKS = [Shared('asks', 'u32', 0), Shared('bays', 'u16', 1), Shared('amounts', 'u16', 2), Shared('tickets', 'u32', 3)]
 BIDS, WIDTH = Shared('bids', 'u32', 4), Number('width', 'usize')
 SLICES = [*ASKS, BIDS]
-ROUND, GUESTS = Number('round', 'u32'), Lent('guests', 'u64', 5)
-HOUSE, LAST = Cell('house', 'u64', 7), Cell('last', 'u32', 8)
+DESK, ROUND, GUESTS = Number('desk', 'u8'), Number('round', 'u32'), Lent('guests', 'u64', 5)
+HOUSE, LAST = Cell('house', 'u64', 7), Lent('last', 'u32', 8)
+# the numbers of a posting
+NUMBERS = [RULE, WIDTH, DESK, ROUND]
 
 # the lifetimes, their shares, and what a posting is passed before the row of stations
 POSTED = ('(κ₀ κ₁ κ₂ κ₃ κ₄ κ₅ κ₆ κ₇ κ₈ : Lft) (q₀ q₁ q₂ q₃ q₄ q₅ q₆ q₇ q₈ : Share) '
           '(rule : ℕ) (rule-fits : rule < 2 ^ 8) (asks bays amounts tickets bids : Nums) '
           '(width : ℕ) (width-fits : width < 2 ^ 64) '
-          '(round : ℕ) (round-fits : round < 2 ^ 32) (guests : Nums)')
+          '(desk : ℕ) (desk-fits : desk < 2 ^ 8) (round : ℕ) (round-fits : round < 2 ^ 32) (guests : Nums)')
 
 
 # the arguments of the walk of such a function, with the row of stations as it is taken (`row`, of where it stands)
@@ -22,7 +24,7 @@ def posted(f, row):
     out = [f'({x}{projection(i)})' for x in ('κs', 'qs') for i in range(f.count)]
     for p, place in places:
         out += [row(f'a{place}') if p.label == 'stations' else f'(a{place})']
-        out += [p.given(place)] if p in (RULE, WIDTH, ROUND) else []
+        out += [p.given(place)] if p in NUMBERS else []
     out += ['C Λ fm', *(c.known for c in f.callees), *(p.given(place) for p, place in places if p.fact(each))]
     return ' '.join(out)
 
@@ -46,7 +48,8 @@ abbrev Num : Type 0
 Num = RefT ℕ
 
 abbrev Arg : Type 0
-Arg = ℕ × (Nums × (Nums × (Nums × (Nums × (Nums × (ℕ × (ℕ × (Nums × (Recs × (Num × (Num × Unit {0})))))))))))
+Arg =
+    ℕ × (Nums × (Nums × (Nums × (Nums × (Nums × (ℕ × (ℕ × (ℕ × (Nums × (Recs × (Num × (Nums × Unit {0}))))))))))))
 
 -- the machine values of a slice and of a `&mut`
 abbrev val : {X : Type 0} → RefT (List X) → Val

@@ -29,13 +29,14 @@ pub extern "C" fn bay_market_post(
     tickets: &[u32],
     bids: &[u32],
     width: usize,
+    desk: u8,
     round: u32,
     guests: &mut [u64],
     stations: &mut [StationAccount],
     house: &mut u64,
-    last: &mut u32,
+    last: &mut [u32],
 ) -> u8
-    ensures { λ k. ⌜ RepliesOut (entering (posting rule (tablesIn asks bays amounts tickets bids width) round))
+    ensures { λ k. ⌜ RepliesOut (entering (posting rule (tablesIn asks bays amounts tickets bids width) desk round))
         (plain (bookIn guests stations house last)) k (plain (bookOut guests stations house last)) ⌝ }
 {
     let reply = ledger::post(
@@ -46,6 +47,7 @@ pub extern "C" fn bay_market_post(
         tickets,
         bids,
         width,
+        desk,
         round,
         guests,
         stations,

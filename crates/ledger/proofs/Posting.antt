@@ -1,17 +1,18 @@
 -- One posting: the planned round, the settled one and the accounts after it are the plain book's step.
 use Prim.Native.Nat.{ℕ, _+_, _≤_, _<_, min}
-use mathlib.Core.Bool.{Bool, true, false}
+use mathlib.Core.Bool.{Bool, true, false, not}
 use mathlib.Core.List.{List, [], _∷_, _++_}
 use mathlib.Core.Logic.{⊎-elim}
 use mathlib.Core.Path.{_≡_, refl, sym, ap, ap₂, subst, _∙_}
 use native.Mathlib.Omega.{arith}
 use lib.ListN.{getD, length}
-use Rattle.model.specs.Limits.{maxGuests, maxStations, maxAccount}
-use Rattle.model.specs.Counting.{_<?_, _or_, only, any, list}
+use Rattle.model.specs.Limits.{maxGuests, maxStations, maxAccount, maxDesks}
+use Rattle.model.specs.Counting.{_<?_, _=?_, _or_, only, any, list}
 use Rattle.model.specs.market.Market.{Tables}
 use Rattle.model.specs.market.Mechanism.{charged, sold, paid, margin}
 use Rattle.model.specs.Verdicts.{Row, _gives_, Verdict, accepted, refused, firstFault, updated}
-use Rattle.model.specs.book.PlainBook.{PlainBook, raised, entered, overLimit, bookSize, outOfTurn, postingFaults}
+use Rattle.model.specs.book.PlainBook.{PlainBook, raised, entered, overLimit, bookSize, noDesk, outOfTurn}
+use Rattle.model.specs.book.PlainBook.{postingFaults}
 use Rattle.model.specs.book.PlainBook.{enteredOf, answer, after}
 use Rattle.model.specs.market.Faults.{outside, unknownRule, marketFaults}
 use Rattle.model.proofs.Tests.{same-test, or-cases, or-left, or-right, or-no, lt-yes, is-lt, not-lt, lt-or-le, only-yes}
@@ -118,10 +119,10 @@ unfolding answerOfVerdict
 accepts-posted verdicts.Accepted e = refl
 accepts-posted (verdicts.Refused x) e = absurd (let z : _≡_ {A = ℕ} 0 1 = cc in omega arith)
 
--- it does not depend on its number
-same-adding : (rule : ℕ) (t : Tables) (n : ℕ) → adding (posting rule t 0) ≡ adding (posting rule t n)
+-- it does not depend on its desk and its number
+same-adding : (rule : ℕ) (t : Tables) (d n : ℕ) → adding (posting rule t 0 0) ≡ adding (posting rule t d n)
 unfolding adding posted toGuest toSold toPaid toHouse
-same-adding rule t n = refl
+same-adding rule t d n = refl
 
 -- nothing is added past its stations
 none-past :
@@ -155,15 +156,18 @@ module _ (p : Posting) (L : Book) where
   book-size-differs : Bool
   book-size-differs =
       outside (length (p .tables .amounts)) maxGuests (length (L .guests))
-      or outside m maxStations (length (L .stations))
+      or outside m maxStations (length (L .stations)) or not (length (L .last) =? maxDesks)
+
+  abbrev turn : Row
+  turn = outOfTurn (p .round) (getD (L .last) (p .desk) 0)
 
   late : Bool → List Row
-  late over = (book-size-differs gives 13) ∷ outOfTurn (p .round) (L .last) ∷ (over gives 12) ∷ []
+  late over = (book-size-differs gives 13) ∷ noDesk (p .desk) ∷ turn ∷ (over gives 12) ∷ []
 
   after-limit : Bool
   after-limit = overLimit B or overLimit (enteredOf p B)
 
-  in-turn : postingFaults (p .rule) (p .tables) (p .round) B ≡ early ++ late after-limit
+  in-turn : postingFaults (p .rule) (p .tables) (p .desk) (p .round) B ≡ early ++ late after-limit
   unfolding postingFaults bookSize late book-size-differs after-limit plain
   in-turn = rw length-sold refl
 
@@ -182,7 +186,8 @@ module _ (p : Posting) (L : Book) where
   sizes : book-size-differs ≡ false → Sized
   unfolding book-size-differs
   sizes e =
-      let (guest-size, station-size) = or-no _ _ e in
+      let (both-sizes, _) = or-no _ _ e in
+      let (guest-size, station-size) = or-no _ _ both-sizes in
       (inside _ _ _ guest-size .1, inside _ _ _ station-size .0, inside _ _ _ station-size .1)
 
   -- the last test counts only where the size is right
@@ -192,13 +197,13 @@ module _ (p : Posting) (L : Book) where
     where
       go :
           (w : Bool) → book-size-differs ≡ w
-          → firstFault ((book-size-differs gives 13) ∷ outOfTurn (p .round) (L .last) ∷ (a gives 12) ∷ [])
-          ≡ firstFault ((book-size-differs gives 13) ∷ outOfTurn (p .round) (L .last) ∷ (b gives 12) ∷ [])
-      go true e = fault-here (outOfTurn (p .round) (L .last) ∷ (a gives 12) ∷ []) e
-          ∙ sym (fault-here (outOfTurn (p .round) (L .last) ∷ (b gives 12) ∷ []) e)
+          → firstFault ((book-size-differs gives 13) ∷ noDesk (p .desk) ∷ turn ∷ (a gives 12) ∷ [])
+          ≡ firstFault ((book-size-differs gives 13) ∷ noDesk (p .desk) ∷ turn ∷ (b gives 12) ∷ [])
+      go true e = fault-here (noDesk (p .desk) ∷ turn ∷ (a gives 12) ∷ []) e
+          ∙ sym (fault-here (noDesk (p .desk) ∷ turn ∷ (b gives 12) ∷ []) e)
       go false e =
-          ap (λ x. firstFault ((book-size-differs gives 13) ∷ outOfTurn (p .round) (L .last)
-          ∷ (x gives 12) ∷ [])) (h (sizes e))
+          ap (λ x. firstFault ((book-size-differs gives 13) ∷ noDesk (p .desk) ∷ turn ∷ (x gives 12) ∷ []))
+          (h (sizes e))
 
   module _ (z : Sized) where
     sold-size : length (soldOf (L .stations)) ≤ maxStations
@@ -240,11 +245,12 @@ module _ (p : Posting) (L : Book) where
 
   room-left :
       answer B p ≡ accepted tt → exceedingTo (adding p) (length (L .stations)) (L .stations) ≡ false
-  unfolding late outOfTurn noRoom
+  unfolding late noDesk outOfTurn noRoom
   room-left e =
       let (_, e0) = no-fault _ _ _ (parts e .1) in
       let (_, e1) = no-fault _ _ _ e0 in
-      let (limit, _) = no-fault _ _ _ e1 in
+      let (_, e2) = no-fault _ _ _ e1 in
+      let (limit, _) = no-fault _ _ _ e2 in
       or-no _ _ (or-no _ _ (room-is (accepted-sized e) ∙ limit) .0) .0
 
   -- the code's verdict on the planned round is the plain book's
@@ -254,11 +260,11 @@ module _ (p : Posting) (L : Book) where
     unfolding roundBy
     posted-round e =
         er .round-is
-        ∙ ap (λ w. roundBy w (posting (p .rule) (p .tables) 0)) (accepts-posted (r .reply) (er .says ∙ e))
-        ∙ same-adding (p .rule) (p .tables) (p .round)
+        ∙ ap (λ w. roundBy w (posting (p .rule) (p .tables) 0 0)) (accepts-posted (r .reply) (er .says ∙ e))
+        ∙ same-adding (p .rule) (p .tables) (p .desk) (p .round)
 
     abbrev verdict-on : Verdict
-    verdict-on = ruled r full (length (L .stations)) (p .round) (L .guests) (L .house) (L .last)
+    verdict-on = ruled r full (length (L .stations)) (p .desk) (p .round) (L .guests) (L .house) (L .last)
 
     ruled-is : verdict-on ≡ answer B p
     unfolding ruled answerOfVerdict followed late book-size-differs bookSize adding posted
@@ -267,17 +273,17 @@ module _ (p : Posting) (L : Book) where
         go : (v : Verdict) → firstFault early ≡ v → verdict-on ≡ answer B p
         go (refused x) e = rw (er .says, answer-is, e) refl
         go (accepted _) e =
-            ap (λ x. ruled r x (length (L .stations)) (p .round) (L .guests) (L .house) (L .last)) ef
-            ∙ ap (λ r. ruled r (exceedingTo r (length (L .stations)) (L .stations)) (length (L .stations)) (p .round)
-            (L .guests) (L .house) (L .last)) (posted-round e)
+            ap (λ x. ruled r x (length (L .stations)) (p .desk) (p .round) (L .guests) (L .house) (L .last)) ef
+            ∙ ap (λ r. ruled r (exceedingTo r (length (L .stations)) (L .stations)) (length (L .stations)) (p .desk)
+            (p .round) (L .guests) (L .house) (L .last)) (posted-round e)
             ∙ late-cong
             (noRoom (adding p) (exceedingTo (adding p) (length (L .stations)) (L .stations)) (L .guests) (L .house))
             after-limit room-is
             ∙ sym (answer-is ∙ ap (λ v. followed v (late after-limit)) e)
 
     -- what settling and the loop over the stations leave is the plain book's step
-    module _ (s : Ruling) (guests′ : List ℕ) (stations′ : List StationAccount) (house′ last′ : ℕ)
-        (t : Settled verdict-on r (p .round) (L .guests) (L .house) (L .last) s guests′ house′ last′)
+    module _ (s : Ruling) (guests′ : List ℕ) (stations′ : List StationAccount) (house′ : ℕ) (last′ : List ℕ)
+        (t : Settled verdict-on r (p .desk) (p .round) (L .guests) (L .house) (L .last) s guests′ house′ last′)
         (es : stations′ ≡ creditedTo r (min (length (L .stations)) (s .credits)) (L .stations)) where
       abbrev exit : Book
       exit = book guests′ stations′ house′ last′
@@ -285,7 +291,7 @@ module _ (p : Posting) (L : Book) where
       -- the book at exit, by the verdict
       left-by :
           (v : Verdict) → answer B p ≡ v
-          → Settled v r (p .round) (L .guests) (L .house) (L .last) s guests′ house′ last′
+          → Settled v r (p .desk) (p .round) (L .guests) (L .house) (L .last) s guests′ house′ last′
           → plain exit ≡ updated v (enteredOf p B) B
       unfolding updated plain entered adding posted toHouse creditedTo
       left-by (accepted _) e h =
@@ -318,6 +324,6 @@ module _ (p : Posting) (L : Book) where
       pub posts : Posts L p (answerOfVerdict (s .reply)) exit
       unfolding after
       posts =
-          let h = subst (λ v. Settled v r (p .round) (L .guests) (L .house) (L .last) s guests′ house′ last′) ruled-is
-          t in
+          let h = subst (λ v. Settled v r (p .desk) (p .round) (L .guests) (L .house) (L .last) s guests′ house′ last′)
+          ruled-is t in
           post-is-plain-step L exit p _ .1 (h .says, left-by (answer B p) refl h)

@@ -29,10 +29,10 @@ unfoldable pub roundBy : Verdict → Posting → Round
 roundBy Accepted p = adding p
 roundBy (Refused x) p = refusing x
 
--- r is the round of a market under the rule of a number; its own number comes later
+-- r is the round of a market under the rule of a number; its desk and its own number come later
 pub record Planned (rule : ℕ) (t : Tables) (r : Round) : Type 0 where
   pub says : answerOfVerdict (r .reply) ≡ firstFault (unknownRule rule ∷ marketFaults t)
-  pub round-is : r ≡ roundBy (r .reply) (posting rule t 0)
+  pub round-is : r ≡ roundBy (r .reply) (posting rule t 0 0)
 
 -- under a rule that is known: of each number that names it
 abbrev pub PlannedUnder : Rule → Tables → Round → Type 0

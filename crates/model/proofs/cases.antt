@@ -2,6 +2,7 @@ pub mod Cases
 pub mod Computing
 pub mod Csv
 pub mod Example
+pub mod ExampleEnds
 pub mod Gates
 pub mod GatesInstance
 pub mod Instances

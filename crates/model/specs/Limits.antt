@@ -29,6 +29,10 @@ maxAccount = 1_000_000_000_000_000
 abbrev pub maxRound : ℕ
 maxRound = 4_294_967_295
 
+-- the desks that share a book; they are numbered from 0
+abbrev pub maxDesks : ℕ
+maxDesks = 8
+
 -- the places of the reader's bid table
 abbrev pub maxBids : ℕ
 maxBids = maxGuests * maxStations
@@ -58,6 +62,7 @@ limits = record {
   bays = maxBays;
   account = maxAccount;
   round = maxRound;
+  desks = maxDesks;
   bids = maxBids;
   sheet = maxSheet;
   page = maxPage;

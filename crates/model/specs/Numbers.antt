@@ -25,7 +25,7 @@ use Rattle.model.specs.declared.refusal.Refusal.the-variants.{BookSize, 
 use Rattle.model.specs.declared.refusal.Refusal.the-variants.{CellOffGrid, PriceOrFallOutOfRange, UnknownRule}
 use Rattle.model.specs.declared.refusal.Refusal.the-variants.{EmptyBid, StationsDiffer, TicketInBoth}
 use Rattle.model.specs.declared.refusal.Refusal.the-variants.{MalformedText, FieldTooLarge}
-use Rattle.model.specs.declared.refusal.Refusal.the-variants.{NoSuchGuest}
+use Rattle.model.specs.declared.refusal.Refusal.the-variants.{NoSuchGuest, DeskOutOfRange}
 
 abbrev pub number : Refusal → ℕ
 number SheetEnds = 1
@@ -52,6 +52,7 @@ number TicketInBoth = 21
 number MalformedText = 22
 number FieldTooLarge = 23
 number NoSuchGuest = 24
+number DeskOutOfRange = 25
 
 -- of the reader: n and m
 unfoldable pub answerOfReading : Reading → Answer (ℕ × ℕ)

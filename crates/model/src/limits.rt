@@ -17,6 +17,9 @@ pub const MAX_ACCOUNT: u64 = 1_000_000_000_000_000;
 
 pub const MAX_ROUND: u32 = 4_294_967_295;
 
+// The desks that share a book; they are numbered from 0.
+pub const MAX_DESKS: usize = 8;
+
 pub const MAX_BIDS: usize = MAX_GUESTS * MAX_STATIONS;
 
 // The bytes of the largest sheet, and a bound on those of a printed page.
@@ -37,6 +40,7 @@ pub struct Limits {
     pub bays: u16,
     pub account: u64,
     pub round: u32,
+    pub desks: usize,
     pub bids: usize,
     pub sheet: usize,
     pub page: usize,
@@ -56,6 +60,7 @@ pub fn stated_limits() -> Limits
         bays: MAX_BAYS,
         account: MAX_ACCOUNT,
         round: MAX_ROUND,
+        desks: MAX_DESKS,
         bids: MAX_BIDS,
         sheet: MAX_SHEET,
         page: MAX_PAGE,

@@ -28,6 +28,7 @@ pub enum Refusal {
     MalformedText,
     FieldTooLarge,
     NoSuchGuest,
+    DeskOutOfRange,
 }
 
 impl Refusal {
@@ -60,6 +61,7 @@ impl Refusal {
             Refusal::MalformedText => 22,
             Refusal::FieldTooLarge => 23,
             Refusal::NoSuchGuest => 24,
+            Refusal::DeskOutOfRange => 25,
         }
     }
 }

@@ -137,10 +137,11 @@ unsafe extern "C" {
         amounts: *const u16, amounts_len: usize,
         tickets: *const u32, tickets_len: usize,
         bids: *const u32, bids_len: usize,
-        width: usize, round: u32,
+        width: usize, desk: u8, round: u32,
         guests: *mut u64, guests_len: usize,
         stations: *mut StationAccount, stations_len: usize,
-        house: *mut u64, last: *mut u32,
+        house: *mut u64,
+        last: *mut u32, last_len: usize,
     ) -> u8;
 }
 // end of what scripts/exports writes

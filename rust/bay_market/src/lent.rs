@@ -13,7 +13,7 @@
 //! assert_eq!((stations, charges, sold, paid), ([1, 0], [24, 0], [3, 0], [18, 0]));
 //! ```
 
-use crate::{MAX_BIDS, MAX_GUESTS, MAX_STATIONS, Refusal, Rule, StationAccount, slices};
+use crate::{Desk, MAX_BIDS, MAX_GUESTS, MAX_STATIONS, Refusal, Rule, StationAccount, slices};
 
 /// A market: n amounts and tickets, m asks, m bays, n rows of m bids (0: no bid); `width` is the length of a row.
 #[derive(Clone, Copy, Debug)]
@@ -112,7 +112,8 @@ pub struct Ledger<'a> {
     pub guests: &'a mut [u64],
     pub stations: &'a mut [StationAccount],
     pub house: &'a mut u64,
-    pub last: &'a mut u32,
+    /// The last round of each desk; 8 long.
+    pub last: &'a mut [u32],
 }
 
 impl<'a> Tables<'a> {
@@ -394,10 +395,25 @@ pub fn try_row(
     Refusal::check(answer).map(|()| gains)
 }
 
-/// Clears a market by a rule as [`clear`] does and posts it to the ledger as a round.
-pub fn post(rule: Rule, market: &Market, round: u32, ledger: &mut Ledger) -> Result<(), Refusal> {
+/// Clears a market by a rule as [`clear`] does and posts it to the ledger as a round of a desk.
+///
+/// ```
+/// use bay_market::lent::{Ledger, Market, post};
+/// use bay_market::{Desk, Refusal, Rule, StationAccount};
+///
+/// let (amounts, tickets) = (&[3, 3], &[1, 2]);
+/// let market = Market { asks: &[2, 6], bays: &[1, 1], amounts, tickets, bids: &[8, 0, 8, 0], width: 2 };
+/// let (mut guests, mut stations, mut house, mut last) = ([0; 2], [StationAccount::default(); 2], 0, [0; 8]);
+/// let mut ledger = Ledger { guests: &mut guests, stations: &mut stations, house: &mut house, last: &mut last };
+/// let [north, south, ..] = Desk::ALL;
+/// assert_eq!(post(Rule::Median, &market, north, 1, &mut ledger), Ok(()));
+/// assert_eq!(post(Rule::Median, &market, north, 1, &mut ledger), Err(Refusal::RoundOutOfTurn));
+/// assert_eq!(post(Rule::Median, &market, south, 1, &mut ledger), Ok(()));
+/// assert_eq!((guests, house, last), ([48, 0], 12, [1, 1, 0, 0, 0, 0, 0, 0]));
+/// ```
+pub fn post(rule: Rule, market: &Market, desk: Desk, round: u32, ledger: &mut Ledger) -> Result<(), Refusal> {
     let Market { asks, bays, amounts, tickets, bids, width } = *market;
     let Ledger { guests, stations, house, last } = ledger;
-    let rule = rule.number();
-    Refusal::check(slices::post(rule, asks, bays, amounts, tickets, bids, width, round, guests, stations, house, last))
+    let (rule, desk) = (rule.number(), desk.number());
+    Refusal::check(slices::post(rule, asks, bays, amounts, tickets, bids, width, desk, round, guests, stations, house, last))
 }

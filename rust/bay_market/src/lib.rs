@@ -4,7 +4,7 @@
 //! the same over slices that the caller lends, and [`c`] the functions of the C header.
 //!
 //! ```
-//! use bay_market::{Ledger, Market, Refusal, Rule};
+//! use bay_market::{Desk, Ledger, Market, Refusal, Rule};
 //!
 //! let (amounts, tickets) = (vec![3, 3], vec![1, 2]);
 //! let market = Market { asks: vec![2, 6], bays: vec![1, 1], amounts, tickets, bids: vec![8, 0, 8, 0] };
@@ -13,9 +13,11 @@
 //! assert_eq!(Market::read(&market.to_sheet()?)?, market);
 //!
 //! let mut ledger = Ledger::new(2, 2);
-//! ledger.post(Rule::Median, &market, 1)?;
-//! assert_eq!((ledger.house, ledger.last), (6, 1));
-//! let refusal = ledger.post(Rule::Median, &market, 1).unwrap_err();
+//! let [north, south, ..] = Desk::ALL;
+//! ledger.post(Rule::Median, &market, north, 1)?;
+//! ledger.post(Rule::Median, &market, south, 1)?;
+//! assert_eq!((ledger.house, ledger.last), (12, [1, 1, 0, 0, 0, 0, 0, 0]));
+//! let refusal = ledger.post(Rule::Median, &market, north, 1).unwrap_err();
 //! assert_eq!(refusal, Refusal::RoundOutOfTurn);
 //! println!("refused {}: {refusal}", refusal.number());
 //! # Ok::<(), Refusal>(())
@@ -35,6 +37,8 @@ pub use refusal::Refusal;
 
 pub const MAX_GUESTS: usize = 200;
 pub const MAX_STATIONS: usize = 40;
+/// Desks that share a ledger.
+pub const MAX_DESKS: usize = 8;
 /// Guests times stations.
 pub const MAX_BIDS: usize = MAX_GUESTS * MAX_STATIONS;
 /// Of an ask, a bid, a worth and a price in mills per kWh, and of a fall.
@@ -86,6 +90,32 @@ impl Rule {
     }
 }
 
+/// One of the eight desks that share a ledger; each counts its own rounds.
+#[derive(Clone, Copy, Debug, PartialEq, Eq, PartialOrd, Ord, Hash)]
+pub struct Desk(u8);
+
+impl Desk {
+    /// All desks, by rising number.
+    pub const ALL: [Desk; MAX_DESKS] = [Desk(0), Desk(1), Desk(2), Desk(3), Desk(4), Desk(5), Desk(6), Desk(7)];
+
+    /// Its number in the header, 0 to 7.
+    pub const fn number(self) -> u8 {
+        self.0
+    }
+
+    /// The desk with a number of the header.
+    pub const fn from_number(number: u8) -> Option<Desk> {
+        if (number as usize) < MAX_DESKS { Some(Desk(number)) } else { None }
+    }
+}
+
+/// Its place in a list of last rounds.
+impl From<Desk> for usize {
+    fn from(desk: Desk) -> usize {
+        desk.0.into()
+    }
+}
+
 /// A station's account.
 #[repr(C)]
 #[derive(Clone, Copy, Debug, Default, PartialEq, Eq)]
@@ -128,14 +158,14 @@ mod tests {
 
     #[test]
     fn refusals_keep_their_numbers() {
-        for (number, refusal) in (1..).zip(Refusal::ALL) {
-            assert_eq!(refusal.number(), number);
+        for refusal in Refusal::ALL {
+            let number = refusal.number();
             assert_eq!(Refusal::from_number(number), Some(refusal));
             assert_eq!(Refusal::check(number), Err(refusal));
         }
         assert_eq!(Refusal::check(0), Ok(()));
-        let beyond = Refusal::ALL.len() as u8 + 1;
-        assert_eq!((Refusal::from_number(0), Refusal::from_number(beyond)), (None, None));
+        let named: Vec<Refusal> = (0..=255).filter_map(Refusal::from_number).collect();
+        assert_eq!(named, Refusal::ALL);
     }
 
     #[test]
@@ -143,6 +173,15 @@ mod tests {
         for (number, rule) in [(0, None), (1, Some(Rule::Median)), (2, Some(Rule::TwoThirds)), (3, None), (255, None)] {
             assert_eq!(Rule::from_number(number), rule);
             assert!(rule.is_none_or(|rule| rule.number() == number));
+        }
+    }
+
+    #[test]
+    fn desks_keep_their_numbers() {
+        let named: Vec<Desk> = (0..=255).filter_map(Desk::from_number).collect();
+        assert_eq!(named, Desk::ALL);
+        for (number, desk) in (0..).zip(Desk::ALL) {
+            assert_eq!((desk.number(), usize::from(desk)), (number, usize::from(number)));
         }
     }
 

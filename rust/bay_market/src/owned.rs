@@ -1,6 +1,9 @@
 //! The engine over lists of its own.
 
-use crate::{Change, Code, GuestOutcome, MAX_BIDS, MAX_GUESTS, MAX_SHEET, MAX_STATIONS, Refusal, Rule, StationAccount, lent};
+use crate::{
+    Change, Code, Desk, GuestOutcome, MAX_BIDS, MAX_DESKS, MAX_GUESTS, MAX_SHEET, MAX_STATIONS, Refusal, Rule, StationAccount,
+    lent,
+};
 
 /// A market: n amounts and tickets, m asks, m bays, and n times m bids, guest after guest (0: no bid).
 #[derive(Clone, Debug, Default, PartialEq, Eq)]
@@ -63,8 +66,8 @@ pub struct Ledger {
     pub guests: Vec<u64>,
     pub stations: Vec<StationAccount>,
     pub house: u64,
-    /// The last round posted; 0 before the first.
-    pub last: u32,
+    /// The last round of each desk; 0 before its first.
+    pub last: [u32; MAX_DESKS],
 }
 
 impl Market {
@@ -341,13 +344,13 @@ fn within_limits(n: usize, m: usize) -> (usize, usize) {
 impl Ledger {
     /// An empty ledger with so many accounts.
     pub fn new(guests: usize, stations: usize) -> Ledger {
-        Ledger { guests: vec![0; guests], stations: vec![StationAccount::default(); stations], house: 0, last: 0 }
+        Ledger { guests: vec![0; guests], stations: vec![StationAccount::default(); stations], house: 0, last: [0; MAX_DESKS] }
     }
 
-    /// Clears a market by a rule as [`Market::clear`] does and posts it as a round. A refused one leaves the ledger as it
-    /// is.
-    pub fn post(&mut self, rule: Rule, market: &Market, round: u32) -> Result<(), Refusal> {
-        lent::post(rule, &market.lend(), round, &mut self.lend())
+    /// Clears a market by a rule as [`Market::clear`] does and posts it as a round of a desk. A refused one leaves the
+    /// ledger as it is.
+    pub fn post(&mut self, rule: Rule, market: &Market, desk: Desk, round: u32) -> Result<(), Refusal> {
+        lent::post(rule, &market.lend(), desk, round, &mut self.lend())
     }
 
     pub fn lend(&mut self) -> lent::Ledger<'_> {
@@ -550,12 +553,15 @@ mod tests {
     }
 
     #[test]
-    fn posts_case_e_once() {
+    fn posts_case_e_once_from_each_desk() {
         let mut ledger = Ledger::new(3, 2);
-        assert_eq!(ledger.post(Rule::Median, &case_e(), 1), Ok(()));
-        assert_eq!(ledger.post(Rule::Median, &case_e(), 1), Err(Refusal::RoundOutOfTurn));
+        let [first, .., last] = Desk::ALL;
+        assert_eq!(ledger.post(Rule::Median, &case_e(), first, 1), Ok(()));
+        assert_eq!(ledger.post(Rule::Median, &case_e(), first, 1), Err(Refusal::RoundOutOfTurn));
         let stations = vec![StationAccount { sold: 3, paid: 18 }, StationAccount::default()];
-        assert_eq!(ledger, Ledger { guests: vec![24, 0, 0], stations, house: 6, last: 1 });
+        assert_eq!(ledger, Ledger { guests: vec![24, 0, 0], stations, house: 6, last: [1, 0, 0, 0, 0, 0, 0, 0] });
+        assert_eq!(ledger.post(Rule::Median, &case_e(), last, 1), Ok(()));
+        assert_eq!((ledger.guests[0], ledger.house, ledger.last), (48, 12, [1, 0, 0, 0, 0, 0, 0, 1]));
     }
 
     #[test]
@@ -567,8 +573,9 @@ mod tests {
         assert_eq!(six.clear(Rule::TwoThirds).map(cleared), Ok((5, 4, 5)));
         assert_eq!(six.clear_efficient(Rule::TwoThirds).map(cleared), Ok((5, 4, 5)));
         let mut ledger = Ledger::new(1, 6);
-        assert_eq!(ledger.post(Rule::Median, &six, 1), Ok(()));
-        assert_eq!(ledger.post(Rule::TwoThirds, &six, 2), Ok(()));
-        assert_eq!((ledger.guests[0], ledger.stations[3].paid, ledger.last), (5, 5, 2));
+        let [desk, ..] = Desk::ALL;
+        assert_eq!(ledger.post(Rule::Median, &six, desk, 1), Ok(()));
+        assert_eq!(ledger.post(Rule::TwoThirds, &six, desk, 2), Ok(()));
+        assert_eq!((ledger.guests[0], ledger.stations[3].paid, ledger.last[0]), (5, 5, 2));
     }
 }

@@ -24,7 +24,7 @@ pub enum Refusal {
     BidOutOfRange = 9,
     /// a lent table or a result list has another length
     LentLengths = 10,
-    /// the round is not the last one plus 1, or no round is left
+    /// the round is not the desk's last one plus 1, or no round is left
     RoundOutOfTurn = 11,
     /// an account is above 10^15, or would be
     AccountOverLimit = 12,
@@ -52,11 +52,13 @@ pub enum Refusal {
     FieldTooLarge = 23,
     /// the guest's number is 0 or above the market's guests
     NoSuchGuest = 24,
+    /// the desk is none of the eight: its number is above 7
+    DeskOutOfRange = 25,
 }
 
 impl Refusal {
     /// All refusals, by rising number.
-    pub const ALL: [Refusal; 24] = [
+    pub const ALL: [Refusal; 25] = [
         Refusal::SheetEnds,
         Refusal::CountsOutOfRange,
         Refusal::StrayBit,
@@ -81,6 +83,7 @@ impl Refusal {
         Refusal::MalformedText,
         Refusal::FieldTooLarge,
         Refusal::NoSuchGuest,
+        Refusal::DeskOutOfRange,
     ];
 
     /// What the refusal says.
@@ -96,7 +99,7 @@ impl Refusal {
             Refusal::AmountOutOfRange => "an amount is 0 or above 1,000",
             Refusal::BidOutOfRange => "a bid is above 1,000,000",
             Refusal::LentLengths => "a lent table or a result list has another length",
-            Refusal::RoundOutOfTurn => "the round is not the last one plus 1, or no round is left",
+            Refusal::RoundOutOfTurn => "the round is not the desk's last one plus 1, or no round is left",
             Refusal::AccountOverLimit => "an account is above 10^15, or would be",
             Refusal::BookSize => "the ledger is beyond the limits, or smaller than the market",
             Refusal::OutputTooShort => "the output is shorter than the sheet",
@@ -110,6 +113,7 @@ impl Refusal {
             Refusal::MalformedText => "a byte of the text, or its end, stands where it may not",
             Refusal::FieldTooLarge => "a field has more than ten digits, or does not fit its table",
             Refusal::NoSuchGuest => "the guest's number is 0 or above the market's guests",
+            Refusal::DeskOutOfRange => "the desk is none of the eight: its number is above 7",
         }
     }
 }

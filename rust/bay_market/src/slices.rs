@@ -180,10 +180,11 @@ pub(crate) fn post(
     amounts: &[u16],
     tickets: &[u32],
     bids: &[u32],
-    width: usize, round: u32,
+    width: usize, desk: u8, round: u32,
     guests: &mut [u64],
     stations: &mut [StationAccount],
-    house: &mut u64, last: &mut u32,
+    house: &mut u64,
+    last: &mut [u32],
 ) -> u8 {
     // SAFETY: every pointer and length is that of a live slice or number, and borrows keep
     // the written ones apart.
@@ -195,10 +196,11 @@ pub(crate) fn post(
             amounts.as_ptr(), amounts.len(),
             tickets.as_ptr(), tickets.len(),
             bids.as_ptr(), bids.len(),
-            width, round,
+            width, desk, round,
             guests.as_mut_ptr(), guests.len(),
             stations.as_mut_ptr(), stations.len(),
-            house, last,
+            house,
+            last.as_mut_ptr(), last.len(),
         )
     }
 }

@@ -4,7 +4,7 @@ mod baseline;
 
 use baseline::Scratch;
 use bay_market::lent::{self, Cleared, Counts, Explanation, Gains, Joined, Results, Tables};
-use bay_market::{Ledger, MAX_BIDS, MAX_GUESTS, MAX_SHEET, MAX_STATIONS, Rule, StationAccount};
+use bay_market::{Desk, Ledger, MAX_BIDS, MAX_GUESTS, MAX_SHEET, MAX_STATIONS, Rule, StationAccount};
 use reference::clearing::{self, Outcome};
 use reference::market::Market;
 use reference::other_rows::{self, OtherRow};
@@ -376,15 +376,15 @@ fn plain(ledger: &Ledger) -> ledger::Ledger {
         guests: ledger.guests.iter().map(|&account| account.into()).collect(),
         stations: ledger.stations.iter().map(account).collect(),
         house: ledger.house.into(),
-        last: ledger.last.into(),
+        last: ledger.last.iter().map(|&last| last.into()).collect(),
     }
 }
 
 type Post = fn(&mut Scratch, &lent::Market, u32, &mut lent::Ledger) -> Result<(), u8>;
 
 const POSTINGS: [Post; 2] = [
-    |_, market, round, ledger| lent::post(Rule::Median, market, round, ledger).map_err(|refusal| refusal.number()),
-    |scratch, market, round, ledger| baseline::post(scratch, Rule::Median, market, round, ledger),
+    |_, market, round, ledger| lent::post(Rule::Median, market, Desk::ALL[0], round, ledger).map_err(|refusal| refusal.number()),
+    |scratch, market, round, ledger| baseline::post(scratch, Rule::Median, market, 0, round, ledger),
 ];
 
 fn postings(random: &mut Random) {
@@ -395,11 +395,11 @@ fn postings(random: &mut Random) {
         let mut working = [Scratch::new(), Scratch::new()].map(|scratch| (scratch, Ledger::new(MAX_GUESTS, MAX_STATIONS)));
         let mut expected = ledger::Ledger::empty(MAX_GUESTS, MAX_STATIONS);
         let run = |post: Post, market: &Market, (scratch, ledger): &mut (Box<Scratch>, Ledger)| {
-            let round = ledger.last + 1;
+            let round = ledger.last[0] + 1;
             black_box(post(scratch, &lend(market), round, &mut ledger.lend())).expect("an accepted posting");
         };
         for (round, market) in (1..).zip(&markets) {
-            expected.post(1, market, round).expect("an accepted posting");
+            expected.post(1, market, 0, round).expect("an accepted posting");
             for (post, working) in POSTINGS.iter().zip(&mut working) {
                 run(*post, market, working);
                 assert!(plain(&working.1) == expected, "a contender differs from the reference");

@@ -7,7 +7,8 @@ use bay_market::c::{
     bay_market_read, bay_market_read_csv, bay_market_try, bay_market_write,
 };
 use bay_market::{
-    Cell, Change, Code, MAX_BIDS, MAX_GUESTS, MAX_SHEET, MAX_STATIONS, Reason, Refusal, Rule, StationAccount, lent,
+    Cell, Change, Code, Desk, MAX_BIDS, MAX_DESKS, MAX_GUESTS, MAX_SHEET, MAX_STATIONS, Reason, Refusal, Rule, StationAccount,
+    lent,
 };
 use reference::clearing::{self, Outcome};
 use reference::explaining::{Explanation, GuestOutcome};
@@ -847,6 +848,7 @@ fn tell_row_by(way: Way, rule: Rule, market: &Market, other: &OtherRow) -> Resul
 pub struct Posting<'a> {
     pub rule: u8,
     pub market: &'a Market,
+    pub desk: u8,
     pub round: u32,
     pub before: &'a Ledger,
     pub expected: Result<(), u8>,
@@ -855,14 +857,15 @@ pub struct Posting<'a> {
 
 /// Posts a market and holds answer and memory to what is expected.
 pub fn post(random: &mut Random, posting: &Posting) -> Result<(), String> {
-    let Posting { rule, market, round, before, expected, after } = *posting;
-    each_way(|way| match (way, Rule::from_number(rule)) {
+    let Posting { rule, market, desk, round, before, expected, after } = *posting;
+    let known = Rule::from_number(rule).zip(Desk::from_number(desk));
+    each_way(|way| match (way, known) {
         (Way::C, _) | (Way::Slices, Some(_)) => post_lent(way, random, posting),
         (_, None) => Ok(()), // the types do not let it happen
-        (Way::Owned, _) if market.width != market.stations() => Ok(()),
-        (Way::Owned, Some(rule)) => {
+        (Way::Owned, _) if market.width != market.stations() || before.last.len() != MAX_DESKS => Ok(()),
+        (Way::Owned, Some((rule, desk))) => {
             let mut ledger = own_ledger(before);
-            let answer = ledger.post(rule, &own(market), round).map_err(Refusal::number);
+            let answer = ledger.post(rule, &own(market), desk, round).map_err(Refusal::number);
             require(answer == expected && ledger == own_ledger(after), "the owned ledger differs")
         }
     })
@@ -870,12 +873,12 @@ pub fn post(random: &mut Random, posting: &Posting) -> Result<(), String> {
 
 #[rustfmt::skip] // pointer and length on one line
 fn post_lent(way: Way, random: &mut Random, posting: &Posting) -> Result<(), String> {
-    let Posting { rule, market, round, before, expected, after } = *posting;
+    let Posting { rule, market, desk, round, before, expected, after } = *posting;
     let mut tables = Tables::of(random, market);
     let mut guests: Lent<u64> = Lent::holding(random, &guest_accounts(before));
     let mut stations: Lent<StationAccount> = Lent::holding(random, &station_accounts(before));
     let mut house: Lent<u64> = Lent::holding(random, &[narrow(before.house)]);
-    let mut last: Lent<u32> = Lent::holding(random, &[narrow(before.last)]);
+    let mut last: Lent<u32> = Lent::holding(random, &last_rounds(before));
     let answer = match way {
         // SAFETY: as in `read_lent`.
         Way::C => unsafe {
@@ -886,17 +889,19 @@ fn post_lent(way: Way, random: &mut Random, posting: &Posting) -> Result<(), Str
                 tables.amounts.pointer(), tables.amounts.len(),
                 tables.tickets.pointer(), tables.tickets.len(),
                 tables.bids.pointer(), tables.bids.len(),
-                market.width, round,
+                market.width, desk, round,
                 guests.pointer(), guests.len(),
                 stations.pointer(), stations.len(),
-                house.pointer(), last.pointer(),
+                house.pointer(),
+                last.pointer(), last.len(),
             )
         },
         _ => {
             let mut ledger = lent::Ledger {
-                guests: guests.slice(), stations: stations.slice(), house: house.number(), last: last.number(),
+                guests: guests.slice(), stations: stations.slice(), house: house.number(), last: last.slice(),
             };
-            numbered(lent::post(known(rule), &tables.lend(market.width), round, &mut ledger), |()| ())
+            let desk = Desk::from_number(desk).expect("a desk");
+            numbered(lent::post(known(rule), &tables.lend(market.width), desk, round, &mut ledger), |()| ())
         }
     };
     require_answer(answer, &expected)?;
@@ -904,7 +909,11 @@ fn post_lent(way: Way, random: &mut Random, posting: &Posting) -> Result<(), Str
     require(guests.holds(guest_accounts(after)), "guest accounts differ")?;
     require(stations.holds(station_accounts(after)), "station accounts differ")?;
     require(house.holds([narrow(after.house)]), "the house's account differs")?;
-    require(last.holds([narrow(after.last)]), "the last round differs")
+    require(last.holds(last_rounds(after)), "the last rounds differ")
+}
+
+fn last_rounds(ledger: &Ledger) -> Vec<u32> {
+    ledger.last.iter().map(|&last| narrow(last)).collect()
 }
 
 fn guest_accounts(ledger: &Ledger) -> Vec<u64> {
@@ -978,7 +987,7 @@ fn own_ledger(ledger: &Ledger) -> bay_market::Ledger {
         guests: guest_accounts(ledger),
         stations: station_accounts(ledger),
         house: narrow(ledger.house),
-        last: narrow(ledger.last),
+        last: last_rounds(ledger).try_into().expect("eight desks"),
     }
 }
 

@@ -3,7 +3,7 @@
 use crate::Tally;
 use crate::call;
 use crate::markets::{Change, PAIRS, Pair, RULES, accepted, any_rule, changed, changes, middling, shapes, show};
-use reference::faults::{ListLengths, MAX_GUESTS, MAX_PRICE, MAX_STATIONS};
+use reference::faults::{ListLengths, MAX_DESKS, MAX_GUESTS, MAX_PRICE, MAX_STATIONS};
 use reference::ledger::{Ledger, MAX_ACCOUNT, MAX_ROUND};
 use reference::market::Market;
 use reference::random::{Random, Shape};
@@ -15,14 +15,16 @@ fn check(
     ledger: &mut Ledger,
     rule: u8,
     market: &Market,
+    desk: u8,
     round: u32,
 ) -> Result<(), String> {
     let before = ledger.clone();
-    let expected = ledger.post(rule, market, round);
+    let expected = ledger.post(rule, market, desk, round);
     tally.count(&expected);
-    let posting = call::Posting { rule, market, round, before: &before, expected, after: ledger };
-    call::post(random, &posting)
-        .map_err(|what| format!("{what}\nrule {rule}\nround {round}\nledger {before:?}\nexpected {ledger:?}\n{}", show(market)))
+    let posting = call::Posting { rule, market, desk, round, before: &before, expected, after: ledger };
+    call::post(random, &posting).map_err(|what| {
+        format!("{what}\nrule {rule}\ndesk {desk}\nround {round}\nledger {before:?}\nexpected {ledger:?}\n{}", show(market))
+    })
 }
 
 /// How many accounts of a kind a ledger has: mostly enough for the greatest count, now and then too few or too many.
@@ -35,6 +37,17 @@ fn accounts(random: &mut Random, greatest: u64, limit: u64) -> usize {
         _ => random.within(greatest..=limit),
     };
     accounts as usize
+}
+
+/// How many last rounds a ledger has: mostly one for each desk.
+fn lasts(random: &mut Random) -> usize {
+    match random.below(16) {
+        0 => random.below(MAX_DESKS),
+        1 => random.within(9..=300) as usize,
+        2 => MAX_DESKS - 1,
+        3 => MAX_DESKS + 1,
+        _ => MAX_DESKS,
+    }
 }
 
 fn round(random: &mut Random, last: u128) -> u32 {
@@ -51,7 +64,7 @@ fn round(random: &mut Random, last: u128) -> u32 {
 fn to_the_limit(random: &mut Random, ledger: &mut Ledger, rule: u8, market: &Market) {
     // what the market adds to each account: nothing where it is refused
     let mut added = Ledger::empty(ledger.guests.len(), ledger.stations.len());
-    let _ = added.post(rule, market, 1);
+    let _ = added.post(rule, market, 0, 1);
     let mut accounts: Vec<(&mut u128, u128)> = ledger.guests.iter_mut().zip(added.guests).collect();
     for (account, added) in ledger.stations.iter_mut().zip(added.stations) {
         accounts.push((&mut account.sold, added.sold));
@@ -84,8 +97,12 @@ fn list(random: &mut Random, tally: &mut Tally, shapes: &[Shape], moved: bool) -
     let stations = accounts(random, *shape[0].stations.end(), MAX_STATIONS as u64);
     let mut ledger = Ledger::empty(guests, stations);
     if moved {
-        ledger.last = *random.pick(&[0, 1, 65_535, 65_536, MAX_ROUND / 2, MAX_ROUND - 3, MAX_ROUND - 1, MAX_ROUND]);
+        let rounds = [0, 1, 65_535, 65_536, MAX_ROUND / 2, MAX_ROUND - 3, MAX_ROUND - 1, MAX_ROUND];
+        ledger.last = (0..lasts(random)).map(|_| *random.pick(&rounds)).collect();
     }
+    // in some lists one desk posts all, in the others two or all eight do
+    let desks = *random.pick(&[1, 2, MAX_DESKS]);
+    let first = random.below(MAX_DESKS + 1 - desks);
     let postings = if random.chance(2) { 13..=80 } else { 1..=12 };
     for _ in 0..random.within(postings) {
         let mut market = accepted(random, &shape);
@@ -100,10 +117,12 @@ fn list(random: &mut Random, tally: &mut Tally, shapes: &[Shape], moved: bool) -
         if moved && random.chance(40) {
             to_the_limit(random, &mut ledger, rule, &market);
         }
-        let round = round(random, ledger.last);
-        check(random, tally, &mut ledger, rule, &market, round)?;
+        let desk = if random.chance(5) { random.within(8..=255) as u8 } else { (first + random.below(desks)) as u8 };
+        let last = ledger.last.get(usize::from(desk)).copied().unwrap_or(0);
+        let round = round(random, last);
+        check(random, tally, &mut ledger, rule, &market, desk, round)?;
         if moved && random.chance(30) {
-            ledger = Ledger { last: ledger.last, ..Ledger::empty(guests, stations) };
+            ledger = Ledger { last: ledger.last.clone(), ..Ledger::empty(guests, stations) };
         }
     }
     if !moved && !ledger.balances() {
@@ -112,33 +131,59 @@ fn list(random: &mut Random, tally: &mut Tally, shapes: &[Shape], moved: bool) -
     Ok(())
 }
 
-/// Equal tickets alone, and with every choice of a bid out of range, which goes before them, and of a book too small, a
-/// round out of turn and an account over its limit, which come after.
-fn repeated(random: &mut Random, tally: &mut Tally, pair: Pair) -> Result<(), String> {
-    let market = Shape { guests: 2..=40, ..middling() }.market(random);
-    let market = changed(random, &market, Change::Tickets(pair, 0));
-    for choice in 0..1 << 4 {
+/// Every choice of a bid out of range, equal tickets, a book too small, a list of last rounds too short or too long, a desk
+/// too high, a round out of turn and an account over its limit: the first of them is answered.
+fn in_turn(random: &mut Random, tally: &mut Tally, pair: Pair) -> Result<(), String> {
+    let sound = Shape { guests: 2..=40, ..middling() }.market(random);
+    let equal = changed(random, &sound, Change::Tickets(pair, 0));
+    for choice in 0..1 << 7 {
         let chosen = |fault: u32| choice >> fault & 1 == 1;
-        let mut market = market.clone();
+        let mut market = if chosen(1) { equal.clone() } else { sound.clone() };
         if chosen(0) {
             *market.bids.last_mut().expect("a bid") = MAX_PRICE + 1;
         }
-        let mut ledger = Ledger::empty(market.guests() - usize::from(chosen(1)), market.stations());
-        ledger.house = MAX_ACCOUNT + u128::from(chosen(3));
+        let mut ledger = Ledger::empty(market.guests() - usize::from(chosen(2)), market.stations());
+        if chosen(3) {
+            ledger.last.resize(*random.pick(&[MAX_DESKS - 1, MAX_DESKS + 1]), 0);
+        }
+        let desk = if chosen(4) { MAX_DESKS } else { random.below(MAX_DESKS) } as u8;
+        let round = 1 + u32::from(chosen(5));
+        if chosen(6) {
+            ledger.house = MAX_ACCOUNT + 1;
+        }
         for rule in RULES {
-            check(random, tally, &mut ledger.clone(), rule, &market, 1 + u32::from(chosen(2)))?;
+            check(random, tally, &mut ledger.clone(), rule, &market, desk, round)?;
         }
     }
     Ok(())
 }
 
+/// One desk posts the last two rounds that there are and is refused from then on, while the others go on; the rules mix.
+fn to_the_last_round(random: &mut Random, tally: &mut Tally, ending: usize) -> Result<(), String> {
+    let mut ledger = Ledger::empty(MAX_GUESTS, MAX_STATIONS);
+    ledger.last[ending] = MAX_ROUND - 2;
+    for _ in 0..4 {
+        for desk in 0..MAX_DESKS {
+            let market = accepted(random, &[middling()]);
+            let rule = *random.pick(&RULES[..2]);
+            let next = (ledger.last[desk] as u32).wrapping_add(1);
+            check(random, tally, &mut ledger, rule, &market, desk as u8, next)?;
+        }
+    }
+    let ended = (0..MAX_DESKS).all(|desk| ledger.last[desk] == if desk == ending { MAX_ROUND } else { 4 });
+    if ended { Ok(()) } else { Err(format!("the plain book's last rounds are {:?}", ledger.last)) }
+}
+
 pub fn run(random: &mut Random, tally: &mut Tally, cases: usize) -> Result<(), String> {
     for pair in PAIRS {
-        repeated(random, tally, pair)?;
+        in_turn(random, tally, pair)?;
+    }
+    for ending in 0..MAX_DESKS {
+        to_the_last_round(random, tally, ending)?;
     }
     let shapes = shapes();
     for case in 0..cases {
         list(random, tally, &shapes, case % 2 == 1)?;
     }
-    tally.require(&[0, 2, 5, 6, 7, 8, 9, 11, 12, 13, 15, 18])
+    tally.require(&[0, 2, 5, 6, 7, 8, 9, 11, 12, 13, 15, 18, 25])
 }

@@ -86,6 +86,7 @@ fn limits_and_version_agree() {
     let expected = BTreeMap::from([
         ("MAX_GUESTS", bay_market::MAX_GUESTS as u64),
         ("MAX_STATIONS", bay_market::MAX_STATIONS as u64),
+        ("MAX_DESKS", bay_market::MAX_DESKS as u64),
         ("MAX_BIDS", bay_market::MAX_BIDS as u64),
         ("MAX_PRICE", bay_market::MAX_PRICE.into()),
         ("MAX_AMOUNT", bay_market::MAX_AMOUNT.into()),
@@ -109,6 +110,7 @@ fn limits_and_version_agree() {
 fn the_limits_are_the_references() {
     use reference::{faults, ledger};
     assert_eq!((bay_market::MAX_GUESTS, bay_market::MAX_STATIONS), (faults::MAX_GUESTS, faults::MAX_STATIONS));
+    assert_eq!(bay_market::MAX_DESKS, faults::MAX_DESKS);
     assert_eq!((bay_market::MAX_PRICE, bay_market::MAX_AMOUNT), (faults::MAX_PRICE, faults::MAX_AMOUNT));
     assert_eq!((bay_market::MAX_BAYS, bay_market::MAX_CELL), (faults::MAX_BAYS, faults::MAX_CELL));
     assert_eq!(u128::from(bay_market::MAX_ACCOUNT), ledger::MAX_ACCOUNT);

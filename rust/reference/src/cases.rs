@@ -421,17 +421,29 @@ fn the_largest_sheet_has_34_444_bytes() {
 #[test]
 fn case_e_posts_once_as_round_1() {
     let mut ledger = Ledger::empty(3, 2);
-    assert_eq!(ledger.post(1, &samples::case_e(), 1), Ok(()));
+    assert_eq!(ledger.post(1, &samples::case_e(), 0, 1), Ok(()));
     let posted = Ledger {
         guests: vec![24, 0, 0],
         stations: vec![StationAccount { sold: 3, paid: 18 }, StationAccount::default()],
         house: 6,
-        last: 1,
+        last: vec![1, 0, 0, 0, 0, 0, 0, 0],
     };
     assert_eq!(ledger, posted);
     assert!(ledger.balances());
-    assert_eq!(ledger.post(1, &samples::case_e(), 1), Err(11));
+    assert_eq!(ledger.post(1, &samples::case_e(), 0, 1), Err(11));
     assert_eq!(ledger, posted);
+}
+
+#[test]
+fn desks_count_their_own_rounds() {
+    let mut ledger = Ledger::empty(2, 2);
+    for desk in 0..8 {
+        assert_eq!(ledger.post(1, &samples::case_e(), desk, 1), Ok(()));
+        assert_eq!(ledger.post(1, &samples::case_e(), desk, 1), Err(11));
+        assert_eq!(ledger.last.iter().sum::<u128>(), u128::from(desk) + 1);
+    }
+    assert_eq!((ledger.guests[0], ledger.house, ledger.balances()), (8 * 24, 8 * 6, true));
+    assert_eq!(ledger.post(1, &samples::case_e(), 8, 1), Err(25));
 }
 
 /// Asks 1 to 6, one bay each, one guest of 1 kWh.
@@ -460,39 +472,45 @@ fn asks_1_to_6_have_a_cut_by_each_rule() {
 fn rounds_of_both_rules_stand_in_one_book() {
     let first = six([9, 0, 0, 0, 0, 0]);
     let mut ledger = Ledger::empty(1, 6);
-    assert_eq!(ledger.post(1, &first, 1), Ok(()));
-    assert_eq!(ledger.post(2, &first, 2), Ok(()));
-    assert_eq!(ledger.post(3, &first, 3), Err(18));
-    assert_eq!((ledger.guests[0], ledger.stations[0].sold, ledger.stations[0].paid, ledger.last), (9, 2, 9, 2));
+    assert_eq!(ledger.post(1, &first, 0, 1), Ok(()));
+    assert_eq!(ledger.post(2, &first, 0, 2), Ok(()));
+    assert_eq!(ledger.post(3, &first, 0, 3), Err(18));
+    assert_eq!((ledger.guests[0], ledger.stations[0].sold, ledger.stations[0].paid, ledger.last[0]), (9, 2, 9, 2));
 }
 
 #[test]
 fn posting_refuses_in_the_tables_order() {
     let case_e = samples::case_e();
     let over = Ledger { house: MAX_ACCOUNT + 1, ..Ledger::empty(201, 2) };
-    assert_eq!(over.clone().post(0, &samples::refused(), 2), Err(18));
-    assert_eq!(over.clone().post(1, &samples::refused(), 2), Err(6));
-    assert_eq!(over.clone().post(1, &Market { tickets: vec![7, 7], ..case_e.clone() }, 2), Err(15));
-    assert_eq!(over.clone().post(1, &case_e, 2), Err(13));
+    assert_eq!(over.clone().post(0, &samples::refused(), 0, 2), Err(18));
+    assert_eq!(over.clone().post(1, &samples::refused(), 0, 2), Err(6));
+    assert_eq!(over.clone().post(1, &Market { tickets: vec![7, 7], ..case_e.clone() }, 0, 2), Err(15));
+    assert_eq!(over.clone().post(1, &case_e, 0, 2), Err(13));
     for (guests, stations, answer) in [(200, 40, Ok(())), (2, 2, Ok(())), (1, 2, Err(13)), (2, 1, Err(13)), (2, 41, Err(13))] {
-        assert_eq!(Ledger::empty(guests, stations).post(1, &case_e, 1), answer);
+        assert_eq!(Ledger::empty(guests, stations).post(1, &case_e, 0, 1), answer);
+    }
+    for lasts in [0, 7, 9] {
+        let mut odd = Ledger { last: vec![0; lasts], ..Ledger::empty(2, 2) };
+        assert_eq!(odd.post(1, &case_e, 8, 2), Err(13));
     }
     let mut over = Ledger { guests: vec![0; 2], ..over };
-    assert_eq!(over.post(1, &case_e, 2), Err(11));
-    assert_eq!(over.post(1, &case_e, 1), Err(12));
+    assert_eq!(over.post(1, &case_e, 8, 2), Err(25));
+    assert_eq!(over.post(1, &case_e, 0, 2), Err(11));
+    assert_eq!(over.post(1, &case_e, 0, 1), Err(12));
     over.house = MAX_ACCOUNT;
-    assert_eq!(over.post(1, &case_e, 1), Err(12));
+    assert_eq!(over.post(1, &case_e, 0, 1), Err(12));
     over.house -= 6;
-    assert_eq!(over.post(1, &case_e, 1), Ok(()));
+    assert_eq!(over.post(1, &case_e, 0, 1), Ok(()));
 }
 
 #[test]
 fn no_round_follows_the_last() {
-    let mut ledger = Ledger { last: 4_294_967_294, ..Ledger::empty(2, 2) };
-    assert_eq!(ledger.post(1, &samples::case_e(), u32::MAX), Ok(()));
+    let mut ledger = Ledger { last: vec![4_294_967_294, 0, 0, 0, 0, 0, 0, 0], ..Ledger::empty(2, 2) };
+    assert_eq!(ledger.post(1, &samples::case_e(), 0, u32::MAX), Ok(()));
     for round in [0, 1, u32::MAX] {
-        assert_eq!(ledger.post(1, &samples::case_e(), round), Err(11));
+        assert_eq!(ledger.post(1, &samples::case_e(), 0, round), Err(11));
     }
+    assert_eq!(ledger.post(1, &samples::case_e(), 1, 1), Ok(()));
 }
 
 /// Guests with these prices, falls and cells, and stations at these cells.

@@ -27,9 +27,11 @@ pub const TICKET_IN_BOTH: u8 = 21;
 pub const MALFORMED_TEXT: u8 = 22;
 pub const FIELD_TOO_LARGE: u8 = 23;
 pub const NO_SUCH_GUEST: u8 = 24;
+pub const DESK_OUT_OF_RANGE: u8 = 25;
 
 pub const MAX_GUESTS: usize = 200;
 pub const MAX_STATIONS: usize = 40;
+pub const MAX_DESKS: usize = 8;
 pub const MAX_PRICE: u32 = 1_000_000;
 pub const MAX_AMOUNT: u16 = 1_000;
 pub const MAX_BAYS: u16 = 200;

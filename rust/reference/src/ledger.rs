@@ -1,7 +1,7 @@
 //! Document 01, 'The book': the plain book, in numbers that do not run over.
 
 use crate::clearing::clear;
-use crate::faults::{self, ListLengths, MAX_GUESTS, MAX_STATIONS};
+use crate::faults::{self, ListLengths, MAX_DESKS, MAX_GUESTS, MAX_STATIONS};
 use crate::market::Market;
 
 pub const MAX_ACCOUNT: u128 = 1_000_000_000_000_000;
@@ -19,28 +19,38 @@ pub struct Ledger {
     pub guests: Vec<u128>,
     pub stations: Vec<StationAccount>,
     pub house: u128,
-    pub last: u128,
+    /// Of each desk.
+    pub last: Vec<u128>,
 }
 
 impl Ledger {
     pub fn empty(guests: usize, stations: usize) -> Ledger {
-        Ledger { guests: vec![0; guests], stations: vec![StationAccount::default(); stations], house: 0, last: 0 }
+        Ledger {
+            guests: vec![0; guests],
+            stations: vec![StationAccount::default(); stations],
+            house: 0,
+            last: vec![0; MAX_DESKS],
+        }
     }
 
-    /// Posts a market, cleared under the rule of a number, as a round, or answers the number of the first fault and changes
-    /// nothing.
-    pub fn post(&mut self, rule: u8, market: &Market, round: u32) -> Result<(), u8> {
+    /// Posts a market, cleared under the rule of a number, as a round of a desk, or answers the number of the first fault
+    /// and changes nothing.
+    pub fn post(&mut self, rule: u8, market: &Market, desk: u8, round: u32) -> Result<(), u8> {
         faults::clearing_fault(rule, market, ListLengths::of(market))?;
         let (guests, stations) = (self.guests.len(), self.stations.len());
         let over = guests > MAX_GUESTS || stations > MAX_STATIONS;
         let small = guests < market.guests() || stations < market.stations();
-        if over || small {
+        if over || small || self.last.len() != MAX_DESKS {
             return Err(faults::BOOK_SIZE);
         }
-        if self.last == MAX_ROUND || u128::from(round) != self.last + 1 {
+        if usize::from(desk) >= MAX_DESKS {
+            return Err(faults::DESK_OUT_OF_RANGE);
+        }
+        let last = self.last[usize::from(desk)];
+        if last == MAX_ROUND || u128::from(round) != last + 1 {
             return Err(faults::ROUND_OUT_OF_TURN);
         }
-        let after = self.with(rule, market, round);
+        let after = self.with(rule, market, desk, round);
         if self.above_limit() || after.above_limit() {
             return Err(faults::ACCOUNT_OVER_LIMIT);
         }
@@ -49,7 +59,7 @@ impl Ledger {
     }
 
     /// The ledger with the market's clearing added.
-    fn with(&self, rule: u8, market: &Market, round: u32) -> Ledger {
+    fn with(&self, rule: u8, market: &Market, desk: u8, round: u32) -> Ledger {
         let outcome = clear(rule, market);
         let mut after = self.clone();
         for guest in 0..market.guests() {
@@ -60,7 +70,7 @@ impl Ledger {
             after.stations[station].paid += outcome.paid[station];
         }
         after.house += outcome.margin;
-        after.last = u128::from(round);
+        after.last[usize::from(desk)] = u128::from(round);
         after
     }
 

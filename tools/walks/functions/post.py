@@ -4,7 +4,7 @@ each for good."""
 from context import Walk
 from frame import Callee, each, formulas, Function, Lent, Number, owns, projection, Record, rows, tokens
 from layout import laid
-from market import BOOK, GUESTS, HOUSE, LAST, LIFETIMES, POSTED, posted, ROUND, RULE, SLICES, WIDTH
+from market import BOOK, DESK, GUESTS, HOUSE, LAST, LIFETIMES, POSTED, posted, ROUND, RULE, SLICES, WIDTH
 
 PLAN = Callee('ledger', 'planning.plan', 'plan', 'Plan')
 EXCEED = Callee('ledger', 'stations.stations_exceed', 'exceed', 'Exceed')
@@ -12,7 +12,7 @@ SETTLE = Callee('ledger', 'settling.settle', 'settle', 'Settle')
 ADD = Callee('ledger', 'stations.add_sales', 'add', 'Add')
 ROW = Lent('(x γ)', 'T.the-row', 6, value='s')
 ROW.label = 'stations'
-FUNCTION = Function('ledger', 'post', 9, [RULE, *SLICES, WIDTH, ROUND, GUESTS, ROW, HOUSE, LAST],
+FUNCTION = Function('ledger', 'post', 9, [RULE, *SLICES, WIDTH, DESK, ROUND, GUESTS, ROW, HOUSE, LAST],
                     [PLAN, EXCEED, SETTLE, ADD], naming=each, uses='''\
 Rattle.model.specs.market.Market: tables
 Rattle.ledger.specs.declared.round.Round: Round
@@ -33,11 +33,12 @@ Rattle.model.specs.book.Book: Book book
 Rattle.ledger.specs.Plans: Planned
 Rattle.ledger.proofs.Posting: posts
 ''')
-# what `settle` is passed: the round, whether an account is full, how many stations, the round's number, three `&mut`s
+# what `settle` is passed: the round, whether an account is full, how many stations, the round's desk and number, three
+# `&mut`s
 MADE = Record('d', 'R', value='v')
 STATIONS = Number('n', 'usize', 'n-fits')
 FULL = ('Boolean', '(bool-makes 𝓤 H A W)', '(exceedingTo d n ys)', '(vbool (exceedingTo d n ys) ∷ [])', 'refl')
-SETTLED = ['plain', 'plain', 'plain', 'plain', 'slice', 'ref', 'ref']
+SETTLED = ['plain', 'plain', 'plain', 'plain', 'plain', 'slice', 'ref', 'slice']
 LISTS = ' '.join(f'(ls{projection(i)})' for i, kind in enumerate(SETTLED) if kind != 'plain')
 # the lifetimes whose tokens `plan` and `settle` are given
 OF_PLAN, OF_SETTLE = range(len(SLICES)), (5, 7, 8)
@@ -66,7 +67,8 @@ def goes_settle():
     w = Walk('tokens', 'guests', 'house and last').fsplit('house and last', 'house', 'last').nothing('owns')
     for p in (LAST, HOUSE, GUESTS):
         w.add(p.name)
-    for name, made in (('round', ROUND.made()), ('n', STATIONS.made()), ('full', FULL), ('made', MADE.made('gd'))):
+    for name, made in (('round', ROUND.made()), ('desk', DESK.made()), ('n', STATIONS.made()), ('full', FULL),
+                       ('made', MADE.made('gd'))):
         w.add(name, *made)
     return w.join('tokens', 'owns', 'asked').frame().end('done !')
 
@@ -81,7 +83,7 @@ def goes_add():
 
 def exits():
     w = Walk('of plan', 'Market', 'of add', 'stations', 'of settle', 'guests', 'house', 'last')
-    w.step('says ! (posts (posting rule (tables (now asks) (now bays) (now amounts) (now tickets) (now bids) width) round) '
+    w.step('says ! (posts (posting rule (tables (now asks) (now bays) (now amounts) (now tickets) (now bids) width) desk round) '
            'entry d (exceedingTo d n ys) e₀ refl c guests′ stations′ house′ last′ e₂ e₃)')
     token = [f'token {l}' for l in range(9)]
     w.chain('of plan', *token[:5], 'true of plan', how='split')
@@ -92,7 +94,7 @@ def exits():
     w.frame().nothing('owns')
     for p, name in ((LAST, 'last'), (HOUSE, 'house'), (ROW, 'stations'), (GUESTS, 'guests')):
         w.add(name)
-    for p in (ROUND, WIDTH):
+    for p in (ROUND, DESK, WIDTH):
         w.owned(p.name, *p.made()).add(p.name)
     w.chain('Market', *KEPT)
     for p in reversed(SLICES):
@@ -105,12 +107,12 @@ def exits():
 
 
 def walk():
-    w = Walk('tokens', 'owns').allocate(26)
-    w.passes(*(p.typed(each, 'gg') if p is GUESTS else p.typed(each, 'gn') if p is ROW else p.typed(each)
-               for p in FUNCTION.parameters))
+    w = Walk('tokens', 'owns').allocate(28)
+    rooms = {GUESTS: 'gg', ROW: 'gn', LAST: 'gl'}
+    w.passes(*(p.typed(each, rooms[p]) if p in rooms else p.typed(each) for p in FUNCTION.parameters))
     made, full, ruling = w.take(), w.take(), w.take()
     w.note('what the parameters own and their tokens, apart; `plan`')
-    w.chain('owns', *(p.name for p in FUNCTION.parameters), 'true').drop('true', 'rule', 'width', 'round')
+    w.chain('owns', *(p.name for p in FUNCTION.parameters), 'true').drop('true', 'rule', 'width', 'desk', 'round')
     w.unchain('Market', *KEPT)
     token = [f'token {l}' for l in range(9)]
     w.chain('tokens', *token[:7], 'the last', how='split').join(token[5], 'the last', 'of settle')
@@ -149,13 +151,13 @@ def walk():
     w.note('`settle`')
     length = w.copied(w.field(stations, 1), 'tt, record { fits = gn .0 }')
     lent = [w.lend_slice(FUNCTION.local('guests'), 'gg .0')]
-    lent += [w.lend_ref(FUNCTION.local('house')), w.lend_ref(FUNCTION.local('last'))]
+    lent += [w.lend_ref(FUNCTION.local('house')), w.lend_slice(FUNCTION.local('last'), 'gl .0')]
     w.fjoin('house', 'last', 'house and last')
     w.asked(['of settle', 'guests', 'house and last'], SETTLE, '(to-settle d u₀)', '(goes-settle d u₀ gd (gn .0))')
-    w.call(SETTLE, '(to-settle d u₀)', w.arguments(made, full, length, FUNCTION.local('round'), *lent), 'u₂', 'c',
-           'Ruling', 'tokens₃', 'Q.the-row', 'κs₃', '(settle-args d)')
+    w.call(SETTLE, '(to-settle d u₀)', w.arguments(made, full, length, *FUNCTION.locals([DESK, ROUND]), *lent), 'u₂',
+           'c', 'Ruling', 'tokens₃', 'Q.the-row', 'κs₃', '(settle-args d)')
     w.hear_lasts(SETTLE, 'κs₃', '(settle-args d)', 'ls', f'Left d c {LISTS}', 'e₂')
-    w.take_lasts(zip(SETTLED, ['', '', '', '', 'guests', 'house', 'last'], ['', '', '', '', 'l-guests', '', '']))
+    w.take_lasts(zip(SETTLED, [*[''] * 5, 'guests', 'house', 'last'], [*[''] * 5, 'l-guests', '', 'l-last']))
     w.given('of settle', 'result').learn('facts', 'Q.the-row', 'c', 'u₂', 'is₂')
     w.land(ruling, 'LL.lawful Q.the-type Q′.the-laws 𝓤 H A W .typed c _ is₂ .0')
     w.rewrite(ruling, f'λ (z : Val). ‵ (fat fullShare Q′.mir l{ruling[1:]} 0 z)',
@@ -179,19 +181,19 @@ def walk():
     w.copy(w.field(ruling, 0), '_0', 'EL.lawful S.the-type S′.the-laws 𝓤 H A W tt .typed (c .reply) _ '
            '(LL.owed Q.the-type Q′.the-laws c _ is₂ .0) .0').leave()
     w.keep('of plan', 'Market', 'of add', 'stations', 'of settle', 'guests', 'house', 'last')
-    guests, house, last = (f'(ls{projection(i)})' for i in (4, 5, 6))
-    return w.end(f'by ! (exits d c u₂ {guests} (zs .0) {house} {last} e₀ e₂ e₃ is₂ l-stations l-guests)')
+    guests, house, last = (f'(ls{projection(i)})' for i in (5, 6, 7))
+    return w.end(f'by ! (exits d c u₂ {guests} (zs .0) {house} {last} e₀ e₂ e₃ is₂ l-stations l-guests l-last)')
 
 
 def proof():
     f = FUNCTION
     walked = f.walked(walk(), posted(f, lambda row: f'({row} .ptr .0) ({row} .ptr .1) ({row} .name) ({row} .now)'),
-                      [*(p.fact(each) for p in [*SLICES, GUESTS]), 'Room T.the-row n'],
-                      'g-asks g-bays g-amounts g-tickets g-bids gg gn',
+                      [*(p.fact(each) for p in [*SLICES, GUESTS]), 'Room T.the-row n', LAST.fact(each)],
+                      'g-asks g-bays g-amounts g-tickets g-bids gg gn gl',
                       entry=f'({tokens(range(9), each)}) ∷ ‵ (owns ({f.rows()}) a at)')
     settled = ['v ∷ []', 'vbool (exceedingTo d n ys) ∷ []', 'vint w64 n ∷ []',
-               *(f'{p.value()} ∷ []' for p in (ROUND, GUESTS, HOUSE, LAST))]
-    return f.proof(TEMPLATE, f'{POSTED} (b o : ℕ) (γ : GName) (ys : List StationAccount) (house last : Num)', walked,
+               *(f'{p.value()} ∷ []' for p in (DESK, ROUND, GUESTS, HOUSE, LAST))]
+    return f.proof(TEMPLATE, f'{POSTED} (b o : ℕ) (γ : GName) (ys : List StationAccount) (house : Num) (last : Nums)', walked,
                    owns=owns([*SLICES, ROW, GUESTS, HOUSE, LAST], each, 0), book=BOOK, lifetimes=LIFETIMES,
                    goes_plan=goes_plan(), goes_exceed=goes_exceed(), goes_settle=goes_settle(), goes_add=goes_add(),
                    exits=exits(), names=f.names().replace('(x γ)', 'x γ'),
@@ -314,10 +316,10 @@ valS r = EL.val S.the-type S′.the-laws r
   tokens₃ = («of_settle»)
 
   abbrev SArg : Type 0
-  SArg = Round × (Bool × (ℕ × (ℕ × (Nums × (Num × (Num × Unit {0}))))))
+  SArg = Round × (Bool × (ℕ × (ℕ × (ℕ × (Nums × (Num × (Nums × Unit {0})))))))
 
   abbrev settle-args : Round → SArg
-  settle-args d = (d, (exceedingTo d n ys, (n, (round, (guests, (house, (last, tt)))))))
+  settle-args d = (d, (exceedingTo d n ys, (n, (desk, (round, (guests, (house, (last, tt))))))))
 
   abbrev settle-vals : Round → Val → Vals settle.signature κs₃
 «settled»
@@ -355,27 +357,27 @@ valS r = EL.val S.the-type S′.the-laws r
 «goes_add»
 
   -- what the calls leave
-  abbrev Left : Round → Ruling → List ℕ → ℕ → ℕ → Type 0
+  abbrev Left : Round → Ruling → List ℕ → ℕ → List ℕ → Type 0
   Left d c guests′ house′ last′ =
-      Settled (ruled d (exceedingTo d n ys) n round (now guests) (now house) (now last)) d round (now guests)
+      Settled (ruled d (exceedingTo d n ys) n desk round (now guests) (now house) (now last)) d desk round (now guests)
       (now house) (now last) c guests′ house′ last′
 
   abbrev entry : Book
   entry = book (now guests) ys (now house) (now last)
 
-  abbrev Had : List ℕ → List StationAccount → ℕ → ℕ → List (Item 𝓤)
+  abbrev Had : List ℕ → List StationAccount → ℕ → List ℕ → List (Item 𝓤)
   Had guests′ stations′ house′ last′ =
       tokens₅ ∷ ‵ Market ∷ (‵ (flft κ₆ q₆) ⊛ ‵ ftrue) ∷ ‵ (finally T.the-row γ stations′) ∷ tokens₃
       ∷ ‵ (finally u64 (guests .name) guests′) ∷ ‵ (fres (house .name) (u64 .coded .code house′))
-      ∷ ‵ (fres (last .name) (u32 .coded .code last′)) ∷ []
+      ∷ ‵ (finally u32 (last .name) last′) ∷ []
 
   exits :
-      (d : Round) (c : Ruling) (u : Val) (guests′ : List ℕ) (stations′ : List StationAccount) (house′ last′ : ℕ)
-      → Plan₀ d
+      (d : Round) (c : Ruling) (u : Val) (guests′ : List ℕ) (stations′ : List StationAccount) (house′ : ℕ)
+      (last′ : List ℕ) → Plan₀ d
       → Left d c guests′ house′ last′ → stations′ ≡ creditedTo d (min n (c .credits)) ys → Is Q.the-row c (u ∷ [])
-      → length stations′ ≡ n → length guests′ ≡ length (now guests)
+      → length stations′ ≡ n → length guests′ ≡ length (now guests) → length last′ ≡ length (now last)
       → ent 𝓤 (⋆ 𝓤 H A (Had guests′ stations′ house′ last′)) (Post (valS (c .reply)))
-  exits d c u guests′ stations′ house′ last′ e₀ e₂ e₃ is l-stations l-guests =
+  exits d c u guests′ stations′ house′ last′ e₀ e₂ e₃ is l-stations l-guests l-last =
       qed W (Had guests′ stations′ house′ last′) ∵
 «ends»
 «exits»

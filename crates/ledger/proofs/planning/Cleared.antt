@@ -73,7 +73,7 @@ refused-round : (k : ℕ) (t : Tables) (x : Refusal) (r : Round) → r ≡ refus
 unfolding answerOfVerdict roundBy refusing
 refused-round k t x r p e = record {
   says = ap (λ r. answerOfVerdict (r .reply)) p ∙ sym e;
-  round-is = p ∙ ap (λ r. roundBy (r .reply) (posting k t 0)) (sym p);
+  round-is = p ∙ ap (λ r. roundBy (r .reply) (posting k t 0 0)) (sym p);
 }
 
 -- a number that names no rule
@@ -112,7 +112,7 @@ module _ (rule : Rule) (k : ℕ) (e : named k ≡ Known rule) (asks bays amounts
       → paid ≡ (outcome (ruleOf k) t) .results .paid
       → posted (length amounts) (length asks) (charges ++ drop (length amounts) (replicate maxGuests 0))
       (sold ++ drop (length asks) (replicate maxStations 0)) (paid ++ drop (length asks) (replicate maxStations 0))
-      m ≡ adding (posting k t 0)
+      m ≡ adding (posting k t 0 0)
   unfolding outcome outcomeBy posted adding toGuest toSold toPaid toHouse screened market marketBy screen
   full-round charges sold′ paid′ m n s em ec es ep = λ i. record {
     charges = (ap (λ l. l ++ drop (length amounts) (replicate maxGuests 0)) ec
@@ -154,5 +154,5 @@ module _ (rule : Rule) (k : ℕ) (e : named k ≡ Known rule) (asks bays amounts
         let posted : r .reply ≡ verdicts.Accepted = ap (λ r. r .reply) p in
         record {
           says = ap answerOfVerdict posted ∙ sym (past-rule ∙ d .is-accepted);
-          round-is = full ∙ ap (λ w. roundBy w (posting k t 0)) (sym posted);
+          round-is = full ∙ ap (λ w. roundBy w (posting k t 0 0)) (sym posted);
         }

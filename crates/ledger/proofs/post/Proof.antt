@@ -101,7 +101,8 @@ abbrev Num : Type 0
 Num = RefT ℕ
 
 abbrev Arg : Type 0
-Arg = ℕ × (Nums × (Nums × (Nums × (Nums × (Nums × (ℕ × (ℕ × (Nums × (Recs × (Num × (Num × Unit {0})))))))))))
+Arg =
+    ℕ × (Nums × (Nums × (Nums × (Nums × (Nums × (ℕ × (ℕ × (ℕ × (Nums × (Recs × (Num × (Nums × Unit {0}))))))))))))
 
 -- the machine values of a slice and of a `&mut`
 abbrev val : {X : Type 0} → RefT (List X) → Val
@@ -126,12 +127,15 @@ stayed = (
             (
               stay-none (λ _. usize) yes,
               (
-                stay-none (λ _. u32) yes,
+                stay-none (λ _. u8) yes,
                 (
-                  gave-slice (5 ∷ []) tt (plain (λ _. u64)),
+                  stay-none (λ _. u32) yes,
                   (
-                    gave-slice (6 ∷ []) tt (plain (λ _. T.the-row)),
-                    (gave-ref (7 ∷ []) tt (plain (λ _. u64)), (gave-ref (8 ∷ []) tt (plain (λ _. u32)), tt)),
+                    gave-slice (5 ∷ []) tt (plain (λ _. u64)),
+                    (
+                      gave-slice (6 ∷ []) tt (plain (λ _. T.the-row)),
+                      (gave-ref (7 ∷ []) tt (plain (λ _. u64)), (gave-slice (8 ∷ []) tt (plain (λ _. u32)), tt)),
+                    ),
                   ),
                 ),
               ),
@@ -163,8 +167,8 @@ module _ {M : Type 1} (𝓤 : URA M) (H : Heap 𝓤) (A : Atoms 𝓤) (mem : Mem
 module _ {M : Type 1} (𝓤 : URA M) (H : Heap 𝓤) (A : Atoms 𝓤) (W : Given 𝓤 H A) (mem : Memory → SProp 𝓤)
     (run : Routine → Fun 𝓤) (κ₀ κ₁ κ₂ κ₃ κ₄ κ₅ κ₆ κ₇ κ₈ : Lft) (q₀ q₁ q₂ q₃ q₄ q₅ q₆ q₇ q₈ : Share) (rule : ℕ)
     (rule-fits : rule < 2 ^ 8) (asks bays amounts tickets bids : Nums) (width : ℕ) (width-fits : width < 2 ^ 64)
-    (round : ℕ) (round-fits : round < 2 ^ 32) (guests : Nums) (b o : ℕ) (γ : GName) (ys : List StationAccount)
-    (house last : Num) where
+    (desk : ℕ) (desk-fits : desk < 2 ^ 8) (round : ℕ) (round-fits : round < 2 ^ 32) (guests : Nums) (b o : ℕ)
+    (γ : GName) (ys : List StationAccount) (house : Num) (last : Nums) where
   abbrev n : ℕ
   n = length ys
 
@@ -182,7 +186,7 @@ module _ {M : Type 1} (𝓤 : URA M) (H : Heap 𝓤) (A : Atoms 𝓤) (W : Given
   qs = (q₀, (q₁, (q₂, (q₃, (q₄, (q₅, (q₆, (q₇, (q₈, tt)))))))))
 
   abbrev a : Arg
-  a = (rule, (asks, (bays, (amounts, (tickets, (bids, (width, (round, (guests, (x γ, (house, (last, tt))))))))))))
+  a = (rule, (asks, (bays, (amounts, (tickets, (bids, (width, (desk, (round, (guests, (x γ, (house, (last, tt)))))))))))))
 
   abbrev at : Vals f.signature κs
   at = (
@@ -199,7 +203,10 @@ module _ {M : Type 1} (𝓤 : URA M) (H : Heap 𝓤) (A : Atoms 𝓤) (W : Given
               val bids ∷ [],
               (
                 vint w64 width ∷ [],
-                (vint w32 round ∷ [], (val guests ∷ [], (s ∷ [], (ptrVal house ∷ [], (ptrVal last ∷ [], tt))))),
+                (
+                  vint w8 desk ∷ [],
+                  (vint w32 round ∷ [], (val guests ∷ [], (s ∷ [], (ptrVal house ∷ [], (val last ∷ [], tt))))),
+                ),
               ),
             ),
           ),
@@ -242,7 +249,7 @@ module _ {M : Type 1} (𝓤 : URA M) (H : Heap 𝓤) (A : Atoms 𝓤) (W : Given
   Own-house = MutRef (named 0) κ₇ u64 .own house (ptrVal house ∷ [])
 
   abbrev Own-last : Fml
-  Own-last = MutRef (named 0) κ₈ u32 .own last (ptrVal last ∷ [])
+  Own-last = MutSlice (named 0) κ₈ u32 .own last (val last ∷ [])
 
   abbrev Market : Fml
   Market = fsep Own-asks (fsep Own-bays (fsep Own-amounts (fsep Own-tickets Own-bids)))
@@ -347,17 +354,20 @@ module _ {M : Type 1} (𝓤 : URA M) (H : Heap 𝓤) (A : Atoms 𝓤) (W : Given
   tokens₃ = (‵ (flft κ₅ q₅) ⊛ (‵ (flft κ₇ q₇) ⊛ (‵ (flft κ₈ q₈) ⊛ ‵ ftrue)))
 
   abbrev SArg : Type 0
-  SArg = Round × (Bool × (ℕ × (ℕ × (Nums × (Num × (Num × Unit {0}))))))
+  SArg = Round × (Bool × (ℕ × (ℕ × (ℕ × (Nums × (Num × (Nums × Unit {0})))))))
 
   abbrev settle-args : Round → SArg
-  settle-args d = (d, (exceedingTo d n ys, (n, (round, (guests, (house, (last, tt)))))))
+  settle-args d = (d, (exceedingTo d n ys, (n, (desk, (round, (guests, (house, (last, tt))))))))
 
   abbrev settle-vals : Round → Val → Vals settle.signature κs₃
   settle-vals d v = (
     v ∷ [],
     (
       vbool (exceedingTo d n ys) ∷ [],
-      (vint w64 n ∷ [], (vint w32 round ∷ [], (val guests ∷ [], (ptrVal house ∷ [], (ptrVal last ∷ [], tt))))),
+      (
+        vint w64 n ∷ [],
+        (vint w8 desk ∷ [], (vint w32 round ∷ [], (val guests ∷ [], (ptrVal house ∷ [], (val last ∷ [], tt))))),
+      ),
     ),
   )
 
@@ -372,7 +382,8 @@ module _ {M : Type 1} (𝓤 : URA M) (H : Heap 𝓤) (A : Atoms 𝓤) (W : Given
       qed W (tokens₃ ∷ ‵ Own-guests ∷ ‵ (fsep Own-house Own-last) ∷ []) ∵
       move ! (2 ∷ []) $ fsplit ! $ nothing ! $ move ! (2 ∷ 0 ∷ []) $ fjoin ! $ move ! (1 ∷ 0 ∷ []) $ fjoin ! $
       move ! (2 ∷ 0 ∷ []) $ fjoin ! $ owned ! u32 (Is u32) (uint-makes 𝓤 H A W w32) round _ (refl, round-fits) $
-      fjoin ! $ owned ! usize (Is usize) (uint-makes 𝓤 H A W w64) n _ (refl, n-fits) $ fjoin ! $
+      fjoin ! $ owned ! u8 (Is u8) (uint-makes 𝓤 H A W w8) desk _ (refl, desk-fits) $ fjoin ! $
+      owned ! usize (Is usize) (uint-makes 𝓤 H A W w64) n _ (refl, n-fits) $ fjoin ! $
       owned ! Boolean (Is Boolean) (bool-makes 𝓤 H A W) (exceedingTo d n ys) (vbool (exceedingTo d n ys) ∷ []) refl $
       fjoin ! $ owned ! R.the-row (Is R.the-row) ((LL.makes R.the-type R′.the-plain) 𝓤 H A) d _ gd $ fjoin ! $
       move ! (1 ∷ 0 ∷ []) $ join ! $ frame ! $ done !
@@ -401,39 +412,41 @@ module _ {M : Type 1} (𝓤 : URA M) (H : Heap 𝓤) (A : Atoms 𝓤) (W : Given
       move ! (2 ∷ 0 ∷ []) $ fjoin ! $ move ! (1 ∷ 0 ∷ []) $ join ! $ frame ! $ done !
 
   -- what the calls leave
-  abbrev Left : Round → Ruling → List ℕ → ℕ → ℕ → Type 0
+  abbrev Left : Round → Ruling → List ℕ → ℕ → List ℕ → Type 0
   Left d c guests′ house′ last′ =
-      Settled (ruled d (exceedingTo d n ys) n round (now guests) (now house) (now last)) d round (now guests)
+      Settled (ruled d (exceedingTo d n ys) n desk round (now guests) (now house) (now last)) d desk round (now guests)
       (now house) (now last) c guests′ house′ last′
 
   abbrev entry : Book
   entry = book (now guests) ys (now house) (now last)
 
-  abbrev Had : List ℕ → List StationAccount → ℕ → ℕ → List (Item 𝓤)
+  abbrev Had : List ℕ → List StationAccount → ℕ → List ℕ → List (Item 𝓤)
   Had guests′ stations′ house′ last′ =
       tokens₅ ∷ ‵ Market ∷ (‵ (flft κ₆ q₆) ⊛ ‵ ftrue) ∷ ‵ (finally T.the-row γ stations′) ∷ tokens₃
       ∷ ‵ (finally u64 (guests .name) guests′) ∷ ‵ (fres (house .name) (u64 .coded .code house′))
-      ∷ ‵ (fres (last .name) (u32 .coded .code last′)) ∷ []
+      ∷ ‵ (finally u32 (last .name) last′) ∷ []
 
   exits :
-      (d : Round) (c : Ruling) (u : Val) (guests′ : List ℕ) (stations′ : List StationAccount) (house′ last′ : ℕ)
-      → Plan₀ d
+      (d : Round) (c : Ruling) (u : Val) (guests′ : List ℕ) (stations′ : List StationAccount) (house′ : ℕ)
+      (last′ : List ℕ) → Plan₀ d
       → Left d c guests′ house′ last′ → stations′ ≡ creditedTo d (min n (c .credits)) ys → Is Q.the-row c (u ∷ [])
-      → length stations′ ≡ n → length guests′ ≡ length (now guests)
+      → length stations′ ≡ n → length guests′ ≡ length (now guests) → length last′ ≡ length (now last)
       → ent 𝓤 (⋆ 𝓤 H A (Had guests′ stations′ house′ last′)) (Post (valS (c .reply)))
-  exits d c u guests′ stations′ house′ last′ e₀ e₂ e₃ is l-stations l-guests =
+  exits d c u guests′ stations′ house′ last′ e₀ e₂ e₃ is l-stations l-guests l-last =
       qed W (Had guests′ stations′ house′ last′) ∵
       suffices ! _ (ends-at 𝓤 H A f.ended stayed (f.clauses 𝓤 H A mem run) W bound (valS (c .reply)) (c .reply)
-      (tt, (tt, (tt, (tt, (tt, (tt, (tt, (tt, (guests′, (stations′, (house′, (last′, tt))))))))))))
-      (tt, (tt, (tt, (tt, (tt, (tt, (tt, (tt, (l-guests, (l-stations, (tt, (tt, tt))))))))))))) $
-      says ! (posts (posting rule (tables (now asks) (now bays) (now amounts) (now tickets) (now bids) width) round)
-      entry d (exceedingTo d n ys) e₀ refl c guests′ stations′ house′ last′ e₂ e₃) $ split ! $ move ! (1 ∷ []) $
-      split ! $ move ! (1 ∷ []) $ split ! $ move ! (1 ∷ []) $ split ! $ move ! (1 ∷ []) $ split ! $ move ! (9 ∷ []) $
-      split ! $ move ! (9 ∷ []) $ split ! $ move ! (0 ∷ 3 ∷ []) $ join ! $ move ! (2 ∷ 0 ∷ []) $ join ! $
-      move ! (2 ∷ 0 ∷ []) $ join ! $ move ! (3 ∷ 0 ∷ []) $ join ! $ move ! (3 ∷ 0 ∷ []) $ join ! $ move ! (3 ∷ 0 ∷ []) $
-      join ! $ move ! (3 ∷ 0 ∷ []) $ join ! $ frame ! $ nothing ! $ move ! (7 ∷ 0 ∷ []) $ fjoin ! $
-      move ! (6 ∷ 0 ∷ []) $ fjoin ! $ move ! (4 ∷ 0 ∷ []) $ fjoin ! $ move ! (4 ∷ 0 ∷ []) $ fjoin ! $
+      (tt, (tt, (tt, (tt, (tt, (tt, (tt, (tt, (tt, (guests′, (stations′, (house′, (last′, tt)))))))))))))
+      (tt, (tt, (tt, (tt, (tt, (tt, (tt, (tt, (tt, (l-guests, (l-stations, (tt, (l-last, tt)))))))))))))) $
+      says ! (posts
+      (posting rule (tables (now asks) (now bays) (now amounts) (now tickets) (now bids) width) desk round) entry d
+      (exceedingTo d n ys) e₀ refl c guests′ stations′ house′ last′ e₂ e₃) $ split ! $ move ! (1 ∷ []) $ split ! $
+      move ! (1 ∷ []) $ split ! $ move ! (1 ∷ []) $ split ! $ move ! (1 ∷ []) $ split ! $ move ! (9 ∷ []) $ split ! $
+      move ! (9 ∷ []) $ split ! $ move ! (0 ∷ 3 ∷ []) $ join ! $ move ! (2 ∷ 0 ∷ []) $ join ! $ move ! (2 ∷ 0 ∷ []) $
+      join ! $ move ! (3 ∷ 0 ∷ []) $ join ! $ move ! (3 ∷ 0 ∷ []) $ join ! $ move ! (3 ∷ 0 ∷ []) $ join ! $
+      move ! (3 ∷ 0 ∷ []) $ join ! $ frame ! $ nothing ! $ move ! (7 ∷ 0 ∷ []) $ fjoin ! $ move ! (6 ∷ 0 ∷ []) $
+      fjoin ! $ move ! (4 ∷ 0 ∷ []) $ fjoin ! $ move ! (4 ∷ 0 ∷ []) $ fjoin ! $
       owned ! u32 (Is u32) (uint-makes 𝓤 H A W w32) round _ (refl, round-fits) $ fjoin ! $
+      owned ! u8 (Is u8) (uint-makes 𝓤 H A W w8) desk _ (refl, desk-fits) $ fjoin ! $
       owned ! usize (Is usize) (uint-makes 𝓤 H A W w64) width _ (refl, width-fits) $ fjoin ! $ move ! (3 ∷ []) $
       fsplit ! $ move ! (1 ∷ []) $ fsplit ! $ move ! (1 ∷ []) $ fsplit ! $ move ! (1 ∷ []) $ fsplit ! $
       move ! (1 ∷ 5 ∷ []) $ fjoin ! $ move ! (1 ∷ 0 ∷ []) $ fjoin ! $ move ! (1 ∷ 0 ∷ []) $ fjoin ! $
@@ -452,129 +465,137 @@ module _ {M : Type 1} (𝓤 : URA M) (H : Heap 𝓤) (A : Atoms 𝓤) (W : Given
         → Is (ShrSlice (named 2) κ₂ u16) amounts (val amounts ∷ [])
         → Is (ShrSlice (named 3) κ₃ u32) tickets (val tickets ∷ [])
         → Is (ShrSlice (named 4) κ₄ u32) bids (val bids ∷ []) → Room u64 (length (now guests)) → Room T.the-row n
+        → Room u32 (length (now last))
         → ent 𝓤 (onEntry 𝓤 H A f.signature κs qs a at) (WpFn 𝓤 H C Λ code.function (vint w8 rule ∷ val asks ∷ val bays ∷
-        val amounts ∷ val tickets ∷ val bids ∷ vint w64 width ∷ vint w32 round ∷ val guests ∷ s ∷ ptrVal house ∷ ptrVal
-        last ∷ []) Post)
-    walk g-asks g-bays g-amounts g-tickets g-bids gg gn =
+        val amounts ∷ val tickets ∷ val bids ∷ vint w64 width ∷ vint w8 desk ∷ vint w32 round ∷ val guests ∷ s ∷ ptrVal
+        house ∷ val last ∷ []) Post)
+    walk g-asks g-bays g-amounts g-tickets g-bids gg gn gl =
         qed W ((‵ (flft κ₀ q₀) ⊛ (‵ (flft κ₁ q₁) ⊛ (‵ (flft κ₂ q₂) ⊛ (‵ (flft κ₃ q₃) ⊛
         (‵ (flft κ₄ q₄) ⊛ (‵ (flft κ₅ q₅) ⊛ (‵ (flft κ₆ q₆) ⊛ (‵ (flft κ₇ q₇) ⊛ (‵ (flft κ₈ q₈) ⊛ ‵ ftrue))))))))) ∷ ‵
         (owns (u8 ∷ ShrSlice (named 0) κ₀ u32 ∷ ShrSlice (named 1) κ₁ u16 ∷ ShrSlice (named 2) κ₂ u16 ∷ ShrSlice
-        (named 3) κ₃ u32 ∷ ShrSlice (named 4) κ₄ u32 ∷ usize ∷ u32 ∷ MutSlice (named 5) κ₅ u64 ∷ MutSlice (named 6) κ₆
-        T.the-row ∷ MutRef (named 7) κ₇ u64 ∷ MutRef (named 8) κ₈ u32 ∷ []) a at) ∷ []) ∵
+        (named 3) κ₃ u32 ∷ ShrSlice (named 4) κ₄ u32 ∷ usize ∷ u8 ∷ u32 ∷ MutSlice (named 5) κ₅ u64 ∷ MutSlice (named 6)
+        κ₆ T.the-row ∷ MutRef (named 7) κ₇ u64 ∷ MutSlice (named 8) κ₈ u32 ∷ []) a at) ∷ []) ∵
         enter ! C Λ code.function (vint w8 rule ∷ val asks ∷ val bays ∷ val amounts ∷ val tickets ∷ val bids ∷ vint w64
-        width ∷ vint w32 round ∷ val guests ∷ s ∷ ptrVal house ∷ ptrVal last ∷ []) _ $
+        width ∷ vint w8 desk ∷ vint w32 round ∷ val guests ∷ s ∷ ptrVal house ∷ val last ∷ []) _ $
         alloc1 ! (λ l0. alloc1 ! (λ l1. alloc1 ! (λ l2. alloc1 ! (λ l3. alloc1 ! (λ l4. alloc1 ! (λ l5. alloc1 ! (λ l6.
         alloc1 ! (λ l7. alloc1 ! (λ l8. alloc1 ! (λ l9. alloc1 ! (λ l10. alloc1 ! (λ l11. alloc1 ! (λ l12.
         alloc1 ! (λ l13. alloc1 ! (λ l14. alloc1 ! (λ l15. alloc1 ! (λ l16. alloc1 ! (λ l17. alloc1 ! (λ l18.
         alloc1 ! (λ l19. alloc1 ! (λ l20. alloc1 ! (λ l21. alloc1 ! (λ l22. alloc1 ! (λ l23. alloc1 ! (λ l24.
-        alloc1 ! (λ l25. alloc0 ! $ params1 ! $ pass1 ! (init ! 48 refl (tt, record { fits = rule-fits })) $
-        pass1 ! (init ! 46 refl (shr-slice-lawful 𝓤 H A W (named 0) κ₀ u32 .typed asks (val asks ∷ []) g-asks .0)) $
-        pass1 ! (init ! 44 refl (shr-slice-lawful 𝓤 H A W (named 1) κ₁ u16 .typed bays (val bays ∷ []) g-bays .0)) $
+        alloc1 ! (λ l25. alloc1 ! (λ l26. alloc1 ! (λ l27. alloc0 ! $ params1 ! $
+        pass1 ! (init ! 52 refl (tt, record { fits = rule-fits })) $
+        pass1 ! (init ! 50 refl (shr-slice-lawful 𝓤 H A W (named 0) κ₀ u32 .typed asks (val asks ∷ []) g-asks .0)) $
+        pass1 ! (init ! 48 refl (shr-slice-lawful 𝓤 H A W (named 1) κ₁ u16 .typed bays (val bays ∷ []) g-bays .0)) $
         pass1 !
-        (init ! 42 refl (shr-slice-lawful 𝓤 H A W (named 2) κ₂ u16 .typed amounts (val amounts ∷ []) g-amounts .0)) $
+        (init ! 46 refl (shr-slice-lawful 𝓤 H A W (named 2) κ₂ u16 .typed amounts (val amounts ∷ []) g-amounts .0)) $
         pass1 !
-        (init ! 40 refl (shr-slice-lawful 𝓤 H A W (named 3) κ₃ u32 .typed tickets (val tickets ∷ []) g-tickets .0)) $
-        pass1 ! (init ! 38 refl (shr-slice-lawful 𝓤 H A W (named 4) κ₄ u32 .typed bids (val bids ∷ []) g-bids .0)) $
-        pass1 ! (init ! 36 refl (tt, record { fits = width-fits })) $
-        pass1 ! (init ! 34 refl (tt, record { fits = round-fits })) $
-        pass1 ! (init ! 32 refl (tt, (tt, (record { fits = gg .0 }, tt)))) $
-        pass1 ! (init ! 30 refl (tt, (tt, (record { fits = gn .0 }, tt)))) $ pass1 ! (init ! 28 refl (tt, tt)) $
-        pass1 ! (init ! 26 refl (tt, tt)) $ pass0 ! $
+        (init ! 44 refl (shr-slice-lawful 𝓤 H A W (named 3) κ₃ u32 .typed tickets (val tickets ∷ []) g-tickets .0)) $
+        pass1 ! (init ! 42 refl (shr-slice-lawful 𝓤 H A W (named 4) κ₄ u32 .typed bids (val bids ∷ []) g-bids .0)) $
+        pass1 ! (init ! 40 refl (tt, record { fits = width-fits })) $
+        pass1 ! (init ! 38 refl (tt, record { fits = desk-fits })) $
+        pass1 ! (init ! 36 refl (tt, record { fits = round-fits })) $
+        pass1 ! (init ! 34 refl (tt, (tt, (record { fits = gg .0 }, tt)))) $
+        pass1 ! (init ! 32 refl (tt, (tt, (record { fits = gn .0 }, tt)))) $ pass1 ! (init ! 30 refl (tt, tt)) $
+        pass1 ! (init ! 28 refl (tt, (tt, (record { fits = gl .0 }, tt)))) $ pass0 ! $
         -- what the parameters own and their tokens, apart; `plan`
-        move ! (53 ∷ []) $ fsplit ! $ move ! (1 ∷ []) $ fsplit ! $ move ! (1 ∷ []) $ fsplit ! $ move ! (1 ∷ []) $
+        move ! (57 ∷ []) $ fsplit ! $ move ! (1 ∷ []) $ fsplit ! $ move ! (1 ∷ []) $ fsplit ! $ move ! (1 ∷ []) $
         fsplit ! $ move ! (1 ∷ []) $ fsplit ! $ move ! (1 ∷ []) $ fsplit ! $ move ! (1 ∷ []) $ fsplit ! $
         move ! (1 ∷ []) $ fsplit ! $ move ! (1 ∷ []) $ fsplit ! $ move ! (1 ∷ []) $ fsplit ! $ move ! (1 ∷ []) $
-        fsplit ! $ move ! (1 ∷ []) $ fsplit ! $ move ! (1 ∷ []) $ drop ! $ move ! (11 ∷ []) $ drop ! $ move ! (5 ∷ []) $
-        drop ! $ move ! (4 ∷ []) $ drop ! $ move ! (5 ∷ 4 ∷ []) $ fjoin ! $ move ! (5 ∷ 0 ∷ []) $ fjoin ! $
-        move ! (5 ∷ 0 ∷ []) $ fjoin ! $ move ! (5 ∷ 0 ∷ []) $ fjoin ! $ move ! (57 ∷ []) $ split ! $ move ! (1 ∷ []) $
+        fsplit ! $ move ! (1 ∷ []) $ fsplit ! $ move ! (1 ∷ []) $ fsplit ! $ move ! (1 ∷ []) $ drop ! $
+        move ! (12 ∷ []) $ drop ! $ move ! (6 ∷ []) $ drop ! $ move ! (5 ∷ []) $ drop ! $ move ! (4 ∷ []) $ drop ! $
+        move ! (5 ∷ 4 ∷ []) $ fjoin ! $ move ! (5 ∷ 0 ∷ []) $ fjoin ! $ move ! (5 ∷ 0 ∷ []) $ fjoin ! $
+        move ! (5 ∷ 0 ∷ []) $ fjoin ! $ move ! (61 ∷ []) $ split ! $ move ! (1 ∷ []) $ split ! $ move ! (1 ∷ []) $
         split ! $ move ! (1 ∷ []) $ split ! $ move ! (1 ∷ []) $ split ! $ move ! (1 ∷ []) $ split ! $ move ! (1 ∷ []) $
-        split ! $ move ! (1 ∷ []) $ split ! $ move ! (2 ∷ 1 ∷ []) $ join ! $ nothing ! $ move ! (3 ∷ 0 ∷ []) $ join ! $
-        move ! (3 ∷ 0 ∷ []) $ join ! $ move ! (3 ∷ 0 ∷ []) $ join ! $ move ! (3 ∷ 0 ∷ []) $ join ! $
-        move ! (3 ∷ 0 ∷ []) $ join ! $ move ! (3 ∷ 0 ∷ []) $
-        use2 W (raw (Plan 𝓤 H A mem run .pre to-plan) ⊛ ‵ Market) goes-plan $ split ! $
-        -- [asked; Market; of settle; token 6; last; house; (x γ); guests; _25; …]
-        calls-at ! fm (Plan 𝓤 H A mem run) known-plan to-plan (and-then ! (load ! (from ! (stop !)) (look ! 56 refl))
+        split ! $ move ! (2 ∷ 1 ∷ []) $ join ! $ nothing ! $ move ! (3 ∷ 0 ∷ []) $ join ! $ move ! (3 ∷ 0 ∷ []) $
+        join ! $ move ! (3 ∷ 0 ∷ []) $ join ! $ move ! (3 ∷ 0 ∷ []) $ join ! $ move ! (3 ∷ 0 ∷ []) $ join ! $
+        move ! (3 ∷ 0 ∷ []) $ use2 W (raw (Plan 𝓤 H A mem run .pre to-plan) ⊛ ‵ Market) goes-plan $ split ! $
+        -- [asked; Market; of settle; token 6; last; house; (x γ); guests; _27; …]
+        calls-at ! fm (Plan 𝓤 H A mem run) known-plan to-plan (and-then ! (load ! (from ! (stop !)) (look ! 60 refl))
+        (and-then ! (load ! (from ! (stop !)) (look ! 58 refl)) (and-then ! (load ! (from ! (stop !)) (look ! 56 refl))
         (and-then ! (load ! (from ! (stop !)) (look ! 54 refl)) (and-then ! (load ! (from ! (stop !)) (look ! 52 refl))
-        (and-then ! (load ! (from ! (stop !)) (look ! 50 refl)) (and-then ! (load ! (from ! (stop !)) (look ! 48 refl))
-        (and-then ! (load ! (from ! (stop !)) (look ! 46 refl))
-        (and-then ! (load ! (from ! (stop !)) (look ! 44 refl)) (no-more !)))))))) (λ u₀.
+        (and-then ! (load ! (from ! (stop !)) (look ! 50 refl))
+        (and-then ! (load ! (from ! (stop !)) (look ! 48 refl)) (no-more !)))))))) (λ u₀.
         use1 W (later (some (λ (d : Round). (tokens₅ ⊛ ‵ (R.the-row .own d (u₀ ∷ []))) ⊛ raw
         (ensured 𝓤 H A plan.ended (plan.clauses 𝓤 H A mem run) κs₅ plan-args tt d)))) (id⊢ 𝓤 _) $ await ! tt $
         pick ! (λ d. split ! $ move ! (1 ∷ []) $ use1 W (raw (fact 𝓤 (Plan₀ d))) (plan-said d) $
         heard ! (Plan₀ d) (λ e₀. split ! $ move ! (1 ∷ []) $
         facts ! R.the-row (Is R.the-row) (shows 𝓤 H A R.the-row) d (u₀ ∷ []) (λ gd.
-        land ! (from ! (stop !)) (init ! 32 refl (LL.lawful R.the-type R′.the-laws 𝓤 H A W .typed d _ gd .0)) $
+        land ! (from ! (stop !)) (init ! 34 refl (LL.lawful R.the-type R′.the-laws 𝓤 H A W .typed d _ gd .0)) $
         -- `stations_exceed`, on a `&` of the row
-        assigns ! (addr ! (from ! (fld ! refl (hop ! (look-in ! 38 (sub ! 0 refl (whole !))) (stop !)))))
-        (from ! (stop !)) (init ! 26 refl (tt, tt)) $
-        assigns ! (agg ! (and-then ! (load ! (from ! (stop !)) (look ! 26 refl)) (and-then !
-        (load ! (from ! (fld ! refl (stop !))) (look-in ! 38 (sub ! 1 refl (whole !)))) (no-more !)))) (from ! (stop !))
-        (init ! 24 refl (tt, (tt, (record { fits = gn .0 }, tt)))) $ move ! (6 ∷ []) $ fsplit ! $ drop ! $ fsplit ! $
+        assigns ! (addr ! (from ! (fld ! refl (hop ! (look-in ! 40 (sub ! 0 refl (whole !))) (stop !)))))
+        (from ! (stop !)) (init ! 28 refl (tt, tt)) $
+        assigns ! (agg ! (and-then ! (load ! (from ! (stop !)) (look ! 28 refl)) (and-then !
+        (load ! (from ! (fld ! refl (stop !))) (look-in ! 40 (sub ! 1 refl (whole !)))) (no-more !)))) (from ! (stop !))
+        (init ! 26 refl (tt, (tt, (record { fits = gn .0 }, tt)))) $ move ! (6 ∷ []) $ fsplit ! $ drop ! $ fsplit ! $
         move ! (0 ∷ 1 ∷ 5 ∷ []) $ opens-slice ! tt T.the-row ys b o $ feqI ! ℕ (length ys) (length ys) refl $ fjoin ! $
         lft-new ! tt (λ ν. move ! (1 ∷ []) $
         use1 W (later (some (λ (δ : GName). ‵ (OwnS ν δ) ⊛ ‵ (flent (ν ∷ []) Parts))))
         (lends-shr-slice 𝓤 H A W T.the-row (named 0) (ν ∷ []) fullShare ys b o gn) $ await ! tt $ pick ! (λ δ. split ! $
         move ! (0 ∷ 2 ∷ []) $ use2 W (raw (Exceed 𝓤 H A mem run .pre (to-exceed d u₀ ν δ))) (goes-exceed d u₀ gd ν δ) $
-        -- [asked; lent; open; obs; auth; of plan; Market; of settle; last; house; guests; _25; …]
+        -- [asked; lent; open; obs; auth; of plan; Market; of settle; last; house; guests; _27; …]
         calls-at ! fm (Exceed 𝓤 H A mem run) known-exceed (to-exceed d u₀ ν δ) (and-then !
-        (load ! (from ! (stop !)) (look ! 27 refl))
-        (and-then ! (load ! (from ! (stop !)) (look ! 35 refl)) (no-more !))) (λ u₁.
+        (load ! (from ! (stop !)) (look ! 29 refl))
+        (and-then ! (load ! (from ! (stop !)) (look ! 37 refl)) (no-more !))) (λ u₁.
         use1 W (later (some (λ (t : Bool). ((‵ (flft (ν ∷ []) fullShare) ⊛ ‵ ftrue) ⊛ ‵ (Boolean .own t (u₁ ∷ []))) ⊛
         raw (ensured 𝓤 H A exceed.ended (exceed.clauses 𝓤 H A mem run) (ν ∷ [], tt) (x δ, (d, tt)) tt t)))) (id⊢ 𝓤 _) $
         await ! tt $ pick ! (λ t. split ! $ move ! (1 ∷ []) $
         use1 W (raw (fact 𝓤 (t ≡ exceedingTo d n ys))) (exceed-said d ν δ t) $ heard ! (t ≡ exceedingTo d n ys) (λ e₁.
         split ! $ move ! (1 ∷ []) $ facts ! Boolean (Is Boolean) (shows 𝓤 H A Boolean) t (u₁ ∷ []) (λ is₁.
-        land ! (from ! (stop !)) (init ! 33 refl (bool-lawful 𝓤 H A W .typed t _ is₁ .0)) $
-        rewrite ! 33 (λ (z : Val). ‵ (fat fullShare tyBool l14 0 z)) (ap only is₁) refl $
-        rewrite ! 33 (λ (z : Bool). ‵ (fat fullShare tyBool l14 0 (vbool z))) e₁ refl $ split ! $ lft-end ! tt $
+        land ! (from ! (stop !)) (init ! 35 refl (bool-lawful 𝓤 H A W .typed t _ is₁ .0)) $
+        rewrite ! 35 (λ (z : Val). ‵ (fat fullShare tyBool l15 0 z)) (ap only is₁) refl $
+        rewrite ! 35 (λ (z : Bool). ‵ (fat fullShare tyBool l15 0 (vbool z))) e₁ refl $ split ! $ lft-end ! tt $
         move ! (0 ∷ 2 ∷ []) $ lent-back ! tt $ fsplit ! $ drop ! $ move ! (0 ∷ 2 ∷ 3 ∷ 4 ∷ []) $
         closes-slice ! tt T.the-row ys ys refl b o $
-        -- [obs; bor; token 6; true; of plan; Market; of settle; last; house; guests; _25; …]
+        -- [obs; bor; token 6; true; of plan; Market; of settle; last; house; guests; _27; …]
         -- `settle`
-        assigns ! (of-opd ! (load ! (from ! (fld ! refl (stop !))) (look-in ! 40 (sub ! 1 refl (whole !)))))
-        (from ! (stop !)) (init ! 24 refl (tt, record { fits = gn .0 })) $
-        assigns ! (addr ! (from ! (fld ! refl (hop ! (look-in ! 42 (sub ! 0 refl (whole !))) (stop !)))))
-        (from ! (stop !)) (init ! 22 refl (tt, tt)) $
-        assigns ! (agg ! (and-then ! (load ! (from ! (stop !)) (look ! 22 refl)) (and-then !
-        (load ! (from ! (fld ! refl (stop !))) (look-in ! 42 (sub ! 1 refl (whole !)))) (no-more !)))) (from ! (stop !))
-        (init ! 20 refl (tt, (tt, (record { fits = gg .0 }, tt)))) $
-        assigns ! (addr ! (from ! (hop ! (look ! 38 refl) (stop !)))) (from ! (stop !)) (init ! 18 refl (tt, tt)) $
-        assigns ! (addr ! (from ! (hop ! (look ! 36 refl) (stop !)))) (from ! (stop !)) (init ! 16 refl (tt, tt)) $
-        move ! (8 ∷ 7 ∷ []) $ fjoin ! $ move ! (7 ∷ 8 ∷ 0 ∷ []) $
+        assigns ! (of-opd ! (load ! (from ! (fld ! refl (stop !))) (look-in ! 42 (sub ! 1 refl (whole !)))))
+        (from ! (stop !)) (init ! 26 refl (tt, record { fits = gn .0 })) $
+        assigns ! (addr ! (from ! (fld ! refl (hop ! (look-in ! 44 (sub ! 0 refl (whole !))) (stop !)))))
+        (from ! (stop !)) (init ! 24 refl (tt, tt)) $
+        assigns ! (agg ! (and-then ! (load ! (from ! (stop !)) (look ! 24 refl)) (and-then !
+        (load ! (from ! (fld ! refl (stop !))) (look-in ! 44 (sub ! 1 refl (whole !)))) (no-more !)))) (from ! (stop !))
+        (init ! 22 refl (tt, (tt, (record { fits = gg .0 }, tt)))) $
+        assigns ! (addr ! (from ! (hop ! (look ! 40 refl) (stop !)))) (from ! (stop !)) (init ! 20 refl (tt, tt)) $
+        assigns ! (addr ! (from ! (fld ! refl (hop ! (look-in ! 38 (sub ! 0 refl (whole !))) (stop !)))))
+        (from ! (stop !)) (init ! 18 refl (tt, tt)) $
+        assigns ! (agg ! (and-then ! (load ! (from ! (stop !)) (look ! 18 refl)) (and-then !
+        (load ! (from ! (fld ! refl (stop !))) (look-in ! 38 (sub ! 1 refl (whole !)))) (no-more !)))) (from ! (stop !))
+        (init ! 16 refl (tt, (tt, (record { fits = gl .0 }, tt)))) $ move ! (8 ∷ 7 ∷ []) $ fjoin ! $
+        move ! (7 ∷ 8 ∷ 0 ∷ []) $
         use3 W (raw (Settle 𝓤 H A mem run .pre (to-settle d u₀))) (goes-settle d u₀ gd (gn .0)) $
-        -- [asked; obs; bor; token 6; true; of plan; Market; _25; …]
+        -- [asked; obs; bor; token 6; true; of plan; Market; _27; …]
         calls-at ! fm (Settle 𝓤 H A mem run) known-settle (to-settle d u₀) (and-then !
-        (load ! (from ! (stop !)) (look ! 31 refl)) (and-then ! (load ! (from ! (stop !)) (look ! 29 refl)) (and-then !
-        (load ! (from ! (stop !)) (look ! 21 refl)) (and-then ! (load ! (from ! (stop !)) (look ! 41 refl)) (and-then !
-        (load ! (from ! (stop !)) (look ! 17 refl)) (and-then ! (load ! (from ! (stop !)) (look ! 15 refl))
-        (and-then ! (load ! (from ! (stop !)) (look ! 13 refl)) (no-more !)))))))) (λ u₂.
+        (load ! (from ! (stop !)) (look ! 33 refl)) (and-then ! (load ! (from ! (stop !)) (look ! 31 refl)) (and-then !
+        (load ! (from ! (stop !)) (look ! 23 refl)) (and-then ! (load ! (from ! (stop !)) (look ! 45 refl)) (and-then !
+        (load ! (from ! (stop !)) (look ! 43 refl)) (and-then ! (load ! (from ! (stop !)) (look ! 19 refl)) (and-then !
+        (load ! (from ! (stop !)) (look ! 17 refl)) (and-then ! (load ! (from ! (stop !)) (look ! 13 refl)) (no-more
+        !))))))))) (λ u₂.
         use1 W (later (some (λ (c : Ruling). (tokens₃ ⊛ ‵ (Q.the-row .own c (u₂ ∷ []))) ⊛ raw
         (ensured 𝓤 H A settle.ended (settle.clauses 𝓤 H A mem run) κs₃ (settle-args d) tt c)))) (id⊢ 𝓤 _) $ await ! tt $
         pick ! (λ c. split ! $ move ! (1 ∷ []) $
         use1 W (some (λ (ls : Lasts settle.ended κs₃ (settle-args d)). ‵ (lasts settle.ended κs₃ (settle-args d) ls) ⊛
-        raw (fact 𝓤 (Left d c (ls .1 .1 .1 .1 .0) (ls .1 .1 .1 .1 .1 .0) (ls .1 .1 .1 .1 .1 .1 .0))))) (id⊢ 𝓤 _) $
-        pick ! (λ ls. split ! $ move ! (1 ∷ []) $
-        heard ! (Left d c (ls .1 .1 .1 .1 .0) (ls .1 .1 .1 .1 .1 .0) (ls .1 .1 .1 .1 .1 .1 .0)) (λ e₂. fsplit ! $
-        drop ! $ fsplit ! $ drop ! $ fsplit ! $ drop ! $ fsplit ! $ drop ! $ fsplit ! $ fsplit ! $ move ! (1 ∷ []) $
-        feqL ! (λ l-guests. move ! (1 ∷ []) $ fsplit ! $ move ! (1 ∷ []) $ fsplit ! $ move ! (1 ∷ []) $ drop ! $
-        move ! (3 ∷ []) $ split ! $ move ! (1 ∷ []) $
-        facts ! Q.the-row (Is Q.the-row) (shows 𝓤 H A Q.the-row) c (u₂ ∷ []) (λ is₂.
-        land ! (from ! (stop !)) (init ! 30 refl (LL.lawful Q.the-type Q′.the-laws 𝓤 H A W .typed c _ is₂ .0)) $
-        rewrite ! 30 (λ (z : Val). ‵ (fat fullShare Q′.mir l15 0 z)) (ap only (LL.tells Q.the-type Q′.the-laws c _ is₂))
+        raw (fact 𝓤 (Left d c (ls .1 .1 .1 .1 .1 .0) (ls .1 .1 .1 .1 .1 .1 .0) (ls .1 .1 .1 .1 .1 .1 .1 .0)))))
+        (id⊢ 𝓤 _) $ pick ! (λ ls. split ! $ move ! (1 ∷ []) $
+        heard ! (Left d c (ls .1 .1 .1 .1 .1 .0) (ls .1 .1 .1 .1 .1 .1 .0) (ls .1 .1 .1 .1 .1 .1 .1 .0)) (λ e₂.
+        fsplit ! $ drop ! $ fsplit ! $ drop ! $ fsplit ! $ drop ! $ fsplit ! $ drop ! $ fsplit ! $ drop ! $ fsplit ! $
+        fsplit ! $ move ! (1 ∷ []) $ feqL ! (λ l-guests. move ! (1 ∷ []) $ fsplit ! $ move ! (1 ∷ []) $ fsplit ! $
+        fsplit ! $ move ! (1 ∷ []) $ feqL ! (λ l-last. move ! (1 ∷ []) $ drop ! $ move ! (3 ∷ []) $ split ! $
+        move ! (1 ∷ []) $ facts ! Q.the-row (Is Q.the-row) (shows 𝓤 H A Q.the-row) c (u₂ ∷ []) (λ is₂.
+        land ! (from ! (stop !)) (init ! 32 refl (LL.lawful Q.the-type Q′.the-laws 𝓤 H A W .typed c _ is₂ .0)) $
+        rewrite ! 32 (λ (z : Val). ‵ (fat fullShare Q′.mir l16 0 z)) (ap only (LL.tells Q.the-type Q′.the-laws c _ is₂))
         refl $
         -- `add_sales`
-        assigns ! (addr ! (from ! (fld ! refl (hop ! (look-in ! 40 (sub ! 0 refl (whole !))) (stop !)))))
+        assigns ! (addr ! (from ! (fld ! refl (hop ! (look-in ! 42 (sub ! 0 refl (whole !))) (stop !)))))
         (from ! (stop !)) (init ! 12 refl (tt, tt)) $
         assigns ! (agg ! (and-then ! (load ! (from ! (stop !)) (look ! 12 refl)) (and-then !
-        (load ! (from ! (fld ! refl (stop !))) (look-in ! 40 (sub ! 1 refl (whole !)))) (no-more !)))) (from ! (stop !))
+        (load ! (from ! (fld ! refl (stop !))) (look-in ! 42 (sub ! 1 refl (whole !)))) (no-more !)))) (from ! (stop !))
         (init ! 10 refl (tt, (tt, (record { fits = gn .0 }, tt)))) $ move ! (4 ∷ 5 ∷ []) $ fjoin ! $
         pureI ! (at-slice T.the-row (x γ) (s ∷ [])) (tt, (tt, tt)) (refl, gn) $ fjoin ! $ move ! (5 ∷ 6 ∷ []) $ join ! $
         use2 W (raw (Add 𝓤 H A mem run .pre (to-add d u₀ c)))
         (goes-add d u₀ gd c (LL.owed Q.the-type Q′.the-laws c _ is₂ .1 .0 .1)) $
-        -- [asked; of settle; last; house; guests; of plan; Market; _25; …]
+        -- [asked; of settle; last; house; guests; of plan; Market; _27; …]
         calls-at ! fm (Add 𝓤 H A mem run) known-add (to-add d u₀ c) (and-then !
-        (load ! (from ! (stop !)) (look ! 7 refl)) (and-then ! (load ! (from ! (stop !)) (look ! 31 refl)) (and-then !
-        (load ! (from ! (fld ! refl (stop !))) (look-in ! 27 (sub ! 1 refl (whole !)))) (no-more !)))) (λ u₃.
+        (load ! (from ! (stop !)) (look ! 7 refl)) (and-then ! (load ! (from ! (stop !)) (look ! 33 refl)) (and-then !
+        (load ! (from ! (fld ! refl (stop !))) (look-in ! 29 (sub ! 1 refl (whole !)))) (no-more !)))) (λ u₃.
         use1 W (later (some (λ (r : Unit {0}). ((‵ (flft κ₆ q₆) ⊛ ‵ ftrue) ⊛ ‵ (Nothing .own r (u₃ ∷ []))) ⊛ raw
         (ensured 𝓤 H A add.ended (add.clauses 𝓤 H A mem run) (κ₆, tt) (x γ, (d, (c .credits, tt))) tt r)))) (id⊢ 𝓤 _) $
         await ! tt $ pick ! (λ r. split ! $ move ! (1 ∷ []) $
@@ -585,15 +606,16 @@ module _ {M : Type 1} (𝓤 : URA M) (H : Heap 𝓤) (A : Atoms 𝓤) (W : Given
         split ! $ move ! (1 ∷ []) $ facts ! Nothing (Is Nothing) (shows 𝓤 H A Nothing) r (u₃ ∷ []) (λ is₃.
         land ! (from ! (stop !)) (init ! 12 refl (nothing-lawful 𝓤 H A W .typed r _ is₃ .0)) $
         -- the reply
-        assigns ! (of-opd ! (load ! (from ! (fld ! refl (stop !))) (look-in ! 28 (sub ! 0 refl (whole !)))))
-        (from ! (stop !)) (init ! 58 refl (EL.lawful S.the-type S′.the-laws 𝓤 H A W tt .typed (c .reply) _ (LL.owed
-        Q.the-type Q′.the-laws c _ is₂ .0) .0)) $ returns ! (look ! 58 refl) $ forget ! 8 refl $ forget ! 10 refl $
+        assigns ! (of-opd ! (load ! (from ! (fld ! refl (stop !))) (look-in ! 30 (sub ! 0 refl (whole !)))))
+        (from ! (stop !)) (init ! 62 refl (EL.lawful S.the-type S′.the-laws 𝓤 H A W tt .typed (c .reply) _ (LL.owed
+        Q.the-type Q′.the-laws c _ is₂ .0) .0)) $ returns ! (look ! 62 refl) $ forget ! 8 refl $ forget ! 10 refl $
         forget ! 12 refl $ forget ! 14 refl $ forget ! 16 refl $ forget ! 18 refl $ forget ! 20 refl $
         forget ! 22 refl $ forget ! 24 refl $ forget ! 26 refl $ forget ! 28 refl $ forget ! 30 refl $
         forget ! 32 refl $ forget ! 34 refl $ forget ! 36 refl $ forget ! 38 refl $ forget ! 40 refl $
         forget ! 42 refl $ forget ! 44 refl $ forget ! 46 refl $ forget ! 48 refl $ forget ! 50 refl $
-        forget ! 52 refl $ forget ! 54 refl $ forget ! 56 refl $ forget ! 58 refl $ move ! (58 ∷ 59 ∷ []) $ free1 ! $
-        move ! (56 ∷ 57 ∷ []) $ free1 ! $ move ! (54 ∷ 55 ∷ []) $ free1 ! $ move ! (52 ∷ 53 ∷ []) $ free1 ! $
+        forget ! 52 refl $ forget ! 54 refl $ forget ! 56 refl $ forget ! 58 refl $ forget ! 60 refl $
+        forget ! 62 refl $ move ! (62 ∷ 63 ∷ []) $ free1 ! $ move ! (60 ∷ 61 ∷ []) $ free1 ! $ move ! (58 ∷ 59 ∷ []) $
+        free1 ! $ move ! (56 ∷ 57 ∷ []) $ free1 ! $ move ! (54 ∷ 55 ∷ []) $ free1 ! $ move ! (52 ∷ 53 ∷ []) $ free1 ! $
         move ! (50 ∷ 51 ∷ []) $ free1 ! $ move ! (48 ∷ 49 ∷ []) $ free1 ! $ move ! (46 ∷ 47 ∷ []) $ free1 ! $
         move ! (44 ∷ 45 ∷ []) $ free1 ! $ move ! (42 ∷ 43 ∷ []) $ free1 ! $ move ! (40 ∷ 41 ∷ []) $ free1 ! $
         move ! (38 ∷ 39 ∷ []) $ free1 ! $ move ! (36 ∷ 37 ∷ []) $ free1 ! $ move ! (34 ∷ 35 ∷ []) $ free1 ! $
@@ -602,8 +624,8 @@ module _ {M : Type 1} (𝓤 : URA M) (H : Heap 𝓤) (A : Atoms 𝓤) (W : Given
         move ! (20 ∷ 21 ∷ []) $ free1 ! $ move ! (18 ∷ 19 ∷ []) $ free1 ! $ move ! (16 ∷ 17 ∷ []) $ free1 ! $
         move ! (14 ∷ 15 ∷ []) $ free1 ! $ move ! (12 ∷ 13 ∷ []) $ free1 ! $ move ! (10 ∷ 11 ∷ []) $ free1 ! $
         move ! (8 ∷ 9 ∷ []) $ free1 ! $ free0 ! $ keep ! (6 ∷ 7 ∷ 0 ∷ 1 ∷ 2 ∷ 5 ∷ 4 ∷ 3 ∷ []) $
-        by ! (exits d c u₂ (ls .1 .1 .1 .1 .0) (zs .0) (ls .1 .1 .1 .1 .1 .0) (ls .1 .1 .1 .1 .1 .1 .0) e₀ e₂ e₃ is₂
-        l-stations l-guests)))))))))))))))))))))))))))))))))))))))))))))))))
+        by ! (exits d c u₂ (ls .1 .1 .1 .1 .1 .0) (zs .0) (ls .1 .1 .1 .1 .1 .1 .0) (ls .1 .1 .1 .1 .1 .1 .1 .0) e₀ e₂
+        e₃ is₂ l-stations l-guests l-last))))))))))))))))))))))))))))))))))))))))))))))))))))
 
 module _ {M : Type 1} (𝓤 : URA M) (H : Heap 𝓤) (A : Atoms 𝓤) (W : Given 𝓤 H A) (mem : Memory → SProp 𝓤)
     (run : Routine → Fun 𝓤) where
@@ -625,7 +647,13 @@ module _ {M : Type 1} (𝓤 : URA M) (H : Heap 𝓤) (A : Atoms 𝓤) (W : Given
               slice-vals,
               (
                 slice-vals,
-                (slice-vals, (uint-vals w64, (uint-vals w32, (slice-vals, (slice-vals, (ptr-vals, (ptr-vals, tt))))))),
+                (
+                  slice-vals,
+                  (
+                    uint-vals w64,
+                    (uint-vals w8, (uint-vals w32, (slice-vals, (slice-vals, (ptr-vals, (slice-vals, tt)))))),
+                  ),
+                ),
               ),
             ),
           ),
@@ -646,14 +674,17 @@ module _ {M : Type 1} (𝓤 : URA M) (H : Heap 𝓤) (A : Atoms 𝓤) (W : Given
                   (
                     uint-tells w64,
                     (
-                      uint-tells w32,
+                      uint-tells w8,
                       (
-                        mut-slice-tells (named 5) (κs .1 .1 .1 .1 .1 .0) u64,
+                        uint-tells w32,
                         (
-                          mut-slice-tells (named 6) (κs .1 .1 .1 .1 .1 .1 .0) T.the-row,
+                          mut-slice-tells (named 5) (κs .1 .1 .1 .1 .1 .0) u64,
                           (
-                            mut-tells (named 7) (κs .1 .1 .1 .1 .1 .1 .1 .0) u64,
-                            (mut-tells (named 8) (κs .1 .1 .1 .1 .1 .1 .1 .1 .0) u32, tt),
+                            mut-slice-tells (named 6) (κs .1 .1 .1 .1 .1 .1 .0) T.the-row,
+                            (
+                              mut-tells (named 7) (κs .1 .1 .1 .1 .1 .1 .1 .0) u64,
+                              (mut-slice-tells (named 8) (κs .1 .1 .1 .1 .1 .1 .1 .1 .0) u32, tt),
+                            ),
                           ),
                         ),
                       ),
@@ -670,12 +701,13 @@ module _ {M : Type 1} (𝓤 : URA M) (H : Heap 𝓤) (A : Atoms 𝓤) (W : Given
       .1 .1 .1 .1 .1 .1 .1 .0) (qs .0) (qs .1 .0) (qs .1 .1 .0) (qs .1 .1 .1 .0) (qs .1 .1 .1 .1 .0) (qs .1 .1 .1 .1 .1
       .0) (qs .1 .1 .1 .1 .1 .1 .0) (qs .1 .1 .1 .1 .1 .1 .1 .0) (qs .1 .1 .1 .1 .1 .1 .1 .1 .0) (a .0) (are .0 .1) (a
       .1 .0) (a .1 .1 .0) (a .1 .1 .1 .0) (a .1 .1 .1 .1 .0) (a .1 .1 .1 .1 .1 .0) (a .1 .1 .1 .1 .1 .1 .0) (are .1 .1
-      .1 .1 .1 .1 .0 .1) (a .1 .1 .1 .1 .1 .1 .1 .0) (are .1 .1 .1 .1 .1 .1 .1 .0 .1) (a .1 .1 .1 .1 .1 .1 .1 .1 .0) (a
-      .1 .1 .1 .1 .1 .1 .1 .1 .1 .0 .ptr .0) (a .1 .1 .1 .1 .1 .1 .1 .1 .1 .0 .ptr .1) (a .1 .1 .1 .1 .1 .1 .1 .1 .1 .0
-      .name) (a .1 .1 .1 .1 .1 .1 .1 .1 .1 .0 .now) (a .1 .1 .1 .1 .1 .1 .1 .1 .1 .1 .0) (a .1 .1 .1 .1 .1 .1 .1 .1 .1
-      .1 .1 .0) C Λ fm known-plan known-exceed known-settle known-add (are .1 .0) (are .1 .1 .0) (are .1 .1 .1 .0) (are
-      .1 .1 .1 .1 .0) (are .1 .1 .1 .1 .1 .0) (are .1 .1 .1 .1 .1 .1 .1 .1 .0 .0 .1) (are .1 .1 .1 .1 .1 .1 .1 .1 .1 .0
-      .0 .1)))
+      .1 .1 .1 .1 .0 .1) (a .1 .1 .1 .1 .1 .1 .1 .0) (are .1 .1 .1 .1 .1 .1 .1 .0 .1) (a .1 .1 .1 .1 .1 .1 .1 .1 .0)
+      (are .1 .1 .1 .1 .1 .1 .1 .1 .0 .1) (a .1 .1 .1 .1 .1 .1 .1 .1 .1 .0) (a .1 .1 .1 .1 .1 .1 .1 .1 .1 .1 .0 .ptr .0)
+      (a .1 .1 .1 .1 .1 .1 .1 .1 .1 .1 .0 .ptr .1) (a .1 .1 .1 .1 .1 .1 .1 .1 .1 .1 .0 .name) (a .1 .1 .1 .1 .1 .1 .1 .1
+      .1 .1 .0 .now) (a .1 .1 .1 .1 .1 .1 .1 .1 .1 .1 .1 .0) (a .1 .1 .1 .1 .1 .1 .1 .1 .1 .1 .1 .1 .0) C Λ fm
+      known-plan known-exceed known-settle known-add (are .1 .0) (are .1 .1 .0) (are .1 .1 .1 .0) (are .1 .1 .1 .1 .0)
+      (are .1 .1 .1 .1 .1 .0) (are .1 .1 .1 .1 .1 .1 .1 .1 .1 .0 .0 .1) (are .1 .1 .1 .1 .1 .1 .1 .1 .1 .1 .0 .0 .1)
+      (are .1 .1 .1 .1 .1 .1 .1 .1 .1 .1 .1 .1 .0 .0 .1)))
 
 post-meets :
     {M : Type 1} (𝓤 : URA M) (H : Heap 𝓤) (A : Atoms 𝓤) → Given 𝓤 H A
@@ -701,14 +733,17 @@ post-meets 𝓤 H A W mem run 𝓣 known-plan known-exceed known-settle known-ad
                 (
                   goes-none 𝓤 H A W 9 (λ _. usize) yes (λ κs x f. refl),
                   (
-                    goes-none 𝓤 H A W 9 (λ _. u32) yes (λ κs x f. refl),
+                    goes-none 𝓤 H A W 9 (λ _. u8) yes (λ κs x f. refl),
                     (
-                      goes-gave-slice 𝓤 H A W 9 5 tt (plain (λ _. u64)),
+                      goes-none 𝓤 H A W 9 (λ _. u32) yes (λ κs x f. refl),
                       (
-                        goes-gave-slice 𝓤 H A W 9 6 tt (plain (λ _. T.the-row)),
+                        goes-gave-slice 𝓤 H A W 9 5 tt (plain (λ _. u64)),
                         (
-                          goes-gave-ref 𝓤 H A W 9 7 tt (plain (λ _. u64)),
-                          (goes-gave-ref 𝓤 H A W 9 8 tt (plain (λ _. u32)), tt),
+                          goes-gave-slice 𝓤 H A W 9 6 tt (plain (λ _. T.the-row)),
+                          (
+                            goes-gave-ref 𝓤 H A W 9 7 tt (plain (λ _. u64)),
+                            (goes-gave-slice 𝓤 H A W 9 8 tt (plain (λ _. u32)), tt),
+                          ),
                         ),
                       ),
                     ),

@@ -1,23 +1,24 @@
 -- What settling a round leaves, by the round's reply and the room in the accounts.
 use Prim.Native.Nat.{ℕ, _+_, _≤_, _<_}
-use mathlib.Core.Bool.{Bool, true, false, _||_}
+use mathlib.Core.Bool.{Bool, true, false, not, _||_}
 use mathlib.Core.List.{List, [], _∷_}
 use mathlib.Core.Path.{_≡_, refl, sym, ap, _∙_}
 use native.Mathlib.Omega.{arith}
-use lib.ListN.{getD, length}
-use Rattle.model.specs.Limits.{maxGuests, maxStations, maxAccount}
+use lib.ListN.{getD, length, set}
+use Rattle.model.specs.Limits.{maxGuests, maxStations, maxAccount, maxDesks}
 use Rattle.model.specs.declared.refusal.Refusal.{Refusal}
-use Rattle.model.specs.declared.refusal.Refusal.the-variants.{AccountOverLimit, BookSize, RoundOutOfTurn}
-use Rattle.model.specs.Counting.{_<?_, _or_}
+use Rattle.model.specs.declared.refusal.Refusal.the-variants.{AccountOverLimit, BookSize, DeskOutOfRange}
+use Rattle.model.specs.declared.refusal.Refusal.the-variants.{RoundOutOfTurn}
+use Rattle.model.specs.Counting.{_<?_, _≤?_, _=?_, _or_}
 use Rattle.model.specs.Numbers.{number, answerOfVerdict}
 use Rattle.model.proofs.Verdicts.{updated-accepted, updated-refused}
 use Rattle.model.specs.Verdicts.{Row, _gives_, Verdict, accepted, refused, firstFault}
 use Rattle.model.specs.market.Faults.{outside}
-use Rattle.model.specs.book.PlainBook.{bookSize, outOfTurn}
-use Rattle.model.proofs.Tests.{lt-no, or-no}
+use Rattle.model.specs.book.PlainBook.{bookSize, noDesk, outOfTurn}
+use Rattle.model.proofs.Tests.{lt-no, le-no, or-no}
 use Rattle.model.proofs.Counting.{some-no}
 use Rattle.model.proofs.Loops.{or-is}
-use Rattle.model.proofs.market.Acceptance.{inside}
+use Rattle.model.proofs.market.Acceptance.{inside, equal}
 use Rattle.model.specs.declared.answers.Verdict.the-variants as verdicts
 use Rattle.ledger.specs.declared.round.Round.{Round}
 use Rattle.ledger.specs.declared.settling.Ruling.{Ruling}
@@ -42,15 +43,26 @@ all-fail a b c e =
 
 -- a book of the right size for a round of n guests and m stations
 pub sized :
-    (n m guests stations : ℕ) (a : Bool) → (a gives 13) ≡ bookSize n m guests stations → a ≡ false
-    → (guests ≤ maxGuests) × (m ≤ stations) × (stations ≤ maxStations)
+    (n m guests stations lasts : ℕ) (a : Bool) → (a gives 13) ≡ bookSize n m guests stations lasts → a ≡ false
+    → (guests ≤ maxGuests) × (lasts ≡ maxDesks)
 unfolding bookSize
-sized n m guests stations a e z =
-    let k : (outside n maxGuests guests or outside m maxStations stations) ≡ false = cc in
+sized n m guests stations lasts a e z =
+    let k : (outside n maxGuests guests or outside m maxStations stations or not (lasts =? maxDesks)) ≡ false = cc in
     let h = or-no _ _ k in
-    (inside _ _ _ (h .0) .1, inside _ _ _ (h .1) .0, inside _ _ _ (h .1) .1)
+    (inside _ _ _ (or-no _ _ (h .0) .0) .1, equal _ _ (h .1))
 
-module _ (r : Round) (full : Bool) (stations round : ℕ) (guests : List ℕ) (house last : ℕ) where
+-- a desk of a book of the right size
+pub desk-in :
+    (desk lasts : ℕ) (b : Bool) → (b gives 25) ≡ noDesk desk → b ≡ false → lasts ≡ maxDesks → desk < lasts
+unfolding noDesk
+desk-in desk lasts b e z q = let k : maxDesks ≤? desk ≡ false = cc in omega (arith, le-no _ _ k, q)
+
+module _ (r : Round) (full : Bool) (stations desk round : ℕ) (guests : List ℕ) (house : ℕ) (last : List ℕ) where
+  -- what settling leaves, by the verdict on this round
+  abbrev Leaves : Ruling → List ℕ → ℕ → List ℕ → Type 0
+  Leaves s guests′ house′ last′ =
+      Settled (ruled r full stations desk round guests house last) r desk round guests house last s guests′ house′ last′
+
   -- the code's test
   pub test-is :
       (guests-full house-full : Bool) → guests-full ≡ exceeding guests (r .charges)
@@ -61,28 +73,33 @@ module _ (r : Round) (full : Bool) (stations round : ℕ) (guests : List ℕ) (h
 
   -- the verdict, from what the code knows of its tests
   pub ruled-refused :
-      (x : Refusal) → r .reply ≡ verdicts.Refused x → ruled r full stations round guests house last ≡ refused (number x)
+      (x : Refusal) → r .reply ≡ verdicts.Refused x
+      → ruled r full stations desk round guests house last ≡ refused (number x)
   unfolding ruled answerOfVerdict followed
   ruled-refused x e = rw e
 
   pub ruled-posted :
-      (size late over : Bool) → r .reply ≡ verdicts.Accepted
-      → (size gives 13) ≡ bookSize (r .guests) (r .stations) (length guests) stations
-      → (late gives 11) ≡ outOfTurn round last → noRoom r full guests house ≡ over
-      → ruled r full stations round guests house last
-      ≡ firstFault ((size gives 13) ∷ (late gives 11) ∷ (over gives 12) ∷ [])
+      (size far late over : Bool) → r .reply ≡ verdicts.Accepted
+      → (size gives 13) ≡ bookSize (r .guests) (r .stations) (length guests) stations (length last)
+      → (far gives 25) ≡ noDesk desk → (late gives 11) ≡ outOfTurn round (getD last desk 0)
+      → noRoom r full guests house ≡ over
+      → ruled r full stations desk round guests house last
+      ≡ firstFault ((size gives 13) ∷ (far gives 25) ∷ (late gives 11) ∷ (over gives 12) ∷ [])
   unfolding ruled answerOfVerdict followed
-  ruled-posted size late over e b t o =
-      let rows : Row → Row → Bool → List Row = λ x y z. x ∷ y ∷ (z gives 12) ∷ [] in
-      ap (λ x. followed (answerOfVerdict x) (rows (bookSize (r .guests) (r .stations) (length guests) stations)
-      (outOfTurn round last) (noRoom r full guests house))) e
-      ∙ ap (λ x. firstFault (rows x (outOfTurn round last) (noRoom r full guests house))) (sym b)
-      ∙ ap (λ x. firstFault (rows (size gives 13) x (noRoom r full guests house))) (sym t)
-      ∙ ap (λ x. firstFault (rows (size gives 13) (late gives 11) x)) o
+  ruled-posted size far late over e b d t o =
+      let rows : Row → Row → Row → Bool → List Row = λ w x y z. w ∷ x ∷ y ∷ (z gives 12) ∷ [] in
+      let turn = outOfTurn round (getD last desk 0) in
+      let full-is = noRoom r full guests house in
+      ap (λ x. followed (answerOfVerdict x)
+      (rows (bookSize (r .guests) (r .stations) (length guests) stations (length last)) (noDesk desk) turn full-is)) e
+      ∙ ap (λ x. firstFault (rows x (noDesk desk) turn full-is)) (sym b)
+      ∙ ap (λ x. firstFault (rows (size gives 13) x turn full-is)) (sym d)
+      ∙ ap (λ x. firstFault (rows (size gives 13) (far gives 25) x full-is)) (sym t)
+      ∙ ap (λ x. firstFault (rows (size gives 13) (far gives 25) (late gives 11) x)) o
 
   pub refused-by :
       (v : Verdict) (x : Refusal) (s : Ruling) → v ≡ refused (number x) → s ≡ refusal x
-      → Settled v r round guests house last s guests house last
+      → Settled v r desk round guests house last s guests house last
   unfolding refusal answerOfVerdict
   refused-by v x s e q = record {
     says = ap (λ s. answerOfVerdict (s .reply)) q ∙ sym e;
@@ -94,43 +111,52 @@ module _ (r : Round) (full : Bool) (stations round : ℕ) (guests : List ℕ) (h
 
   pub settled-refused :
       (x : Refusal) (s : Ruling) → r .reply ≡ verdicts.Refused x → s ≡ refusal x
-      → Settled (ruled r full stations round guests house last) r round guests house last s guests house last
+      → Leaves s guests house last
   settled-refused x s e q = refused-by _ x s (ruled-refused x e) q
 
   module _ (size : Bool) (e : r .reply ≡ verdicts.Accepted)
-      (b : (size gives 13) ≡ bookSize (r .guests) (r .stations) (length guests) stations) where
+      (b : (size gives 13) ≡ bookSize (r .guests) (r .stations) (length guests) stations (length last)) where
     pub settled-size :
         (s : Ruling) → size ≡ true → s ≡ refusal BookSize
-        → Settled (ruled r full stations round guests house last) r round guests house last s guests house last
-    unfolding firstFault outOfTurn
-    settled-size s z q = refused-by _ BookSize s (ruled-posted size _ _ e b refl refl ∙ rw z refl) q
+        → Leaves s guests house last
+    unfolding firstFault noDesk outOfTurn
+    settled-size s z q = refused-by _ BookSize s (ruled-posted size _ _ _ e b refl refl refl ∙ rw z refl) q
 
-    module _ (late : Bool) (z : size ≡ false) (t : (late gives 11) ≡ outOfTurn round last) where
-      pub settled-late :
-          (s : Ruling) → late ≡ true → s ≡ refusal RoundOutOfTurn
-          → Settled (ruled r full stations round guests house last) r round guests house last s guests house last
-      unfolding firstFault
-      settled-late s l q = refused-by _ RoundOutOfTurn s (ruled-posted size late _ e b t refl ∙ rw (z, l) refl) q
+    module _ (far : Bool) (z : size ≡ false) (d : (far gives 25) ≡ noDesk desk) where
+      pub settled-far :
+          (s : Ruling) → far ≡ true → s ≡ refusal DeskOutOfRange
+          → Leaves s guests house last
+      unfolding firstFault outOfTurn
+      settled-far s k q = refused-by _ DeskOutOfRange s (ruled-posted size far _ _ e b d refl refl ∙ rw (z, k) refl) q
 
-      pub settled-over :
-          (s : Ruling) → late ≡ false → noRoom r full guests house ≡ true → s ≡ refusal AccountOverLimit
-          → Settled (ruled r full stations round guests house last) r round guests house last s guests house last
-      unfolding firstFault
-      settled-over s l o q = refused-by _ AccountOverLimit s (ruled-posted size late true e b t o ∙ rw (z, l) refl) q
+      module _ (late : Bool) (y : far ≡ false) (t : (late gives 11) ≡ outOfTurn round (getD last desk 0)) where
+        pub settled-late :
+            (s : Ruling) → late ≡ true → s ≡ refusal RoundOutOfTurn
+            → Leaves s guests house last
+        unfolding firstFault
+        settled-late s l q =
+            refused-by _ RoundOutOfTurn s (ruled-posted size far late _ e b d t refl ∙ rw (z, y, l) refl) q
 
-      pub settled-posted :
-          (s : Ruling) (guests′ : List ℕ) (house′ : ℕ) → late ≡ false → noRoom r full guests house ≡ false
-          → s .reply ≡ verdicts.Accepted → s .credits ≡ r .stations → guests′ ≡ plus guests (r .charges)
-          → house′ ≡ house + r .margin .0
-          → Settled (ruled r full stations round guests house last) r round guests house last s guests′ house′ round
-      unfolding firstFault answerOfVerdict
-      settled-posted s guests′ house′ l o q k g h =
-          let v : ruled r full stations round guests house last ≡ accepted tt =
-          ruled-posted size late false e b t o ∙ rw (z, l) refl in
-          record {
-            says = ap answerOfVerdict q ∙ sym v;
-            credits-are = k ∙ sym (updated-accepted _ _ v);
-            guests-are = g ∙ sym (updated-accepted _ _ v);
-            house-is = h ∙ sym (updated-accepted _ _ v);
-            last-is = sym (updated-accepted _ _ v);
-          }
+        pub settled-over :
+            (s : Ruling) → late ≡ false → noRoom r full guests house ≡ true → s ≡ refusal AccountOverLimit
+            → Leaves s guests house last
+        unfolding firstFault
+        settled-over s l o q =
+            refused-by _ AccountOverLimit s (ruled-posted size far late true e b d t o ∙ rw (z, y, l) refl) q
+
+        pub settled-posted :
+            (s : Ruling) (guests′ : List ℕ) (house′ : ℕ) → late ≡ false → noRoom r full guests house ≡ false
+            → s .reply ≡ verdicts.Accepted → s .credits ≡ r .stations → guests′ ≡ plus guests (r .charges)
+            → house′ ≡ house + r .margin .0
+            → Leaves s guests′ house′ (set last desk round)
+        unfolding firstFault answerOfVerdict
+        settled-posted s guests′ house′ l o q k g h =
+            let v : ruled r full stations desk round guests house last ≡ accepted tt =
+            ruled-posted size far late false e b d t o ∙ rw (z, y, l) refl in
+            record {
+              says = ap answerOfVerdict q ∙ sym v;
+              credits-are = k ∙ sym (updated-accepted _ _ v);
+              guests-are = g ∙ sym (updated-accepted _ _ v);
+              house-is = h ∙ sym (updated-accepted _ _ v);
+              last-is = sym (updated-accepted _ _ v);
+            }

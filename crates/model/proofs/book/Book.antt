@@ -4,6 +4,7 @@ use mathlib.Core.List.{List, _∷_}
 use mathlib.Core.Path.{_≡_, refl, sym, ap, ap₂, _∙_}
 use lib.ListN.{getD, length, replicate}
 use lib.Seq.{ext-getD}
+use Rattle.model.specs.Limits.{maxDesks}
 use Rattle.model.specs.book.Book.{account, soldOf, paidOf, emptyBook, plain, PlainDetermines}
 use Rattle.model.specs.declared.account.StationAccount.{StationAccount}
 use Rattle.model.proofs.book.Records.{length-sold, getD-sold, getD-paid}
@@ -34,4 +35,10 @@ zero-paid (suc s) = ap (λ xs. 0 ∷ xs) (zero-paid s)
 pub plain-empty : (g s : ℕ) → plain (emptyBook g s) ≡ emptyPlain g s
 unfolding plain emptyBook emptyPlain
 plain-empty g s =
-    λ x. record { guests = replicate g 0; sold = zero-sold s x; paid = zero-paid s x; house = 0; last = 0 }
+    λ x. record {
+      guests = replicate g 0;
+      sold = zero-sold s x;
+      paid = zero-paid s x;
+      house = 0;
+      last = replicate maxDesks 0;
+    }

@@ -16,8 +16,8 @@ use Rattle.model.specs.market.Outcome.{efficientOutcome}
 use Rattle.model.specs.market.Faults.{outside, repeats, counts, lengths, values, listLengths, marketFaults}
 use Rattle.model.specs.market.Faults.{unknownRule, verdict, tableFaults, clearingFaults}
 use Rattle.model.specs.market.Gains.{guestGain, stationGain}
-use Rattle.model.specs.book.PlainBook.{raised, entered, overLimit, bookSize, outOfTurn, postingFaults, emptyPlain}
-use Rattle.model.specs.book.PlainBook.{answer, after, answers, final}
+use Rattle.model.specs.book.PlainBook.{raised, entered, overLimit, bookSize, noDesk, outOfTurn}
+use Rattle.model.specs.book.PlainBook.{postingFaults, emptyPlain, answer, after, answers, final}
 use Rattle.model.specs.book.Book.{soldOf, paidOf, emptyBook, plain}
 use Rattle.model.specs.sheet.Fields.{littleEndian, mapWidth, hasBit}
 use Rattle.model.specs.sheet.Rows.{mapAt, bidsAt, nextAt, rowAt, askOf, baysOf, amountOf, ticketOf, bidBy, bidOf}
@@ -60,8 +60,8 @@ unfolding clearing-computes sooner insert insertWhere insertGuest candidaciesBel
 efficient-computes = tt
 
 unfoldable pub posting-computes : Unit {0}
-unfolding clearing-computes raised entered overLimit bookSize outOfTurn postingFaults emptyPlain answer after answers
-    final soldOf paidOf emptyBook plain
+unfolding clearing-computes raised entered overLimit bookSize noDesk outOfTurn postingFaults emptyPlain answer after
+    answers final soldOf paidOf emptyBook plain
 posting-computes = tt
 
 unfoldable pub reading-computes : Unit {0}

@@ -22,7 +22,7 @@ use Rattle.model.specs.sheet.Rows.{bidFaults, bidsFaults, rowFaults, row
 use Rattle.model.specs.sheet.Shortest.{writingFaults}
 use Rattle.model.specs.csv.Faults.{byteFaults, endFaults, faultsFrom, csvFaults, readingCsvFaults}
 use Rattle.model.specs.places.Faults.{placeLengths, placeValues, placingFaults}
-use Rattle.model.specs.book.PlainBook.{bookSize, outOfTurn, postingFaults}
+use Rattle.model.specs.book.PlainBook.{bookSize, noDesk, outOfTurn, postingFaults}
 use Rattle.model.proofs.Tests.{both, first, second, le-yes}
 use Rattle.model.proofs.Promises.{was-refused}
 use Rattle.model.proofs.Verdicts.{updated-accepted}
@@ -100,7 +100,7 @@ unfolding numberedFromOne _≤?_ _and_ clearing reading readingCsv writing placi
     clearingFaults tableFaults unknownRule counts lengths listLengths values marketFaults readingFaults tableLengths
     sheetFaults readingCsvFaults csvFaults writingFaults placingFaults placeLengths placeValues explainingFaults
     explainedFaults explainedLengths joiningFaults pairFaults joinedLengths tryingFaults tryFaults postingFaults
-    bookSize outOfTurn
+    bookSize noDesk outOfTurn
 faults-numbered-from-one = record {
   of-clearing = λ made rule t entry. refl;
   of-reading = λ s entry. numbered-both (rowsFaults s _ _) _ (rows-numbered s _ _) refl;

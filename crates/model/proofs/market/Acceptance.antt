@@ -17,7 +17,8 @@ use Rattle.model.specs.market.Faults.{unknownRule, verdict, Accepted, ta
 use Rattle.model.specs.market.Rules.{named, isUnknown, ruleIn, ruleOf}
 use Rattle.model.specs.declared.rule.Rule.the-variants.{Median, TwoThirds}
 use Rattle.model.specs.declared.rule.NamedRule.the-variants.{Known, Unknown}
-use Rattle.model.specs.book.PlainBook.{PlainBook, entered, overLimit, bookSize, outOfTurn, postingFaults}
+use Rattle.model.specs.book.PlainBook.{PlainBook, entered, overLimit, bookSize, noDesk, outOfTurn}
+use Rattle.model.specs.book.PlainBook.{postingFaults}
 use Rattle.model.specs.market.Outcome.{Results}
 use Rattle.model.specs.claims.Meaning.{Differ, WithinLimits, AcceptedIffWithinLimits, CallWithinLimits}
 use Rattle.model.specs.claims.Meaning.{CallAcceptedIffWithinLimits, AccountsWithin, PostingWithinLimits}
@@ -246,16 +247,18 @@ not-over B w =
     (not-lt _ _ (w .house-most))
 
 posting-within :
-    (rule : ℕ) (t : Tables) (round : ℕ) (B : PlainBook) → firstFault (postingFaults rule t round B) ≡ accepted tt
-    → PostingWithinLimits rule t round B
-unfolding verdict postingFaults unknownRule bookSize outOfTurn
-posting-within rule t round B e =
+    (rule : ℕ) (t : Tables) (desk round : ℕ) (B : PlainBook)
+    → firstFault (postingFaults rule t desk round B) ≡ accepted tt → PostingWithinLimits rule t desk round B
+unfolding verdict postingFaults unknownRule bookSize noDesk outOfTurn
+posting-within rule t desk round B e =
     let (n, e0) = no-fault _ _ _ e in
     let (m, e1) = no-faults (marketFaults t) _ e0 in
     let (size, e2) = no-fault _ _ _ e1 in
-    let (turn, e3) = no-fault _ _ _ e2 in
-    let (room, e4) = no-fault _ _ _ e3 in
-    let (g, s) = or-no _ _ size in
+    let (desk-free, e3) = no-fault _ _ _ e2 in
+    let (turn, e4) = no-fault _ _ _ e3 in
+    let (room, e5) = no-fault _ _ _ e4 in
+    let (gs, d) = or-no _ _ size in
+    let (g, s) = or-no _ _ gs in
     let (left, next) = or-no _ _ turn in
     let (before, after) = or-no _ _ room in
     record {
@@ -265,23 +268,27 @@ posting-within rule t round B e =
       guests-most = inside _ _ _ g .1;
       stations-least = inside _ _ _ s .0;
       stations-most = inside _ _ _ s .1;
+      desks-counted = equal _ _ d;
+      desk-known = le-no _ _ desk-free;
       rounds-left = le-no _ _ left;
       next-round = equal _ _ next;
       within-before = under-limit B before;
-      within-after = under-limit (entered (ruleOf rule) t round B) after;
+      within-after = under-limit (entered (ruleOf rule) t desk round B) after;
     }
 
 posting-accept :
-    (rule : ℕ) (t : Tables) (round : ℕ) (B : PlainBook) → PostingWithinLimits rule t round B
-    → firstFault (postingFaults rule t round B) ≡ accepted tt
-unfolding verdict postingFaults unknownRule bookSize outOfTurn
-posting-accept rule t round B w =
+    (rule : ℕ) (t : Tables) (desk round : ℕ) (B : PlainBook) → PostingWithinLimits rule t desk round B
+    → firstFault (postingFaults rule t desk round B) ≡ accepted tt
+unfolding verdict postingFaults unknownRule bookSize noDesk outOfTurn
+posting-accept rule t desk round B w =
     fault-free _ _ (is-known rule (w .rule-known)) (rw (fault-second (marketFaults t) _ (w .market-accepted))
-    (fault-free _ _ (neither (not-outside _ _ _ (w .guests-least) (w .guests-most))
-    (not-outside _ _ _ (w .stations-least) (w .stations-most)))
+    (fault-free _ _ (neither (neither (not-outside _ _ _ (w .guests-least) (w .guests-most))
+    (not-outside _ _ _ (w .stations-least) (w .stations-most))) (not-unequal _ _ (w .desks-counted)))
+    (fault-free _ _ (not-le _ _ (w .desk-known))
     (fault-free _ _ (neither (not-le _ _ (w .rounds-left)) (not-unequal _ _ (w .next-round)))
     (fault-free _ _ (neither (not-over B (w .within-before)) (not-over _ (w .within-after)))
-    fault-none))))
+    fault-none)))))
 
 pub posting-accepted-iff-within-limits : PostingAcceptedIffWithinLimits
-posting-accepted-iff-within-limits rule t round B = (posting-within rule t round B, posting-accept rule t round B)
+posting-accepted-iff-within-limits rule t desk round B =
+    (posting-within rule t desk round B, posting-accept rule t desk round B)

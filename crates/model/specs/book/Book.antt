@@ -3,6 +3,7 @@ use Prim.Native.Nat.{ℕ}
 use mathlib.Core.List.{List, map}
 use mathlib.Core.Path.{_≡_}
 use lib.ListN.{getD, replicate}
+use Rattle.model.specs.Limits.{maxDesks}
 use Rattle.model.specs.book.PlainBook.{PlainBook}
 use Rattle.model.specs.declared.account.StationAccount.{StationAccount}
 
@@ -24,14 +25,14 @@ pub record Book : Type 0 where
   pub guests : List ℕ
   pub stations : List StationAccount
   pub house : ℕ
-  pub last : ℕ
+  pub last : List ℕ
 
-abbrev pub book : (guests : List ℕ) (stations : List StationAccount) (house last : ℕ) → Book
+abbrev pub book : (guests : List ℕ) (stations : List StationAccount) (house : ℕ) (last : List ℕ) → Book
 book guests stations house last = record { guests = guests; stations = stations; house = house; last = last }
 
--- a book of g guest and s station accounts, all 0
+-- a book of g guest and s station accounts, all 0, in which no desk has posted a round
 unfoldable pub emptyBook : (g s : ℕ) → Book
-emptyBook g s = book (replicate g 0) (replicate s (account 0 0)) 0 0
+emptyBook g s = book (replicate g 0) (replicate s (account 0 0)) 0 (replicate maxDesks 0)
 
 -- the plain book with the same numbers
 unfoldable pub plain : Book → PlainBook

@@ -75,6 +75,13 @@ sixFirst = six (9 ∷ 0 ∷ 0 ∷ 0 ∷ 0 ∷ 0 ∷ [])
 unfoldable pub sixFourth : Tables
 sixFourth = six (0 ∷ 0 ∷ 0 ∷ 9 ∷ 0 ∷ 0 ∷ [])
 
+-- the last rounds of the desks where desk 0 alone has posted, and where none has
+abbrev pub firstDesk : ℕ → List ℕ
+firstDesk k = k ∷ replicate 7 0
+
+abbrev pub noRounds : List ℕ
+noRounds = firstDesk 0
+
 -- a case, with what is expected of it
 pub data Case : Type 0 where
   -- a market clears so, under the rule of this number
@@ -89,8 +96,9 @@ pub data Case : Type 0 where
   _is_ : Tables → Verdict → Case
   -- a call of `clear` with this rule number and result lists of these lengths
   called : (rule : ℕ) → Tables → (stations charges sold paid : ℕ) → Verdict → Case
-  -- a posting, with this rule number, the round and the book's numbers
-  posts : (rule : ℕ) → Tables → (round : ℕ) (guests sold paid : List ℕ) (house last : ℕ) → Verdict → Case
+  -- a posting, with this rule number, the desk, the round and the book's numbers
+  posts :
+      (rule : ℕ) → Tables → (desk round : ℕ) (guests sold paid : List ℕ) (house : ℕ) (last : List ℕ) → Verdict → Case
 
 infix 20 _is_
 -- what is found: an outcome, an order, a number or a verdict
@@ -112,7 +120,7 @@ found (costs t i j c) = numbers (charge (screened Median t) (decision Median t) 
 found (t is v) = verdicts (verdict t)
 found (called rule t stations charges sold paid v) = verdicts (firstFault (clearingFaults rule t
     (results (replicate stations 0) (replicate charges 0) (replicate sold 0) (replicate paid 0))))
-found (posts rule t round guests sold paid house last v) = verdicts (firstFault (postingFaults rule t round
+found (posts rule t desk round guests sold paid house last v) = verdicts (firstFault (postingFaults rule t desk round
     (record { guests = guests; sold = sold; paid = paid; house = house; last = last })))
 
 unfoldable pub expected : Case → Found
@@ -122,7 +130,7 @@ expected (stands t l) = orders l
 expected (costs t i j c) = numbers c
 expected (t is v) = verdicts v
 expected (called rule t stations charges sold paid v) = verdicts v
-expected (posts rule t round guests sold paid house last v) = verdicts v
+expected (posts rule t desk round guests sold paid house last v) = verdicts v
 
 -- A to J, and in A guest 1's other place; E with other tickets, and ties split by tickets that fall, rise and do
 -- neither, 0 and the greatest among them; by the efficient mechanism Table I, a critical total of 9 for guest 1 from
@@ -130,7 +138,9 @@ expected (posts rule t round guests sold paid house last v) = verdicts v
 -- faults; tickets that repeat, or are too few or many; each result list too short and too long, with the lengths of the
 -- market before and its values after; the postings of document 01's example, then the book's size, the round after the
 -- last, and the limit of each kind of account; all these by rule 1. Then the cut of asks 1 to 6 under rules 1 and 2,
--- where station 4 opens under rule 2 alone, and numbers of no rule, refused first of all
+-- where station 4 opens under rule 2 alone, and numbers of no rule, refused first of all. Then desks: another's first
+-- round, the last desk, another's round where desk 0 has none left, a desk too many, a list of last rounds that is too
+-- short or too long, and the order of 15, 13, 25 and 11
 unfoldable pub cases : List Case
 cases =
     clears 1 tableI (outcomeOf 3 0 (4 ∷ 0 ∷ 2 ∷ 0 ∷ 0 ∷ []) (15 ∷ 0 ∷ 18 ∷ 0 ∷ 0 ∷ []) (0 ∷ 6 ∷ 0 ∷ 5 ∷ 0 ∷ [])
@@ -206,25 +216,25 @@ cases =
     ∷ called 1 (pair (1 ∷ []) (8 ∷ [])) 0 0 0 0 (refused 5)
     ∷ called 1 (single 1_000_001 1 1 1) 0 0 0 0 (refused 10)
     ∷ called 1 (tied (9 ∷ 7 ∷ 5 ∷ 9 ∷ [])) 0 0 0 0 (refused 10)
-    ∷ posts 1 caseE 1 (0 ∷ 0 ∷ []) (0 ∷ 0 ∷ []) (0 ∷ 0 ∷ []) 0 0 (accepted tt)
-    ∷ posts 1 caseE 1 (24 ∷ 0 ∷ []) (3 ∷ 0 ∷ []) (18 ∷ 0 ∷ []) 6 1 (refused 11)
-    ∷ posts 1 caseE 7 (0 ∷ []) (0 ∷ 0 ∷ []) (0 ∷ 0 ∷ []) 0 0 (refused 13)
-    ∷ posts 1 caseE 1 (replicate 201 0) (0 ∷ 0 ∷ []) (0 ∷ 0 ∷ []) 0 0 (refused 13)
-    ∷ posts 1 lone 1 (0 ∷ []) (0 ∷ 0 ∷ []) (0 ∷ 0 ∷ []) 0 0 (accepted tt)
-    ∷ posts 1 lone 1 (0 ∷ 0 ∷ []) (0 ∷ []) (0 ∷ []) 0 0 (refused 13)
-    ∷ posts 1 lone 1 (replicate 200 0) (replicate 40 0) (replicate 40 0) 0 0 (accepted tt)
-    ∷ posts 1 lone 1 (0 ∷ []) (replicate 41 0) (replicate 41 0) 0 0 (refused 13)
-    ∷ posts 1 (single 1 1 1 1_000_001) 7 [] [] [] 0 0 (refused 9)
-    ∷ posts 1 (tied (9 ∷ 7 ∷ 5 ∷ 9 ∷ [])) 7 [] [] [] 0 0 (refused 15)
-    ∷ posts 1 caseE 7 (1_000_000_000_000_001 ∷ 0 ∷ []) (0 ∷ 0 ∷ []) (0 ∷ 0 ∷ []) 0 0 (refused 11)
-    ∷ posts 1 caseE 4_294_967_296 (0 ∷ 0 ∷ []) (0 ∷ 0 ∷ []) (0 ∷ 0 ∷ []) 0 4_294_967_295 (refused 11)
-    ∷ posts 1 caseE 1 (999_999_999_999_976 ∷ 0 ∷ []) (999_999_999_999_997 ∷ 0 ∷ []) (999_999_999_999_982 ∷ 0 ∷ [])
-    999_999_999_999_994 0 (accepted tt)
-    ∷ posts 1 caseE 1 (999_999_999_999_977 ∷ 0 ∷ []) (0 ∷ 0 ∷ []) (0 ∷ 0 ∷ []) 0 0 (refused 12)
-    ∷ posts 1 caseE 1 (0 ∷ 0 ∷ []) (999_999_999_999_998 ∷ 0 ∷ []) (0 ∷ 0 ∷ []) 0 0 (refused 12)
-    ∷ posts 1 caseE 1 (0 ∷ 0 ∷ []) (0 ∷ 0 ∷ []) (999_999_999_999_983 ∷ 0 ∷ []) 0 0 (refused 12)
-    ∷ posts 1 caseE 1 (0 ∷ 0 ∷ []) (0 ∷ 0 ∷ []) (0 ∷ 0 ∷ []) 999_999_999_999_995 0 (refused 12)
-    ∷ posts 1 caseE 1 (0 ∷ 0 ∷ 1_000_000_000_000_001 ∷ []) (0 ∷ 0 ∷ []) (0 ∷ 0 ∷ []) 0 0 (refused 12)
+    ∷ posts 1 caseE 0 1 (0 ∷ 0 ∷ []) (0 ∷ 0 ∷ []) (0 ∷ 0 ∷ []) 0 noRounds (accepted tt)
+    ∷ posts 1 caseE 0 1 (24 ∷ 0 ∷ []) (3 ∷ 0 ∷ []) (18 ∷ 0 ∷ []) 6 (firstDesk 1) (refused 11)
+    ∷ posts 1 caseE 0 7 (0 ∷ []) (0 ∷ 0 ∷ []) (0 ∷ 0 ∷ []) 0 noRounds (refused 13)
+    ∷ posts 1 caseE 0 1 (replicate 201 0) (0 ∷ 0 ∷ []) (0 ∷ 0 ∷ []) 0 noRounds (refused 13)
+    ∷ posts 1 lone 0 1 (0 ∷ []) (0 ∷ 0 ∷ []) (0 ∷ 0 ∷ []) 0 noRounds (accepted tt)
+    ∷ posts 1 lone 0 1 (0 ∷ 0 ∷ []) (0 ∷ []) (0 ∷ []) 0 noRounds (refused 13)
+    ∷ posts 1 lone 0 1 (replicate 200 0) (replicate 40 0) (replicate 40 0) 0 noRounds (accepted tt)
+    ∷ posts 1 lone 0 1 (0 ∷ []) (replicate 41 0) (replicate 41 0) 0 noRounds (refused 13)
+    ∷ posts 1 (single 1 1 1 1_000_001) 0 7 [] [] [] 0 noRounds (refused 9)
+    ∷ posts 1 (tied (9 ∷ 7 ∷ 5 ∷ 9 ∷ [])) 0 7 [] [] [] 0 noRounds (refused 15)
+    ∷ posts 1 caseE 0 7 (1_000_000_000_000_001 ∷ 0 ∷ []) (0 ∷ 0 ∷ []) (0 ∷ 0 ∷ []) 0 noRounds (refused 11)
+    ∷ posts 1 caseE 0 4_294_967_296 (0 ∷ 0 ∷ []) (0 ∷ 0 ∷ []) (0 ∷ 0 ∷ []) 0 (firstDesk 4_294_967_295) (refused 11)
+    ∷ posts 1 caseE 0 1 (999_999_999_999_976 ∷ 0 ∷ []) (999_999_999_999_997 ∷ 0 ∷ []) (999_999_999_999_982 ∷ 0 ∷ [])
+    999_999_999_999_994 noRounds (accepted tt)
+    ∷ posts 1 caseE 0 1 (999_999_999_999_977 ∷ 0 ∷ []) (0 ∷ 0 ∷ []) (0 ∷ 0 ∷ []) 0 noRounds (refused 12)
+    ∷ posts 1 caseE 0 1 (0 ∷ 0 ∷ []) (999_999_999_999_998 ∷ 0 ∷ []) (0 ∷ 0 ∷ []) 0 noRounds (refused 12)
+    ∷ posts 1 caseE 0 1 (0 ∷ 0 ∷ []) (0 ∷ 0 ∷ []) (999_999_999_999_983 ∷ 0 ∷ []) 0 noRounds (refused 12)
+    ∷ posts 1 caseE 0 1 (0 ∷ 0 ∷ []) (0 ∷ 0 ∷ []) (0 ∷ 0 ∷ []) 999_999_999_999_995 noRounds (refused 12)
+    ∷ posts 1 caseE 0 1 (0 ∷ 0 ∷ 1_000_000_000_000_001 ∷ []) (0 ∷ 0 ∷ []) (0 ∷ 0 ∷ []) 0 noRounds (refused 12)
     ∷ clears 1 sixFirst
     (outcomeOf 4 0 (1 ∷ []) (4 ∷ []) (1 ∷ 0 ∷ 0 ∷ 0 ∷ 0 ∷ 0 ∷ []) (4 ∷ 0 ∷ 0 ∷ 0 ∷ 0 ∷ 0 ∷ []))
     ∷ clears 2 sixFirst
@@ -240,9 +250,19 @@ cases =
     ∷ called 3 lone 1 1 2 2 (refused 18)
     ∷ called 255 lone 1 1 2 2 (refused 18)
     ∷ called 3 (numbered [] (1 ∷ []) [] []) 1 1 1 1 (refused 18)
-    ∷ posts 2 caseE 1 (0 ∷ 0 ∷ []) (0 ∷ 0 ∷ []) (0 ∷ 0 ∷ []) 0 0 (accepted tt)
-    ∷ posts 3 caseE 1 (0 ∷ 0 ∷ []) (0 ∷ 0 ∷ []) (0 ∷ 0 ∷ []) 0 0 (refused 18)
-    ∷ posts 0 (numbered [] (1 ∷ []) [] []) 7 [] [] [] 0 0 (refused 18)
+    ∷ posts 2 caseE 0 1 (0 ∷ 0 ∷ []) (0 ∷ 0 ∷ []) (0 ∷ 0 ∷ []) 0 noRounds (accepted tt)
+    ∷ posts 3 caseE 0 1 (0 ∷ 0 ∷ []) (0 ∷ 0 ∷ []) (0 ∷ 0 ∷ []) 0 noRounds (refused 18)
+    ∷ posts 0 (numbered [] (1 ∷ []) [] []) 0 7 [] [] [] 0 noRounds (refused 18)
+    ∷ posts 1 caseE 1 1 (24 ∷ 0 ∷ []) (3 ∷ 0 ∷ []) (18 ∷ 0 ∷ []) 6 (firstDesk 1) (accepted tt)
+    ∷ posts 1 caseE 7 4 (0 ∷ 0 ∷ []) (0 ∷ 0 ∷ []) (0 ∷ 0 ∷ []) 0 (0 ∷ 9 ∷ 9 ∷ 9 ∷ 9 ∷ 9 ∷ 9 ∷ 3 ∷ []) (accepted tt)
+    ∷ posts 1 caseE 7 10 (0 ∷ 0 ∷ []) (0 ∷ 0 ∷ []) (0 ∷ 0 ∷ []) 0 (0 ∷ 9 ∷ 9 ∷ 9 ∷ 9 ∷ 9 ∷ 9 ∷ 3 ∷ []) (refused 11)
+    ∷ posts 1 caseE 1 1 (0 ∷ 0 ∷ []) (0 ∷ 0 ∷ []) (0 ∷ 0 ∷ []) 0 (firstDesk 4_294_967_295) (accepted tt)
+    ∷ posts 1 caseE 8 1 (0 ∷ 0 ∷ []) (0 ∷ 0 ∷ []) (0 ∷ 0 ∷ []) 0 noRounds (refused 25)
+    ∷ posts 1 caseE 255 7 (1_000_000_000_000_001 ∷ 0 ∷ []) (0 ∷ 0 ∷ []) (0 ∷ 0 ∷ []) 0 noRounds (refused 25)
+    ∷ posts 1 caseE 0 1 (0 ∷ 0 ∷ []) (0 ∷ 0 ∷ []) (0 ∷ 0 ∷ []) 0 (replicate 7 0) (refused 13)
+    ∷ posts 1 caseE 8 1 (0 ∷ 0 ∷ []) (0 ∷ 0 ∷ []) (0 ∷ 0 ∷ []) 0 (replicate 9 0) (refused 13)
+    ∷ posts 1 caseE 8 7 (0 ∷ []) (0 ∷ 0 ∷ []) (0 ∷ 0 ∷ []) 0 noRounds (refused 13)
+    ∷ posts 1 (tied (9 ∷ 7 ∷ 5 ∷ 9 ∷ [])) 8 7 [] [] [] 0 [] (refused 15)
     ∷ []
 
 abbrev pub CasesHold : Type 0

@@ -7,6 +7,7 @@ use mathlib.Core.Path.{_≡_}
 use lib.IntN.{pos}
 use lib.ListN.{getD, length}
 use Rattle.model.specs.Limits.{maxGuests, maxStations, maxPrice, maxAmount, maxBays, maxAccount, maxRound}
+use Rattle.model.specs.Limits.{maxDesks}
 use Rattle.model.specs.Counting.{_<?_, _=?_, count}
 use Rattle.model.specs.market.Market.{Tables, bidAt, marketBy, cut, Screened, Queue, queue, before, rank}
 use Rattle.model.specs.market.Market.{market, opens, provisional, firstOut, critical}
@@ -18,7 +19,7 @@ use Rattle.model.specs.Verdicts.{accepted, firstFault}
 use Rattle.model.specs.declared.rule.Rule.{Rule}
 use Rattle.model.specs.declared.rule.Rule.the-variants.{Median, TwoThirds}
 use Rattle.model.specs.market.Faults.{Accepted, clearingFaults}
-use Rattle.model.specs.book.PlainBook.{PlainBook, entered, postingFaults}
+use Rattle.model.specs.book.PlainBook.{PlainBook, lastOf, entered, postingFaults}
 use Rattle.model.specs.market.Gains.{guestGain, stationGain}
 
 -- no two places hold the same number
@@ -73,24 +74,27 @@ pub record AccountsWithin (B : PlainBook) : Type 0 where
   pub paid-most : (j : ℕ) → j < length (B .paid) → getD (B .paid) j 0 ≤ maxAccount
   pub house-most : B .house ≤ maxAccount
 
--- a posting is accepted exactly where its number names a rule, its market is accepted, the book has room for it, the
--- round is next and every account is within its limit before and after
-pub record PostingWithinLimits (rule : ℕ) (t : Tables) (round : ℕ) (B : PlainBook) : Type 0 where
+-- a posting is accepted exactly where its number names a rule, its market is accepted, the book has room for it and a
+-- last round for each of the eight desks, its desk is one of them, the round is that desk's next and every account is
+-- within its limit before and after
+pub record PostingWithinLimits (rule : ℕ) (t : Tables) (desk round : ℕ) (B : PlainBook) : Type 0 where
   pub rule-known : NamesRule rule
   pub market-accepted : Accepted t
   pub guests-least : length (t .amounts) ≤ length (B .guests)
   pub guests-most : length (B .guests) ≤ maxGuests
   pub stations-least : length (t .asks) ≤ length (B .sold)
   pub stations-most : length (B .sold) ≤ maxStations
-  pub rounds-left : B .last < maxRound
-  pub next-round : round ≡ B .last + 1
+  pub desks-counted : length (B .last) ≡ maxDesks
+  pub desk-known : desk < maxDesks
+  pub rounds-left : lastOf B desk < maxRound
+  pub next-round : round ≡ lastOf B desk + 1
   pub within-before : AccountsWithin B
-  pub within-after : AccountsWithin (entered (ruleOf rule) t round B)
+  pub within-after : AccountsWithin (entered (ruleOf rule) t desk round B)
 
 abbrev pub PostingAcceptedIffWithinLimits : Type 0
 PostingAcceptedIffWithinLimits =
-    (rule : ℕ) (t : Tables) (round : ℕ) (B : PlainBook)
-    → (firstFault (postingFaults rule t round B) ≡ accepted tt) ↔ PostingWithinLimits rule t round B
+    (rule : ℕ) (t : Tables) (desk round : ℕ) (B : PlainBook)
+    → (firstFault (postingFaults rule t desk round B) ≡ accepted tt) ↔ PostingWithinLimits rule t desk round B
 
 -- 1. s is in rising order; it has the numbers of l, each as often
 pub record Rising (s : List ℕ) : Type 0 where

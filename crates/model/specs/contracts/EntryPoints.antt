@@ -132,7 +132,7 @@ Tries rule t guest worths row entry answer exit =
 
 unfoldable pub entering : (p : Posting) (entry : PlainBook) → Promise Unit PlainBook
 entering p entry = record {
-  faults = postingFaults (p .rule) (p .tables) (p .round) entry;
+  faults = postingFaults (p .rule) (p .tables) (p .desk) (p .round) entry;
   value = tt;
   leaves = enteredOf p entry;
 }

@@ -41,11 +41,13 @@ abbrev pub resultsOut : (stations charges sold paid : Lent (List ℕ)) → Resul
 resultsOut stations charges sold paid = resultsOf (stations .exit) (charges .exit) (sold .exit) (paid .exit)
 
 -- a book
-abbrev pub bookIn : (guests : Lent (List ℕ)) (stations : Lent (List StationAccount)) (house last : Lent ℕ) → Book
+abbrev pub bookIn : (guests : Lent (List ℕ)) (stations : Lent (List StationAccount)) (house : Lent ℕ)
+    (last : Lent (List ℕ)) → Book
 bookIn guests stations house last =
     book (now (guests .entry)) (now (stations .entry)) (now (house .entry)) (now (last .entry))
 
-abbrev pub bookOut : (guests : Lent (List ℕ)) (stations : Lent (List StationAccount)) (house last : Lent ℕ) → Book
+abbrev pub bookOut : (guests : Lent (List ℕ)) (stations : Lent (List StationAccount)) (house : Lent ℕ)
+    (last : Lent (List ℕ)) → Book
 bookOut guests stations house last =
     book (now (guests .exit)) (now (stations .exit)) (now (house .exit)) (now (last .exit))
 

@@ -77,7 +77,8 @@ abbrev Num : Type 0
 Num = RefT ℕ
 
 abbrev Arg : Type 0
-Arg = ℕ × (Nums × (Nums × (Nums × (Nums × (Nums × (ℕ × (ℕ × (Nums × (Recs × (Num × (Num × Unit {0})))))))))))
+Arg =
+    ℕ × (Nums × (Nums × (Nums × (Nums × (Nums × (ℕ × (ℕ × (ℕ × (Nums × (Recs × (Num × (Nums × Unit {0}))))))))))))
 
 -- the machine values of a slice and of a `&mut`
 abbrev val : {X : Type 0} → RefT (List X) → Val
@@ -102,12 +103,15 @@ stayed = (
             (
               stay-none (λ _. usize) yes,
               (
-                stay-none (λ _. u32) yes,
+                stay-none (λ _. u8) yes,
                 (
-                  gave-slice (5 ∷ []) tt (plain (λ _. u64)),
+                  stay-none (λ _. u32) yes,
                   (
-                    gave-slice (6 ∷ []) tt (plain (λ _. T.the-row)),
-                    (gave-ref (7 ∷ []) tt (plain (λ _. u64)), (gave-ref (8 ∷ []) tt (plain (λ _. u32)), tt)),
+                    gave-slice (5 ∷ []) tt (plain (λ _. u64)),
+                    (
+                      gave-slice (6 ∷ []) tt (plain (λ _. T.the-row)),
+                      (gave-ref (7 ∷ []) tt (plain (λ _. u64)), (gave-slice (8 ∷ []) tt (plain (λ _. u32)), tt)),
+                    ),
                   ),
                 ),
               ),
@@ -130,7 +134,8 @@ module _ {M : Type 1} (𝓤 : URA M) (H : Heap 𝓤) (A : Atoms 𝓤) (mem : Mem
 module _ {M : Type 1} (𝓤 : URA M) (H : Heap 𝓤) (A : Atoms 𝓤) (W : Given 𝓤 H A) (mem : Memory → SProp 𝓤)
     (run : Routine → Fun 𝓤) (κ₀ κ₁ κ₂ κ₃ κ₄ κ₅ κ₆ κ₇ κ₈ : Lft) (q₀ q₁ q₂ q₃ q₄ q₅ q₆ q₇ q₈ : Share) (rule : ℕ)
     (rule-fits : rule < 2 ^ 8) (asks bays amounts tickets bids : Nums) (width : ℕ) (width-fits : width < 2 ^ 64)
-    (round : ℕ) (round-fits : round < 2 ^ 32) (guests : Nums) (stations : Recs) (house last : Num) where
+    (desk : ℕ) (desk-fits : desk < 2 ^ 8) (round : ℕ) (round-fits : round < 2 ^ 32) (guests : Nums) (stations : Recs)
+    (house : Num) (last : Nums) where
   abbrev κs : Lfts 9
   κs = (κ₀, (κ₁, (κ₂, (κ₃, (κ₄, (κ₅, (κ₆, (κ₇, (κ₈, tt)))))))))
 
@@ -138,7 +143,7 @@ module _ {M : Type 1} (𝓤 : URA M) (H : Heap 𝓤) (A : Atoms 𝓤) (W : Given
   qs = (q₀, (q₁, (q₂, (q₃, (q₄, (q₅, (q₆, (q₇, (q₈, tt)))))))))
 
   abbrev a : Arg
-  a = (rule, (asks, (bays, (amounts, (tickets, (bids, (width, (round, (guests, (stations, (house, (last, tt))))))))))))
+  a = (rule, (asks, (bays, (amounts, (tickets, (bids, (width, (desk, (round, (guests, (stations, (house, (last, tt)))))))))))))
 
   -- the values of the parameters, which `post` is passed too
   abbrev at : Vals post.signature κs
@@ -157,8 +162,11 @@ module _ {M : Type 1} (𝓤 : URA M) (H : Heap 𝓤) (A : Atoms 𝓤) (W : Given
               (
                 vint w64 width ∷ [],
                 (
-                  vint w32 round ∷ [],
-                  (val guests ∷ [], (val stations ∷ [], (ptrVal house ∷ [], (ptrVal last ∷ [], tt)))),
+                  vint w8 desk ∷ [],
+                  (
+                    vint w32 round ∷ [],
+                    (val guests ∷ [], (val stations ∷ [], (ptrVal house ∷ [], (val last ∷ [], tt)))),
+                  ),
                 ),
               ),
             ),
@@ -183,8 +191,8 @@ module _ {M : Type 1} (𝓤 : URA M) (H : Heap 𝓤) (A : Atoms 𝓤) (W : Given
   abbrev Owned : Item 𝓤
   Owned =
       ‵ (owns (u8 ∷ ShrSlice (named 0) κ₀ u32 ∷ ShrSlice (named 1) κ₁ u16 ∷ ShrSlice (named 2) κ₂ u16 ∷ ShrSlice (named
-      3) κ₃ u32 ∷ ShrSlice (named 4) κ₄ u32 ∷ usize ∷ u32 ∷ MutSlice (named 5) κ₅ u64 ∷ MutSlice (named 6) κ₆ T.the-row
-      ∷ MutRef (named 7) κ₇ u64 ∷ MutRef (named 8) κ₈ u32 ∷ []) a at)
+      3) κ₃ u32 ∷ ShrSlice (named 4) κ₄ u32 ∷ usize ∷ u8 ∷ u32 ∷ MutSlice (named 5) κ₅ u64 ∷ MutSlice (named 6) κ₆
+      T.the-row ∷ MutRef (named 7) κ₇ u64 ∷ MutSlice (named 8) κ₈ u32 ∷ []) a at)
 
   abbrev Own-asks : Fml
   Own-asks = ShrSlice (named 0) κ₀ u32 .own asks (val asks ∷ [])
@@ -224,10 +232,11 @@ module _ {M : Type 1} (𝓤 : URA M) (H : Heap 𝓤) (A : Atoms 𝓤) (W : Given
       use1 W (‵ Own-tickets ⊛ ‵ Own-tickets) (shr-slice-copy 𝓤 H A W (named 3) κ₃ u32 .twice tickets (val tickets ∷ []))
       $ split ! $ move ! (2 ∷ []) $ fsplit ! $
       use1 W (‵ Own-bids ⊛ ‵ Own-bids) (shr-slice-copy 𝓤 H A W (named 4) κ₄ u32 .twice bids (val bids ∷ [])) $ split ! $
-      move ! (2 ∷ []) $ fsplit ! $ drop ! $ fsplit ! $ drop ! $ fsplit ! $ move ! (1 ∷ []) $ fsplit ! $
-      move ! (1 ∷ []) $ fsplit ! $ move ! (1 ∷ []) $ fsplit ! $ move ! (1 ∷ []) $ move ! (1 ∷ 0 ∷ []) $ fjoin ! $
-      move ! (1 ∷ 0 ∷ []) $ fjoin ! $ move ! (1 ∷ 0 ∷ []) $ fjoin ! $ move ! (1 ∷ 0 ∷ []) $ fjoin ! $
+      move ! (2 ∷ []) $ fsplit ! $ drop ! $ fsplit ! $ drop ! $ fsplit ! $ drop ! $ fsplit ! $ move ! (1 ∷ []) $
+      fsplit ! $ move ! (1 ∷ []) $ fsplit ! $ move ! (1 ∷ []) $ fsplit ! $ move ! (1 ∷ []) $ move ! (1 ∷ 0 ∷ []) $
+      fjoin ! $ move ! (1 ∷ 0 ∷ []) $ fjoin ! $ move ! (1 ∷ 0 ∷ []) $ fjoin ! $ move ! (1 ∷ 0 ∷ []) $ fjoin ! $
       owned ! u32 (Is u32) (uint-makes 𝓤 H A W w32) round _ (refl, round-fits) $ fjoin ! $
+      owned ! u8 (Is u8) (uint-makes 𝓤 H A W w8) desk _ (refl, desk-fits) $ fjoin ! $
       owned ! usize (Is usize) (uint-makes 𝓤 H A W w64) width _ (refl, width-fits) $ fjoin ! $ move ! (1 ∷ 0 ∷ []) $
       fjoin ! $ move ! (2 ∷ 0 ∷ []) $ fjoin ! $ move ! (3 ∷ 0 ∷ []) $ fjoin ! $ move ! (4 ∷ 0 ∷ []) $ fjoin ! $
       move ! (5 ∷ 0 ∷ []) $ fjoin ! $ owned ! u8 (Is u8) (uint-makes 𝓤 H A W w8) rule _ (refl, rule-fits) $ fjoin ! $
@@ -236,11 +245,11 @@ module _ {M : Type 1} (𝓤 : URA M) (H : Heap 𝓤) (A : Atoms 𝓤) (W : Given
       frame ! $ move ! (1 ∷ 0 ∷ []) $ fjoin ! $ move ! (1 ∷ 0 ∷ []) $ fjoin ! $ move ! (1 ∷ 0 ∷ []) $ fjoin ! $
       move ! (1 ∷ 0 ∷ []) $ fjoin ! $ done !
 
-  abbrev Said : Verdict → List ℕ → List StationAccount → ℕ → ℕ → Type 0
+  abbrev Said : Verdict → List ℕ → List StationAccount → ℕ → List ℕ → Type 0
   Said r guests′ stations′ house′ last′ =
       Posts (book (now guests) (now stations) (now house) (now last))
-      (posting rule (tables (now asks) (now bays) (now amounts) (now tickets) (now bids) width) round) (answerOfVerdict r)
-      (book guests′ stations′ house′ last′)
+      (posting rule (tables (now asks) (now bays) (now amounts) (now tickets) (now bids) width) desk round)
+      (answerOfVerdict r) (book guests′ stations′ house′ last′)
 
   -- `reply_number`, on the reply r at the machine value v
   abbrev to-number : Verdict → Val → Number 𝓤 H A mem run .Ghost
@@ -260,26 +269,29 @@ module _ {M : Type 1} (𝓤 : URA M) (H : Heap 𝓤) (A : Atoms 𝓤) (W : Given
   number-said r k =
       exE 𝓤 _ (λ ws. snd∗ 𝓤 (sem 𝓤 H A (lasts number.ended tt (r, tt) ws)) (fact 𝓤 (k ≡ numberOf (answerOfVerdict r))))
 
-  abbrev Had : List ℕ → List StationAccount → ℕ → ℕ → ℕ → Val → List (Item 𝓤)
+  abbrev Had : List ℕ → List StationAccount → ℕ → List ℕ → ℕ → Val → List (Item 𝓤)
   Had guests′ stations′ house′ last′ k v =
       tokens ∷ ‵ Market ∷ ‵ (finally u64 (guests .name) guests′) ∷ ‵ (finally T.the-row (stations .name) stations′)
-      ∷ ‵ (fres (house .name) (u64 .coded .code house′)) ∷ ‵ (fres (last .name) (u32 .coded .code last′))
+      ∷ ‵ (fres (house .name) (u64 .coded .code house′)) ∷ ‵ (finally u32 (last .name) last′)
       ∷ ‵ (u8 .own k (v ∷ [])) ∷ []
 
   exits :
-      (r : Verdict) (guests′ : List ℕ) (stations′ : List StationAccount) (house′ last′ k : ℕ) (v : Val)
+      (r : Verdict) (guests′ : List ℕ) (stations′ : List StationAccount) (house′ : ℕ) (last′ : List ℕ) (k : ℕ)
+      (v : Val)
       → Said r guests′ stations′ house′ last′ → k ≡ numberOf (answerOfVerdict r)
       → length guests′ ≡ length (now guests) → length stations′ ≡ length (now stations)
+      → length last′ ≡ length (now last)
       → ent 𝓤 (⋆ 𝓤 H A (Had guests′ stations′ house′ last′ k v)) (Ends v)
-  exits r guests′ stations′ house′ last′ k v said e l-guests l-stations =
+  exits r guests′ stations′ house′ last′ k v said e l-guests l-stations l-last =
       qed W (Had guests′ stations′ house′ last′ k v) ∵
       suffices ! _ (ends-at 𝓤 H A f.ended stayed (f.clauses 𝓤 H A mem run) W bound v k
-      (tt, (tt, (tt, (tt, (tt, (tt, (tt, (tt, (guests′, (stations′, (house′, (last′, tt))))))))))))
-      (tt, (tt, (tt, (tt, (tt, (tt, (tt, (tt, (l-guests, (l-stations, (tt, (tt, tt))))))))))))) $
+      (tt, (tt, (tt, (tt, (tt, (tt, (tt, (tt, (tt, (guests′, (stations′, (house′, (last′, tt)))))))))))))
+      (tt, (tt, (tt, (tt, (tt, (tt, (tt, (tt, (tt, (l-guests, (l-stations, (tt, (l-last, tt)))))))))))))) $
       says ! (replied said e) $ frame ! $ fsplit ! $ move ! (1 ∷ []) $ fsplit ! $ move ! (1 ∷ []) $ fsplit ! $
       move ! (1 ∷ []) $ fsplit ! $ move ! (1 ∷ []) $ nothing ! $ move ! (9 ∷ 0 ∷ []) $ fjoin ! $ move ! (8 ∷ 0 ∷ []) $
       fjoin ! $ move ! (7 ∷ 0 ∷ []) $ fjoin ! $ move ! (6 ∷ 0 ∷ []) $ fjoin ! $
       owned ! u32 (Is u32) (uint-makes 𝓤 H A W w32) round _ (refl, round-fits) $ fjoin ! $
+      owned ! u8 (Is u8) (uint-makes 𝓤 H A W w8) desk _ (refl, desk-fits) $ fjoin ! $
       owned ! usize (Is usize) (uint-makes 𝓤 H A W w64) width _ (refl, width-fits) $ fjoin ! $ move ! (1 ∷ 0 ∷ []) $
       fjoin ! $ move ! (1 ∷ 0 ∷ []) $ fjoin ! $ move ! (1 ∷ 0 ∷ []) $ fjoin ! $ move ! (1 ∷ 0 ∷ []) $ fjoin ! $
       move ! (1 ∷ 0 ∷ []) $ fjoin ! $ owned ! u8 (Is u8) (uint-makes 𝓤 H A W w8) rule _ (refl, rule-fits) $ fjoin ! $
@@ -293,95 +305,104 @@ module _ {M : Type 1} (𝓤 : URA M) (H : Heap 𝓤) (A : Atoms 𝓤) (W : Given
         → Is (ShrSlice (named 2) κ₂ u16) amounts (val amounts ∷ [])
         → Is (ShrSlice (named 3) κ₃ u32) tickets (val tickets ∷ [])
         → Is (ShrSlice (named 4) κ₄ u32) bids (val bids ∷ []) → Room u64 (length (now guests))
-        → Room T.the-row (length (now stations))
+        → Room T.the-row (length (now stations)) → Room u32 (length (now last))
         → ent 𝓤 (onEntry 𝓤 H A f.signature κs qs a at) (WpFn 𝓤 H C Λ code.function (vint w8 rule ∷ val asks ∷ val bays ∷
-        val amounts ∷ val tickets ∷ val bids ∷ vint w64 width ∷ vint w32 round ∷ val guests ∷ val stations ∷ ptrVal
-        house ∷ ptrVal last ∷ []) Ends)
-    walk g-asks g-bays g-amounts g-tickets g-bids g-guests g-stations =
+        val amounts ∷ val tickets ∷ val bids ∷ vint w64 width ∷ vint w8 desk ∷ vint w32 round ∷ val guests ∷ val
+        stations ∷ ptrVal house ∷ val last ∷ []) Ends)
+    walk g-asks g-bays g-amounts g-tickets g-bids g-guests g-stations g-last =
         qed W (raw (onEntry 𝓤 H A f.signature κs qs a at) ∷ []) ∵
         enter ! C Λ code.function (vint w8 rule ∷ val asks ∷ val bays ∷ val amounts ∷ val tickets ∷ val bids ∷ vint w64
-        width ∷ vint w32 round ∷ val guests ∷ val stations ∷ ptrVal house ∷ ptrVal last ∷ []) _ $
+        width ∷ vint w8 desk ∷ vint w32 round ∷ val guests ∷ val stations ∷ ptrVal house ∷ val last ∷ []) _ $
         alloc1 ! (λ l0. alloc1 ! (λ l1. alloc1 ! (λ l2. alloc1 ! (λ l3. alloc1 ! (λ l4. alloc1 ! (λ l5. alloc1 ! (λ l6.
         alloc1 ! (λ l7. alloc1 ! (λ l8. alloc1 ! (λ l9. alloc1 ! (λ l10. alloc1 ! (λ l11. alloc1 ! (λ l12.
         alloc1 ! (λ l13. alloc1 ! (λ l14. alloc1 ! (λ l15. alloc1 ! (λ l16. alloc1 ! (λ l17. alloc1 ! (λ l18.
-        alloc1 ! (λ l19. alloc0 ! $ params1 ! $ pass1 ! (init ! 36 refl (tt, record { fits = rule-fits })) $
-        pass1 ! (init ! 34 refl (shr-slice-lawful 𝓤 H A W (named 0) κ₀ u32 .typed asks (val asks ∷ []) g-asks .0)) $
-        pass1 ! (init ! 32 refl (shr-slice-lawful 𝓤 H A W (named 1) κ₁ u16 .typed bays (val bays ∷ []) g-bays .0)) $
+        alloc1 ! (λ l19. alloc1 ! (λ l20. alloc1 ! (λ l21. alloc0 ! $ params1 ! $
+        pass1 ! (init ! 40 refl (tt, record { fits = rule-fits })) $
+        pass1 ! (init ! 38 refl (shr-slice-lawful 𝓤 H A W (named 0) κ₀ u32 .typed asks (val asks ∷ []) g-asks .0)) $
+        pass1 ! (init ! 36 refl (shr-slice-lawful 𝓤 H A W (named 1) κ₁ u16 .typed bays (val bays ∷ []) g-bays .0)) $
         pass1 !
-        (init ! 30 refl (shr-slice-lawful 𝓤 H A W (named 2) κ₂ u16 .typed amounts (val amounts ∷ []) g-amounts .0)) $
+        (init ! 34 refl (shr-slice-lawful 𝓤 H A W (named 2) κ₂ u16 .typed amounts (val amounts ∷ []) g-amounts .0)) $
         pass1 !
-        (init ! 28 refl (shr-slice-lawful 𝓤 H A W (named 3) κ₃ u32 .typed tickets (val tickets ∷ []) g-tickets .0)) $
-        pass1 ! (init ! 26 refl (shr-slice-lawful 𝓤 H A W (named 4) κ₄ u32 .typed bids (val bids ∷ []) g-bids .0)) $
-        pass1 ! (init ! 24 refl (tt, record { fits = width-fits })) $
-        pass1 ! (init ! 22 refl (tt, record { fits = round-fits })) $
-        pass1 ! (init ! 20 refl (tt, (tt, (record { fits = g-guests .0 }, tt)))) $
-        pass1 ! (init ! 18 refl (tt, (tt, (record { fits = g-stations .0 }, tt)))) $ pass1 ! (init ! 16 refl (tt, tt)) $
-        pass1 ! (init ! 14 refl (tt, tt)) $ pass0 ! $
+        (init ! 32 refl (shr-slice-lawful 𝓤 H A W (named 3) κ₃ u32 .typed tickets (val tickets ∷ []) g-tickets .0)) $
+        pass1 ! (init ! 30 refl (shr-slice-lawful 𝓤 H A W (named 4) κ₄ u32 .typed bids (val bids ∷ []) g-bids .0)) $
+        pass1 ! (init ! 28 refl (tt, record { fits = width-fits })) $
+        pass1 ! (init ! 26 refl (tt, record { fits = desk-fits })) $
+        pass1 ! (init ! 24 refl (tt, record { fits = round-fits })) $
+        pass1 ! (init ! 22 refl (tt, (tt, (record { fits = g-guests .0 }, tt)))) $
+        pass1 ! (init ! 20 refl (tt, (tt, (record { fits = g-stations .0 }, tt)))) $ pass1 ! (init ! 18 refl (tt, tt)) $
+        pass1 ! (init ! 16 refl (tt, (tt, (record { fits = g-last .0 }, tt)))) $ pass0 ! $
         -- `post`
+        assigns ! (addr ! (from ! (fld ! refl (hop ! (look-in ! 22 (sub ! 0 refl (whole !))) (stop !)))))
+        (from ! (stop !)) (init ! 12 refl (tt, tt)) $
+        assigns ! (agg ! (and-then ! (load ! (from ! (stop !)) (look ! 12 refl)) (and-then !
+        (load ! (from ! (fld ! refl (stop !))) (look-in ! 22 (sub ! 1 refl (whole !)))) (no-more !)))) (from ! (stop !))
+        (init ! 10 refl (tt, (tt, (record { fits = g-guests .0 }, tt)))) $
         assigns ! (addr ! (from ! (fld ! refl (hop ! (look-in ! 20 (sub ! 0 refl (whole !))) (stop !)))))
-        (from ! (stop !)) (init ! 10 refl (tt, tt)) $
-        assigns ! (agg ! (and-then ! (load ! (from ! (stop !)) (look ! 10 refl)) (and-then !
+        (from ! (stop !)) (init ! 8 refl (tt, tt)) $
+        assigns ! (agg ! (and-then ! (load ! (from ! (stop !)) (look ! 8 refl)) (and-then !
         (load ! (from ! (fld ! refl (stop !))) (look-in ! 20 (sub ! 1 refl (whole !)))) (no-more !)))) (from ! (stop !))
-        (init ! 8 refl (tt, (tt, (record { fits = g-guests .0 }, tt)))) $
-        assigns ! (addr ! (from ! (fld ! refl (hop ! (look-in ! 18 (sub ! 0 refl (whole !))) (stop !)))))
-        (from ! (stop !)) (init ! 6 refl (tt, tt)) $
-        assigns ! (agg ! (and-then ! (load ! (from ! (stop !)) (look ! 6 refl)) (and-then !
-        (load ! (from ! (fld ! refl (stop !))) (look-in ! 18 (sub ! 1 refl (whole !)))) (no-more !)))) (from ! (stop !))
-        (init ! 4 refl (tt, (tt, (record { fits = g-stations .0 }, tt)))) $
-        assigns ! (addr ! (from ! (hop ! (look ! 16 refl) (stop !)))) (from ! (stop !)) (init ! 2 refl (tt, tt)) $
-        assigns ! (addr ! (from ! (hop ! (look ! 14 refl) (stop !)))) (from ! (stop !)) (init ! 0 refl (tt, tt)) $
-        move ! (40 ∷ []) $ use1 W (raw (Post 𝓤 H A mem run .pre to-post) ⊛ ‵ Market) goes-post $ split ! $
-        -- [asked; Market; _19; …]
-        calls-at ! fm (Post 𝓤 H A mem run) known-post to-post (and-then ! (load ! (from ! (stop !)) (look ! 38 refl))
+        (init ! 6 refl (tt, (tt, (record { fits = g-stations .0 }, tt)))) $
+        assigns ! (addr ! (from ! (hop ! (look ! 18 refl) (stop !)))) (from ! (stop !)) (init ! 4 refl (tt, tt)) $
+        assigns ! (addr ! (from ! (fld ! refl (hop ! (look-in ! 16 (sub ! 0 refl (whole !))) (stop !)))))
+        (from ! (stop !)) (init ! 2 refl (tt, tt)) $
+        assigns ! (agg ! (and-then ! (load ! (from ! (stop !)) (look ! 2 refl)) (and-then !
+        (load ! (from ! (fld ! refl (stop !))) (look-in ! 16 (sub ! 1 refl (whole !)))) (no-more !)))) (from ! (stop !))
+        (init ! 0 refl (tt, (tt, (record { fits = g-last .0 }, tt)))) $ move ! (44 ∷ []) $
+        use1 W (raw (Post 𝓤 H A mem run .pre to-post) ⊛ ‵ Market) goes-post $ split ! $
+        -- [asked; Market; _21; …]
+        calls-at ! fm (Post 𝓤 H A mem run) known-post to-post (and-then ! (load ! (from ! (stop !)) (look ! 42 refl))
+        (and-then ! (load ! (from ! (stop !)) (look ! 40 refl)) (and-then ! (load ! (from ! (stop !)) (look ! 38 refl))
         (and-then ! (load ! (from ! (stop !)) (look ! 36 refl)) (and-then ! (load ! (from ! (stop !)) (look ! 34 refl))
         (and-then ! (load ! (from ! (stop !)) (look ! 32 refl)) (and-then ! (load ! (from ! (stop !)) (look ! 30 refl))
         (and-then ! (load ! (from ! (stop !)) (look ! 28 refl)) (and-then ! (load ! (from ! (stop !)) (look ! 26 refl))
-        (and-then ! (load ! (from ! (stop !)) (look ! 24 refl)) (and-then ! (load ! (from ! (stop !)) (look ! 10 refl))
-        (and-then ! (load ! (from ! (stop !)) (look ! 6 refl)) (and-then ! (load ! (from ! (stop !)) (look ! 4 refl))
-        (and-then ! (load ! (from ! (stop !)) (look ! 2 refl)) (no-more !))))))))))))) (λ u₀.
+        (and-then ! (load ! (from ! (stop !)) (look ! 12 refl)) (and-then ! (load ! (from ! (stop !)) (look ! 8 refl))
+        (and-then ! (load ! (from ! (stop !)) (look ! 6 refl)) (and-then ! (load ! (from ! (stop !)) (look ! 2 refl))
+        (no-more !)))))))))))))) (λ u₀.
         use1 W (later (some (λ (r : Verdict). (tokens ⊛ ‵ (S.the-row .own r (u₀ ∷ []))) ⊛ raw
         (ensured 𝓤 H A post.ended (post.clauses 𝓤 H A mem run) κs a tt r)))) (id⊢ 𝓤 _) $ await ! tt $ pick ! (λ r.
         split ! $ move ! (1 ∷ []) $
         use1 W (some (λ (ls : Lasts post.ended κs a). ‵ (lasts post.ended κs a ls) ⊛ raw (fact 𝓤 (Said r (ls .1 .1 .1 .1
-        .1 .1 .1 .1 .0) (ls .1 .1 .1 .1 .1 .1 .1 .1 .1 .0) (ls .1 .1 .1 .1 .1 .1 .1 .1 .1 .1 .0) (ls .1 .1 .1 .1 .1 .1
-        .1 .1 .1 .1 .1 .0))))) (id⊢ 𝓤 _) $ pick ! (λ ls. split ! $ move ! (1 ∷ []) $
-        heard ! (Said r (ls .1 .1 .1 .1 .1 .1 .1 .1 .0) (ls .1 .1 .1 .1 .1 .1 .1 .1 .1 .0)
-        (ls .1 .1 .1 .1 .1 .1 .1 .1 .1 .1 .0) (ls .1 .1 .1 .1 .1 .1 .1 .1 .1 .1 .1 .0)) (λ said. fsplit ! $ drop ! $
-        fsplit ! $ drop ! $ fsplit ! $ drop ! $ fsplit ! $ drop ! $ fsplit ! $ drop ! $ fsplit ! $ drop ! $ fsplit ! $
-        drop ! $ fsplit ! $ drop ! $ fsplit ! $ fsplit ! $ move ! (1 ∷ []) $ feqL ! (λ l-guests. move ! (1 ∷ []) $
-        fsplit ! $ fsplit ! $ move ! (1 ∷ []) $ feqL ! (λ l-stations. move ! (1 ∷ []) $ fsplit ! $ move ! (1 ∷ []) $
-        fsplit ! $ move ! (1 ∷ []) $ drop ! $ move ! (4 ∷ []) $ split ! $ move ! (1 ∷ []) $
-        -- [reply; tokens; last; house; stations; guests; Market; _19; …]
+        .1 .1 .1 .1 .1 .0) (ls .1 .1 .1 .1 .1 .1 .1 .1 .1 .1 .0) (ls .1 .1 .1 .1 .1 .1 .1 .1 .1 .1 .1 .0) (ls .1 .1 .1
+        .1 .1 .1 .1 .1 .1 .1 .1 .1 .0))))) (id⊢ 𝓤 _) $ pick ! (λ ls. split ! $ move ! (1 ∷ []) $
+        heard ! (Said r (ls .1 .1 .1 .1 .1 .1 .1 .1 .1 .0) (ls .1 .1 .1 .1 .1 .1 .1 .1 .1 .1 .0)
+        (ls .1 .1 .1 .1 .1 .1 .1 .1 .1 .1 .1 .0) (ls .1 .1 .1 .1 .1 .1 .1 .1 .1 .1 .1 .1 .0)) (λ said. fsplit ! $
+        drop ! $ fsplit ! $ drop ! $ fsplit ! $ drop ! $ fsplit ! $ drop ! $ fsplit ! $ drop ! $ fsplit ! $ drop ! $
+        fsplit ! $ drop ! $ fsplit ! $ drop ! $ fsplit ! $ drop ! $ fsplit ! $ fsplit ! $ move ! (1 ∷ []) $
+        feqL ! (λ l-guests. move ! (1 ∷ []) $ fsplit ! $ fsplit ! $ move ! (1 ∷ []) $ feqL ! (λ l-stations.
+        move ! (1 ∷ []) $ fsplit ! $ move ! (1 ∷ []) $ fsplit ! $ fsplit ! $ move ! (1 ∷ []) $ feqL ! (λ l-last.
+        move ! (1 ∷ []) $ drop ! $ move ! (4 ∷ []) $ split ! $ move ! (1 ∷ []) $
+        -- [reply; tokens; last; house; stations; guests; Market; _21; …]
         peeks ! S.the-row (Is S.the-row) (shows 𝓤 H A S.the-row) r (u₀ ∷ []) (λ is₀.
-        land ! (from ! (stop !)) (init ! 19 refl (EL.lawful S.the-type S′.the-laws 𝓤 H A W tt .typed r _ is₀ .0)) $
+        land ! (from ! (stop !)) (init ! 21 refl (EL.lawful S.the-type S′.the-laws 𝓤 H A W tt .typed r _ is₀ .0)) $
         -- `reply_number`
         use1 W (raw (Number 𝓤 H A mem run .pre (to-number r u₀))) (goes-number r u₀) $
-        -- [asked; tokens; last; house; stations; guests; Market; _19; …]
+        -- [asked; tokens; last; house; stations; guests; Market; _21; …]
         calls-at ! fm (Number 𝓤 H A mem run) known-number (to-number r u₀)
-        (and-then ! (load ! (from ! (stop !)) (look ! 19 refl)) (no-more !)) (λ u₁.
+        (and-then ! (load ! (from ! (stop !)) (look ! 21 refl)) (no-more !)) (λ u₁.
         use1 W (later (some (λ (k : ℕ). (‵ ftrue ⊛ ‵ (u8 .own k (u₁ ∷ []))) ⊛ raw
         (ensured 𝓤 H A number.ended (number.clauses 𝓤 H A mem run) tt (r, tt) tt k)))) (id⊢ 𝓤 _) $ await ! tt $
         pick ! (λ k. split ! $ move ! (1 ∷ []) $
         use1 W (raw (fact 𝓤 (k ≡ numberOf (answerOfVerdict r)))) (number-said r k) $
         heard ! (k ≡ numberOf (answerOfVerdict r)) (λ e. split ! $ drop ! $
         peeks ! u8 (Is u8) (shows 𝓤 H A u8) k (u₁ ∷ []) (λ is₁.
-        land ! (from ! (stop !)) (init ! 45 refl (uint-lawful 𝓤 H A W w8 .typed k _ is₁ .0)) $
+        land ! (from ! (stop !)) (init ! 49 refl (uint-lawful 𝓤 H A W w8 .typed k _ is₁ .0)) $
         -- the number
-        returns ! (look ! 45 refl) $ forget ! 7 refl $ forget ! 9 refl $ forget ! 11 refl $ forget ! 13 refl $
+        returns ! (look ! 49 refl) $ forget ! 7 refl $ forget ! 9 refl $ forget ! 11 refl $ forget ! 13 refl $
         forget ! 15 refl $ forget ! 17 refl $ forget ! 19 refl $ forget ! 21 refl $ forget ! 23 refl $
         forget ! 25 refl $ forget ! 27 refl $ forget ! 29 refl $ forget ! 31 refl $ forget ! 33 refl $
         forget ! 35 refl $ forget ! 37 refl $ forget ! 39 refl $ forget ! 41 refl $ forget ! 43 refl $
-        forget ! 45 refl $ move ! (45 ∷ 46 ∷ []) $ free1 ! $ move ! (43 ∷ 44 ∷ []) $ free1 ! $ move ! (41 ∷ 42 ∷ []) $
-        free1 ! $ move ! (39 ∷ 40 ∷ []) $ free1 ! $ move ! (37 ∷ 38 ∷ []) $ free1 ! $ move ! (35 ∷ 36 ∷ []) $ free1 ! $
-        move ! (33 ∷ 34 ∷ []) $ free1 ! $ move ! (31 ∷ 32 ∷ []) $ free1 ! $ move ! (29 ∷ 30 ∷ []) $ free1 ! $
-        move ! (27 ∷ 28 ∷ []) $ free1 ! $ move ! (25 ∷ 26 ∷ []) $ free1 ! $ move ! (23 ∷ 24 ∷ []) $ free1 ! $
-        move ! (21 ∷ 22 ∷ []) $ free1 ! $ move ! (19 ∷ 20 ∷ []) $ free1 ! $ move ! (17 ∷ 18 ∷ []) $ free1 ! $
-        move ! (15 ∷ 16 ∷ []) $ free1 ! $ move ! (13 ∷ 14 ∷ []) $ free1 ! $ move ! (11 ∷ 12 ∷ []) $ free1 ! $
-        move ! (9 ∷ 10 ∷ []) $ free1 ! $ move ! (7 ∷ 8 ∷ []) $ free1 ! $ free0 ! $
+        forget ! 45 refl $ forget ! 47 refl $ forget ! 49 refl $ move ! (49 ∷ 50 ∷ []) $ free1 ! $
+        move ! (47 ∷ 48 ∷ []) $ free1 ! $ move ! (45 ∷ 46 ∷ []) $ free1 ! $ move ! (43 ∷ 44 ∷ []) $ free1 ! $
+        move ! (41 ∷ 42 ∷ []) $ free1 ! $ move ! (39 ∷ 40 ∷ []) $ free1 ! $ move ! (37 ∷ 38 ∷ []) $ free1 ! $
+        move ! (35 ∷ 36 ∷ []) $ free1 ! $ move ! (33 ∷ 34 ∷ []) $ free1 ! $ move ! (31 ∷ 32 ∷ []) $ free1 ! $
+        move ! (29 ∷ 30 ∷ []) $ free1 ! $ move ! (27 ∷ 28 ∷ []) $ free1 ! $ move ! (25 ∷ 26 ∷ []) $ free1 ! $
+        move ! (23 ∷ 24 ∷ []) $ free1 ! $ move ! (21 ∷ 22 ∷ []) $ free1 ! $ move ! (19 ∷ 20 ∷ []) $ free1 ! $
+        move ! (17 ∷ 18 ∷ []) $ free1 ! $ move ! (15 ∷ 16 ∷ []) $ free1 ! $ move ! (13 ∷ 14 ∷ []) $ free1 ! $
+        move ! (11 ∷ 12 ∷ []) $ free1 ! $ move ! (9 ∷ 10 ∷ []) $ free1 ! $ move ! (7 ∷ 8 ∷ []) $ free1 ! $ free0 ! $
         keep ! (1 ∷ 6 ∷ 5 ∷ 4 ∷ 3 ∷ 2 ∷ 0 ∷ []) $
-        by ! (exits r (ls .1 .1 .1 .1 .1 .1 .1 .1 .0) (ls .1 .1 .1 .1 .1 .1 .1 .1 .1 .0)
-        (ls .1 .1 .1 .1 .1 .1 .1 .1 .1 .1 .0) (ls .1 .1 .1 .1 .1 .1 .1 .1 .1 .1 .1 .0) k u₁ said e l-guests
-        l-stations))))))))))))))))))))))))))))))))
+        by ! (exits r (ls .1 .1 .1 .1 .1 .1 .1 .1 .1 .0) (ls .1 .1 .1 .1 .1 .1 .1 .1 .1 .1 .0)
+        (ls .1 .1 .1 .1 .1 .1 .1 .1 .1 .1 .1 .0) (ls .1 .1 .1 .1 .1 .1 .1 .1 .1 .1 .1 .1 .0) k u₁ said e l-guests
+        l-stations l-last)))))))))))))))))))))))))))))))))))
 
 module _ {M : Type 1} (𝓤 : URA M) (H : Heap 𝓤) (A : Atoms 𝓤) (W : Given 𝓤 H A) (mem : Memory → SProp 𝓤)
     (run : Routine → Fun 𝓤) where
@@ -401,7 +422,13 @@ module _ {M : Type 1} (𝓤 : URA M) (H : Heap 𝓤) (A : Atoms 𝓤) (W : Given
               slice-vals,
               (
                 slice-vals,
-                (slice-vals, (uint-vals w64, (uint-vals w32, (slice-vals, (slice-vals, (ptr-vals, (ptr-vals, tt))))))),
+                (
+                  slice-vals,
+                  (
+                    uint-vals w64,
+                    (uint-vals w8, (uint-vals w32, (slice-vals, (slice-vals, (ptr-vals, (slice-vals, tt)))))),
+                  ),
+                ),
               ),
             ),
           ),
@@ -422,14 +449,17 @@ module _ {M : Type 1} (𝓤 : URA M) (H : Heap 𝓤) (A : Atoms 𝓤) (W : Given
                   (
                     uint-tells w64,
                     (
-                      uint-tells w32,
+                      uint-tells w8,
                       (
-                        mut-slice-tells (named 5) (κs .1 .1 .1 .1 .1 .0) u64,
+                        uint-tells w32,
                         (
-                          mut-slice-tells (named 6) (κs .1 .1 .1 .1 .1 .1 .0) T.the-row,
+                          mut-slice-tells (named 5) (κs .1 .1 .1 .1 .1 .0) u64,
                           (
-                            mut-tells (named 7) (κs .1 .1 .1 .1 .1 .1 .1 .0) u64,
-                            (mut-tells (named 8) (κs .1 .1 .1 .1 .1 .1 .1 .1 .0) u32, tt),
+                            mut-slice-tells (named 6) (κs .1 .1 .1 .1 .1 .1 .0) T.the-row,
+                            (
+                              mut-tells (named 7) (κs .1 .1 .1 .1 .1 .1 .1 .0) u64,
+                              (mut-slice-tells (named 8) (κs .1 .1 .1 .1 .1 .1 .1 .1 .0) u32, tt),
+                            ),
                           ),
                         ),
                       ),
@@ -446,10 +476,11 @@ module _ {M : Type 1} (𝓤 : URA M) (H : Heap 𝓤) (A : Atoms 𝓤) (W : Given
       .1 .1 .1 .1 .1 .1 .1 .0) (qs .0) (qs .1 .0) (qs .1 .1 .0) (qs .1 .1 .1 .0) (qs .1 .1 .1 .1 .0) (qs .1 .1 .1 .1 .1
       .0) (qs .1 .1 .1 .1 .1 .1 .0) (qs .1 .1 .1 .1 .1 .1 .1 .0) (qs .1 .1 .1 .1 .1 .1 .1 .1 .0) (a .0) (are .0 .1) (a
       .1 .0) (a .1 .1 .0) (a .1 .1 .1 .0) (a .1 .1 .1 .1 .0) (a .1 .1 .1 .1 .1 .0) (a .1 .1 .1 .1 .1 .1 .0) (are .1 .1
-      .1 .1 .1 .1 .0 .1) (a .1 .1 .1 .1 .1 .1 .1 .0) (are .1 .1 .1 .1 .1 .1 .1 .0 .1) (a .1 .1 .1 .1 .1 .1 .1 .1 .0) (a
-      .1 .1 .1 .1 .1 .1 .1 .1 .1 .0) (a .1 .1 .1 .1 .1 .1 .1 .1 .1 .1 .0) (a .1 .1 .1 .1 .1 .1 .1 .1 .1 .1 .1 .0) C Λ fm
-      known-post known-number (are .1 .0) (are .1 .1 .0) (are .1 .1 .1 .0) (are .1 .1 .1 .1 .0) (are .1 .1 .1 .1 .1 .0)
-      (are .1 .1 .1 .1 .1 .1 .1 .1 .0 .0 .1) (are .1 .1 .1 .1 .1 .1 .1 .1 .1 .0 .0 .1)))
+      .1 .1 .1 .1 .0 .1) (a .1 .1 .1 .1 .1 .1 .1 .0) (are .1 .1 .1 .1 .1 .1 .1 .0 .1) (a .1 .1 .1 .1 .1 .1 .1 .1 .0)
+      (are .1 .1 .1 .1 .1 .1 .1 .1 .0 .1) (a .1 .1 .1 .1 .1 .1 .1 .1 .1 .0) (a .1 .1 .1 .1 .1 .1 .1 .1 .1 .1 .0) (a .1
+      .1 .1 .1 .1 .1 .1 .1 .1 .1 .1 .0) (a .1 .1 .1 .1 .1 .1 .1 .1 .1 .1 .1 .1 .0) C Λ fm known-post known-number (are
+      .1 .0) (are .1 .1 .0) (are .1 .1 .1 .0) (are .1 .1 .1 .1 .0) (are .1 .1 .1 .1 .1 .0) (are .1 .1 .1 .1 .1 .1 .1 .1
+      .1 .0 .0 .1) (are .1 .1 .1 .1 .1 .1 .1 .1 .1 .1 .0 .0 .1) (are .1 .1 .1 .1 .1 .1 .1 .1 .1 .1 .1 .1 .0 .0 .1)))
 
 bay-market-post-meets :
     {M : Type 1} (𝓤 : URA M) (H : Heap 𝓤) (A : Atoms 𝓤) → Given 𝓤 H A
@@ -473,14 +504,17 @@ bay-market-post-meets 𝓤 H A W mem run 𝓣 known-post known-number =
                 (
                   goes-none 𝓤 H A W 9 (λ _. usize) yes (λ κs x f. refl),
                   (
-                    goes-none 𝓤 H A W 9 (λ _. u32) yes (λ κs x f. refl),
+                    goes-none 𝓤 H A W 9 (λ _. u8) yes (λ κs x f. refl),
                     (
-                      goes-gave-slice 𝓤 H A W 9 5 tt (plain (λ _. u64)),
+                      goes-none 𝓤 H A W 9 (λ _. u32) yes (λ κs x f. refl),
                       (
-                        goes-gave-slice 𝓤 H A W 9 6 tt (plain (λ _. T.the-row)),
+                        goes-gave-slice 𝓤 H A W 9 5 tt (plain (λ _. u64)),
                         (
-                          goes-gave-ref 𝓤 H A W 9 7 tt (plain (λ _. u64)),
-                          (goes-gave-ref 𝓤 H A W 9 8 tt (plain (λ _. u32)), tt),
+                          goes-gave-slice 𝓤 H A W 9 6 tt (plain (λ _. T.the-row)),
+                          (
+                            goes-gave-ref 𝓤 H A W 9 7 tt (plain (λ _. u64)),
+                            (goes-gave-slice 𝓤 H A W 9 8 tt (plain (λ _. u32)), tt),
+                          ),
                         ),
                       ),
                     ),
