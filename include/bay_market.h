@@ -1,8 +1,8 @@
 /*
  * The bay market: reading and writing market sheets, reading comma-separated markets, placing bids from parking places,
  * joining two gates' markets, clearing a market, in a truthful round or in an efficient one for quiet days, telling
- * guests what decided a truthful round, telling one what another row of bids would have done, posting a round to a
- * ledger.
+ * guests what decided a truthful round, telling one what another row of bids would have done, marking a clearing that
+ * is handed in, posting a round to a ledger.
  *
  * For x86-64 Linux: link libbay_market.a, or libbay_market.so. Both need memcpy and memset of the C library and
  * nothing else. Nothing is allocated; a call takes at most BAY_MARKET_MAX_STACK bytes of stack, but for
@@ -19,10 +19,12 @@
  *
  * MIND THE ORDER OF ARGUMENTS. bay_market_read and bay_market_read_csv take amounts, tickets, asks, bays, bids, as a
  * reader fills them; bay_market_write, bay_market_join, bay_market_clear, bay_market_clear_efficient,
- * bay_market_explain, bay_market_try and bay_market_post take asks, bays, amounts, tickets, bids, the last five after
- * the rule's number. Amounts and bays have one type, tickets, asks and bids another, so a compiler cannot see a swap.
- * bay_market_place_bids takes prices, falls, then the guests' first and second coordinates, then the stations'.
- * bay_market_try takes a guest's worths, then its other row, both lists of prices.
+ * bay_market_explain, bay_market_try, bay_market_clear_marked, bay_market_mark and bay_market_post take asks, bays,
+ * amounts, tickets, bids, the last seven after the rule's number. Amounts and bays have one type, tickets, asks and
+ * bids another, so a compiler cannot see a swap. bay_market_place_bids takes prices, falls, then the guests' first and
+ * second coordinates, then the stations'. bay_market_try takes a guest's worths, then its other row, both lists of
+ * prices. bay_market_clear_marked and bay_market_mark take stations, charges, sold, paid, places, floors; charges, sold
+ * and floors have one type.
  *
  * Prices are in mills (thousandths of the currency unit) per kWh, charges and payments in mills,
  * amounts in whole kWh. Guests and stations are numbered from 1; element 0 of a table is number 1. A ticket is any
@@ -38,7 +40,7 @@
 extern "C" {
 #endif
 
-#define BAY_MARKET_VERSION "0.5.0"
+#define BAY_MARKET_VERSION "0.5.1"
 
 /* Limits. Amounts and bays are at least 1, and so is the number of stations. */
 #define BAY_MARKET_MAX_GUESTS 200
@@ -58,10 +60,10 @@ extern "C" {
 #define BAY_MARKET_MAX_STACK_TRY 45056                /* and one of bay_market_try, with a copy of the bids */
 
 /*
- * The rule of a clearing, an explanation, a tried row or a posting: the position, from 1, of the cut among the m asks
- * in rising order. Under rule 1 it is ceil((m + 1) / 2), under rule 2 floor(2 m / 3) + 1. Asks 1, 2, 3, 4, 5, 6 give
- * cut 4 under rule 1 and 5 under rule 2. Two markets are compared, for what a false report would gain, only under one
- * rule.
+ * The rule of a clearing, an explanation, a tried row, a mark or a posting: the position, from 1, of the cut among the
+ * m asks in rising order. Under rule 1 it is ceil((m + 1) / 2), under rule 2 floor(2 m / 3) + 1. Asks 1, 2, 3, 4, 5, 6
+ * give cut 4 under rule 1 and 5 under rule 2. Two markets are compared, for what a false report would gain, only under
+ * one rule.
  */
 #define BAY_MARKET_RULE_MEDIAN 1
 #define BAY_MARKET_RULE_TWO_THIRDS 2
@@ -106,11 +108,11 @@ enum bay_market_refusal {
     BAY_MARKET_ASK_OUT_OF_RANGE = 6,            /* an ask is above 1,000,000 */
     BAY_MARKET_BAYS_OUT_OF_RANGE = 7,           /* a station has no bays or more than 200 */
     BAY_MARKET_AMOUNT_OUT_OF_RANGE = 8,         /* an amount is 0 or above 1,000 */
-    BAY_MARKET_BID_OUT_OF_RANGE = 9,            /* a bid is above 1,000,000 */
-    BAY_MARKET_LENT_LENGTHS = 10,               /* a lent table or a result list has another length */
+    BAY_MARKET_BID_OUT_OF_RANGE = 9,            /* a bid or a worth is above 1,000,000 */
+    BAY_MARKET_LENT_LENGTHS = 10,               /* a list that is lent or handed in has another length */
     BAY_MARKET_ROUND_OUT_OF_TURN = 11,          /* the round is not the desk's last one plus 1, or no round is left */
     BAY_MARKET_ACCOUNT_OVER_LIMIT = 12,         /* an account is above 10^15, or would be */
-    BAY_MARKET_BOOK_SIZE = 13,                  /* the ledger is beyond the limits, or smaller than the market */
+    BAY_MARKET_BOOK_SIZE = 13,                  /* the ledger is beyond the limits, too small or not of eight desks */
     BAY_MARKET_OUTPUT_TOO_SHORT = 14,           /* the output is shorter than the sheet */
     BAY_MARKET_TICKETS_REPEAT = 15,             /* two guests have the same ticket */
     BAY_MARKET_CELL_OFF_GRID = 16,              /* a cell is off the grid: a coordinate is above 31 */
@@ -138,11 +140,11 @@ static inline const char *bay_market_refusal_text(uint8_t answer)
     case BAY_MARKET_ASK_OUT_OF_RANGE: return "an ask is above 1,000,000";
     case BAY_MARKET_BAYS_OUT_OF_RANGE: return "a station has no bays or more than 200";
     case BAY_MARKET_AMOUNT_OUT_OF_RANGE: return "an amount is 0 or above 1,000";
-    case BAY_MARKET_BID_OUT_OF_RANGE: return "a bid is above 1,000,000";
-    case BAY_MARKET_LENT_LENGTHS: return "a lent table or a result list has another length";
+    case BAY_MARKET_BID_OUT_OF_RANGE: return "a bid or a worth is above 1,000,000";
+    case BAY_MARKET_LENT_LENGTHS: return "a list that is lent or handed in has another length";
     case BAY_MARKET_ROUND_OUT_OF_TURN: return "the round is not the desk's last one plus 1, or no round is left";
     case BAY_MARKET_ACCOUNT_OVER_LIMIT: return "an account is above 10^15, or would be";
-    case BAY_MARKET_BOOK_SIZE: return "the ledger is beyond the limits, or smaller than the market";
+    case BAY_MARKET_BOOK_SIZE: return "the ledger is beyond the limits, too small or not of eight desks";
     case BAY_MARKET_OUTPUT_TOO_SHORT: return "the output is shorter than the sheet";
     case BAY_MARKET_TICKETS_REPEAT: return "two guests have the same ticket";
     case BAY_MARKET_CELL_OFF_GRID: return "a cell is off the grid: a coordinate is above 31";
@@ -365,6 +367,56 @@ uint8_t bay_market_try(uint8_t rule,
                        const uint32_t *row, size_t row_len,
                        uint8_t *changes, size_t changes_len,
                        int64_t *first_gain, int64_t *second_gain);
+
+/*
+ * Clears a market as bay_market_clear does, in a truthful round by the rule of that number, and gives its places and
+ * floors besides. places[i * m + j] is 1 where guest i holds a place at station j, both from 0, seated there or
+ * elsewhere, and else 0: row after row as the bids. floors[j] is the total of the first candidate without a place at
+ * station j, and 0 where every candidate has one or the station is not open. A seated guest's charge is the larger of
+ * cut times amount and the floor of its station.
+ *
+ * Refusals in this order: 18, 2 and 5 as in clearing; 10 where stations_len or charges_len is not n, sold_len, paid_len
+ * or floors_len is not m, or places_len is not n times m; then 6 to 9 and 15 as in clearing.
+ */
+uint8_t bay_market_clear_marked(uint8_t rule,
+                                const uint32_t *asks, size_t asks_len,
+                                const uint16_t *bays, size_t bays_len,
+                                const uint16_t *amounts, size_t amounts_len,
+                                const uint32_t *tickets, size_t tickets_len,
+                                const uint32_t *bids, size_t bids_len,
+                                size_t width,
+                                uint16_t *stations, size_t stations_len,
+                                uint32_t *charges, size_t charges_len,
+                                uint32_t *sold, size_t sold_len,
+                                uint64_t *paid, size_t paid_len,
+                                uint8_t *places, size_t places_len,
+                                uint32_t *floors, size_t floors_len,
+                                uint32_t *cut, uint64_t *margin);
+
+/*
+ * Marks a clearing that is handed in: *correct is 1 exactly where stations, charges, sold, paid, places, floors, cut
+ * and margin are all those that bay_market_clear_marked gives of the market by the rule of that number, and else 0. So
+ * whatever that call gives is passed. A place of another value than 0 and 1 earns a 0, as any other wrong number does,
+ * and is no refusal. Nothing that is handed in is changed.
+ *
+ * Refusals are those of bay_market_clear_marked, in the same order, 10 for the lists that are handed in; *correct is
+ * then left as it was.
+ */
+uint8_t bay_market_mark(uint8_t rule,
+                        const uint32_t *asks, size_t asks_len,
+                        const uint16_t *bays, size_t bays_len,
+                        const uint16_t *amounts, size_t amounts_len,
+                        const uint32_t *tickets, size_t tickets_len,
+                        const uint32_t *bids, size_t bids_len,
+                        size_t width,
+                        const uint16_t *stations, size_t stations_len,
+                        const uint32_t *charges, size_t charges_len,
+                        const uint32_t *sold, size_t sold_len,
+                        const uint64_t *paid, size_t paid_len,
+                        const uint8_t *places, size_t places_len,
+                        const uint32_t *floors, size_t floors_len,
+                        uint32_t cut, uint64_t margin,
+                        uint8_t *correct);
 
 /*
  * Clears a market as bay_market_clear does, in a truthful round by the rule of that number, and posts it to the ledger

@@ -10,7 +10,7 @@ trap 'rm -rf "$work"' EXIT
 mkdir -p "$work/far/away/user/src"
 cp -r rust/bay_market "$work/far/away/bay_market"
 # what the crate takes from its workspace
-sed -i -e 's/^version.workspace = true/version = "0.5.0"/' -e 's/^edition.workspace = true/edition = "2024"/' \
+sed -i -e 's/^version.workspace = true/version = "0.5.1"/' -e 's/^edition.workspace = true/edition = "2024"/' \
     -e '/\.workspace = true/d' "$work/far/away/bay_market/Cargo.toml"
 cat >"$work/far/away/user/Cargo.toml" <<'END'
 [package]

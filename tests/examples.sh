@@ -1,7 +1,8 @@
 #!/usr/bin/env bash
 # The examples in C and Rust. Two gates' sheets, joined, are cleared as the sheet of both; a gate joined with itself is
 # refused. A comma-separated market is written as its sheet; lines that end in LF alone are refused. A round comes once
-# from a desk, and once more from another. Takes the folder with the library.
+# from a desk, and once more from another. A clearing that is handed in is right, wrong or refused. Takes the folder with
+# the library.
 set -euo pipefail
 cd -- "$(dirname -- "$(readlink -f -- "$0")")/.."
 
@@ -25,7 +26,7 @@ refuses() {
     grep -Eq "$pattern" "$work/err"
     [ ! -s "$work/out" ]
 }
-for name in two_gates csv_to_sheet two_desks; do
+for name in two_gates csv_to_sheet two_desks marking; do
     gcc -std=c11 -Wall -Wextra -Wpedantic -Wconversion -Werror -Iinclude "examples/$name.c" \
         "$libraries/libbay_market.a" -o "$work/$name"
 done
@@ -52,6 +53,16 @@ station 2 sold 0 paid 0
 house 12
 desk 0 last round 1
 desk 1 last round 1
+END
+)
+    # shellcheck disable=SC2086
+    ${language}marking | cmp - <(cat <<'END'
+guest 1 holds a place at station 1
+station 1 floor 20
+station 2 floor 0
+firm 1: right
+firm 2: wrong
+firm 3: refused 10: a list that is lent or handed in has another length
 END
 )
 done

@@ -27,6 +27,21 @@ uint8_t real_bay_market_clear_efficient(uint8_t rule,
                                         uint64_t *paid, size_t paid_len,
                                         uint32_t *cut, uint64_t *margin);
 
+uint8_t real_bay_market_clear_marked(uint8_t rule,
+                                     const uint32_t *asks, size_t asks_len,
+                                     const uint16_t *bays, size_t bays_len,
+                                     const uint16_t *amounts, size_t amounts_len,
+                                     const uint32_t *tickets, size_t tickets_len,
+                                     const uint32_t *bids, size_t bids_len,
+                                     size_t width,
+                                     uint16_t *stations, size_t stations_len,
+                                     uint32_t *charges, size_t charges_len,
+                                     uint32_t *sold, size_t sold_len,
+                                     uint64_t *paid, size_t paid_len,
+                                     uint8_t *places, size_t places_len,
+                                     uint32_t *floors, size_t floors_len,
+                                     uint32_t *cut, uint64_t *margin);
+
 uint8_t real_bay_market_explain(uint8_t rule,
                                 const uint32_t *asks, size_t asks_len,
                                 const uint16_t *bays, size_t bays_len,
@@ -56,6 +71,22 @@ uint8_t real_bay_market_join(const uint32_t *asks, size_t asks_len,
                              uint16_t *joined_amounts, size_t joined_amounts_len,
                              uint32_t *joined_tickets, size_t joined_tickets_len,
                              uint32_t *joined_bids, size_t joined_bids_len);
+
+uint8_t real_bay_market_mark(uint8_t rule,
+                             const uint32_t *asks, size_t asks_len,
+                             const uint16_t *bays, size_t bays_len,
+                             const uint16_t *amounts, size_t amounts_len,
+                             const uint32_t *tickets, size_t tickets_len,
+                             const uint32_t *bids, size_t bids_len,
+                             size_t width,
+                             const uint16_t *stations, size_t stations_len,
+                             const uint32_t *charges, size_t charges_len,
+                             const uint32_t *sold, size_t sold_len,
+                             const uint64_t *paid, size_t paid_len,
+                             const uint8_t *places, size_t places_len,
+                             const uint32_t *floors, size_t floors_len,
+                             uint32_t cut, uint64_t margin,
+                             uint8_t *correct);
 
 uint8_t real_bay_market_place_bids(const uint32_t *prices, size_t prices_len,
                                    const uint32_t *falls, size_t falls_len,
@@ -158,6 +189,17 @@ uint8_t real_bay_market_write(const uint32_t *asks, size_t asks_len,
 #define CLEAR_EFFICIENT_PARTS LIST(asks), LIST(bays), LIST(amounts), LIST(tickets), LIST(bids), LIST(stations), \
     LIST(charges), LIST(sold), LIST(paid), NUMBER(cut), NUMBER(margin)
 
+#define CLEAR_MARKED_PARAMETERS uint8_t rule, const uint32_t *asks, size_t asks_len, const uint16_t *bays, \
+    size_t bays_len, const uint16_t *amounts, size_t amounts_len, const uint32_t *tickets, size_t tickets_len, \
+    const uint32_t *bids, size_t bids_len, size_t width, uint16_t *stations, size_t stations_len, uint32_t *charges, \
+    size_t charges_len, uint32_t *sold, size_t sold_len, uint64_t *paid, size_t paid_len, uint8_t *places, \
+    size_t places_len, uint32_t *floors, size_t floors_len, uint32_t *cut, uint64_t *margin
+#define CLEAR_MARKED_ARGUMENTS rule, asks, asks_len, bays, bays_len, amounts, amounts_len, tickets, tickets_len, bids, \
+    bids_len, width, stations, stations_len, charges, charges_len, sold, sold_len, paid, paid_len, places, places_len, \
+    floors, floors_len, cut, margin
+#define CLEAR_MARKED_PARTS LIST(asks), LIST(bays), LIST(amounts), LIST(tickets), LIST(bids), LIST(stations), \
+    LIST(charges), LIST(sold), LIST(paid), LIST(places), LIST(floors), NUMBER(cut), NUMBER(margin)
+
 #define EXPLAIN_PARAMETERS uint8_t rule, const uint32_t *asks, size_t asks_len, const uint16_t *bays, size_t bays_len, \
     const uint16_t *amounts, size_t amounts_len, const uint32_t *tickets, size_t tickets_len, const uint32_t *bids, \
     size_t bids_len, size_t width, uint8_t *codes, size_t codes_len, uint16_t *stations, size_t stations_len, \
@@ -181,6 +223,18 @@ uint8_t real_bay_market_write(const uint32_t *asks, size_t asks_len,
 #define JOIN_PARTS LIST(asks), LIST(bays), LIST(amounts), LIST(tickets), LIST(bids), LIST(asks2), LIST(bays2), \
     LIST(amounts2), LIST(tickets2), LIST(bids2), LIST(joined_asks), LIST(joined_bays), LIST(joined_amounts), \
     LIST(joined_tickets), LIST(joined_bids)
+
+#define MARK_PARAMETERS uint8_t rule, const uint32_t *asks, size_t asks_len, const uint16_t *bays, size_t bays_len, \
+    const uint16_t *amounts, size_t amounts_len, const uint32_t *tickets, size_t tickets_len, const uint32_t *bids, \
+    size_t bids_len, size_t width, const uint16_t *stations, size_t stations_len, const uint32_t *charges, \
+    size_t charges_len, const uint32_t *sold, size_t sold_len, const uint64_t *paid, size_t paid_len, \
+    const uint8_t *places, size_t places_len, const uint32_t *floors, size_t floors_len, uint32_t cut, \
+    uint64_t margin, uint8_t *correct
+#define MARK_ARGUMENTS rule, asks, asks_len, bays, bays_len, amounts, amounts_len, tickets, tickets_len, bids, \
+    bids_len, width, stations, stations_len, charges, charges_len, sold, sold_len, paid, paid_len, places, places_len, \
+    floors, floors_len, cut, margin, correct
+#define MARK_PARTS LIST(asks), LIST(bays), LIST(amounts), LIST(tickets), LIST(bids), LIST(stations), LIST(charges), \
+    LIST(sold), LIST(paid), LIST(places), LIST(floors), NUMBER(correct)
 
 #define PLACE_BIDS_PARAMETERS const uint32_t *prices, size_t prices_len, const uint32_t *falls, size_t falls_len, \
     const uint16_t *guest_first, size_t guest_first_len, const uint16_t *guest_second, size_t guest_second_len, \

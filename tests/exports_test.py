@@ -1,7 +1,7 @@
 #!/usr/bin/env python3
 """The shared library through tools/exports_table.py, at the path given: case E read, also as text, cleared, explained,
-joined of two gates, posted by a desk and written, another row of case G, and calls that are refused and leave what they
-were lent."""
+joined of two gates, posted by a desk and written, another row of case G, its clearing handed in, and calls that are
+refused and leave what they were lent."""
 import pathlib
 import sys
 
@@ -41,6 +41,16 @@ expect('try', 0, {'changes': [2, 0], 'first_gain': 0, 'second_gain': -7}, rule=1
        row=[14, 0], **tried)
 expect('try', 24, tried, rule=1, **case_g, guest=3, worths=[10, 0], row=[14, 0], **tried)
 expect('try', 9, tried, rule=1, **case_g, guest=2, worths=[10, 0], row=[14, 1_000_001], **tried)
+full = {'stations': [1, 0], 'charges': [20, 0], 'sold': [3, 0], 'paid': [18, 0], 'places': [1, 0, 0, 0],
+        'floors': [20, 0], 'cut': 6, 'margin': 2}
+lent = {**RESULTS, 'places': [7] * 4, 'floors': [7, 7]}
+expect('clear_marked', 0, full, rule=1, **case_g, **lent)
+expect('clear_marked', 10, {**lent, 'floors': [7]}, rule=1, **case_g, **{**lent, 'floors': [7]})
+expect('mark', 0, {'correct': 1}, rule=1, **case_g, **full, correct=7)
+expect('mark', 0, {'correct': 0}, rule=1, **case_g, **{**full, 'places': [1, 0, 0, 2]}, correct=7)
+expect('mark', 0, {'correct': 0}, rule=1, **case_g, **{**full, 'margin': 2 + (1 << 32)}, correct=7)
+expect('mark', 10, {'correct': 7}, rule=1, **case_g, **{**full, 'places': [1, 0, 0]}, correct=7)
+expect('mark', 18, {'correct': 7}, rule=0, **case_g, **full, correct=7)
 north = {'asks': [2, 6], 'bays': [1, 1], 'amounts': [3], 'tickets': [1], 'bids': [8, 0], 'width': 2}
 south = {f'{name}2': held for name, held in {**north, 'tickets': [2]}.items()}
 joined = {f'joined_{name}': held for name, held in MARKET.items() if name != 'width'}

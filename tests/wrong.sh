@@ -20,37 +20,44 @@ BAY_MARKET_LIB_DIR=$wrong cargo build --offline --locked --quiet --release --man
     --target-dir "$wrong/cargo" -p compare
 compare=$wrong/cargo/release/compare
 
-found=0
-# finds FAULT WORDS PART [WAY]: the part, by the way, tells of the fault in these words, or of a written guard
+# finds FAULT WORDS PART [WAY]: the part, by the way, is to tell of the fault in these words, or of a written guard
 finds() {
-    local fault=$1 words=$2 status=0
-    shift 2
-    BAY_MARKET_FAULT=$fault timeout 60 "$compare" $seed "$@" >"$wrong/said" 2>&1 || status=$?
-    if { [ $status != 1 ] && [ $status != 101 ]; } || ! grep -Eq "$words|wrote beside lent memory" "$wrong/said"; then
-        echo "the fault '$fault' is not found by $*: status $status" >&2
-        tail -n 3 "$wrong/said" >&2
-        exit 1
+    printf '%s\0' "$1" "$2" "$3" "${4-}" >>"$wrong/faults"
+}
+found_by() { # FAULT WORDS PART WAY
+    local status=0 said
+    said=$(mktemp "$wrong/said.XXXXXX")
+    BAY_MARKET_FAULT=$1 timeout 60 "$compare" "$seed" "$3" ${4:+"$4"} >"$said" 2>&1 || status=$?
+    if { [ $status != 1 ] && [ $status != 101 ]; } || ! grep -Eq "$2|wrote beside lent memory" "$said"; then
+        echo "the fault '$1' is not found by $3 $4: status $status" >&2
+        tail -n 3 "$said" >&2
+        return 255
     fi
-    found=$((found + 1))
+    rm "$said"
 }
 
-for part in read write trip read_csv csv_trip place_bids join gates clear clear_efficient explain facts try rows post \
-    truth truth_efficient; do
+for part in read write trip read_csv csv_trip place_bids join gates clear clear_efficient explain facts try rows \
+    clear_marked mark passes post truth truth_efficient; do
     BAY_MARKET_FAULT='' "$compare" $seed $part >/dev/null
 done
-# what has the faults of comma-separated markets, of efficient clearing, of telling and of trying is right without one
+# what has the faults of comma-separated markets, of efficient clearing, of telling, of trying and of marking is right
+# without one
 BAY_MARKET_FAULT='read_csv own' "$compare" $seed read_csv >/dev/null
 BAY_MARKET_FAULT='clear_efficient own' "$compare" $seed clear_efficient >/dev/null
 BAY_MARKET_FAULT='explain own' "$compare" $seed explain >/dev/null
 BAY_MARKET_FAULT='explain own' "$compare" $seed facts >/dev/null
 BAY_MARKET_FAULT='try own' "$compare" $seed try >/dev/null
 BAY_MARKET_FAULT='try own' "$compare" $seed rows >/dev/null
+BAY_MARKET_FAULT='clear_marked own' "$compare" $seed clear_marked >/dev/null
+BAY_MARKET_FAULT='clear_marked own' "$compare" $seed passes >/dev/null
+BAY_MARKET_FAULT='mark own' "$compare" $seed mark >/dev/null
+BAY_MARKET_FAULT='mark own' "$compare" $seed passes >/dev/null
 
 # what a function only reads, what it fills, the numbers that it gives
 lists() { scripts/exports --parts slice "$1"; }
 filled() { scripts/exports --parts lent "$1"; }
 numbers() { scripts/exports --parts out "$1"; }
-# the types that own what guests are told take no other code, station, charge, reason or change than there is
+# the types that own what guests are told take no other code, station, charge, reason, change or mark than there is
 no_such='the engine gave'
 for function in "${functions[@]}"; do
     for way in c slices owned; do
@@ -142,12 +149,12 @@ for list in $(filled read_csv); do
 done
 # faults of tickets
 for way in c slices owned; do
-    for function in clear clear_efficient explain try post; do
+    for function in clear clear_efficient explain try clear_marked mark post; do
         finds "$function higher" 'differ' $function $way
     done
-    for function in write clear clear_efficient explain try post; do
-        finds "$function equal" 'answered [0-9]+, expected 15|owned [a-z]+ differs' $function $way
-        finds "$function repeat-early" 'answered 15, expected 9|owned [a-z]+ differs' $function $way
+    for function in write clear clear_efficient explain try clear_marked mark post; do
+        finds "$function equal" 'answered [0-9]+, expected 15|owned [a-z ]+ differs' $function $way
+        finds "$function repeat-early" 'answered 15, expected 9|owned [a-z ]+ differs' $function $way
     done
     finds 'post repeat-late' 'answered 13, expected 15|owned ledger differs' post $way
     finds 'write order' 'differs' write $way
@@ -161,7 +168,7 @@ for way in c slices; do
     finds 'write repeat-late' 'answered 14, expected 15' write $way
 done
 # faults of the rule; the types know no other rule than two
-for function in clear clear_efficient explain try post; do
+for function in clear clear_efficient explain try clear_marked mark post; do
     for way in c slices owned; do
         finds "$function first" 'differ|answered 0, expected 18' $function $way
         finds "$function second" 'differ' $function $way
@@ -293,6 +300,73 @@ for way in c slices; do
     finds 'try changes long taken' 'answered 0, expected 10' try $way
     finds 'try changes short taken' 'answered 0, expected 10' try $way
 done
+# faults of a clearing's places and floors; the types that own their lists make them
+for way in c slices owned; do
+    for fault in seated excused bay two inverted transposed; do
+        finds "clear_marked $fault" 'places differ|owned full clearing differs' clear_marked $way
+        finds "clear_marked $fault" 'guest [0-9]+ has place [0-9]+ and' passes $way
+    done
+    for fault in closed above holder second-out full unseated price cut no-floor shifted; do
+        finds "clear_marked $fault" 'floors differ|owned full clearing differs' clear_marked $way
+        finds "clear_marked $fault" 'the floor of station [0-9]+ is' passes $way
+    done
+    finds 'clear_marked quiet' '(margin|stations|charges) differs?|owned full clearing differs' clear_marked $way
+    finds 'clear_marked quiet' 'the results differ from the clearing' passes $way
+    finds 'clear_marked higher' 'the results differ from the clearing|guest [0-9]+ has place' passes $way
+    finds 'clear_marked answer' 'answered 5, expected 0' passes $way
+done
+for way in c slices; do
+    for fault in untouched kept; do
+        finds "clear_marked $fault" 'places differ' clear_marked $way
+        finds "clear_marked $fault" 'has place [0-9]+ and|the floor of station [0-9]+ is' passes $way
+    done
+    finds 'clear_marked kept-floor' 'floors differ' clear_marked $way
+    finds 'clear_marked kept-floor' 'the floor of station [0-9]+ is' passes $way
+    finds 'clear_marked list-late' 'answered 6, expected 10' clear_marked $way
+    finds 'clear_marked list-early' 'answered 10, expected 5' clear_marked $way
+    for list in $(filled clear_marked); do
+        finds "clear_marked $list long taken" 'answered 0, expected 10' clear_marked $way
+        finds "clear_marked $list short taken" 'answered 0, expected 10' clear_marked $way
+    done
+done
+# faults of marking; who hands in makes the lists, by any way
+handed='stations charges sold paid places floors'
+for way in c slices owned; do
+    for fault in truthy low-bit closed elsewhere unseated either turned always never; do
+        finds "mark $fault" 'mark differs' mark $way
+        finds "mark $fault" 'is marked (true|false)' passes $way
+    done
+    for thing in $handed cut margin; do
+        for fault in skipped low; do
+            finds "mark $thing $fault" 'mark differs' mark $way
+            finds "mark $thing $fault" 'is marked true' passes $way
+        done
+    done
+    for list in $handed; do
+        for fault in 'first unseen' 'last unseen' sum parity; do
+            finds "mark $list $fault" 'mark differs' mark $way
+            finds "mark $list $fault" 'is marked true' passes $way
+        done
+        finds "mark $list long taken" 'answered 0, expected 10|owned mark differs' mark $way
+        finds "mark $list short taken" 'answered 0, expected 10|owned mark differs' mark $way
+    done
+    finds 'mark place-refused' 'answered 10, expected 0|owned mark differs' mark $way
+    finds 'mark place-refused' 'answered 10, expected 0' passes $way
+    finds 'mark yes-two' "the mark differs|$no_such" mark $way
+    finds 'mark yes-two' "the mark is 2|$no_such" passes $way
+    finds 'mark list-late' 'answered 6, expected 10|owned mark differs' mark $way
+    finds 'mark list-early' 'answered 10, expected 5|owned mark differs' mark $way
+    finds 'mark answer' 'answered 5, expected 0' passes $way
+done
+for way in c slices; do
+    finds 'mark mended' 'what is handed in was written' mark $way
+done
+# what is over slices makes the number that is written
+finds 'mark cleared' 'a refused call wrote' mark c
+finds 'mark kept' 'the mark differs' mark c
+finds 'mark kept' 'the mark is 77' passes c
+finds 'clear charges first accepted' 'the results differ from the clearing' passes
+finds 'explain seated' 'guest [0-9]+ has place 1 and' passes
 finds 'explain seated' 'others change, and [0-9]+ places of the guest' rows
 finds 'clear bid' 'the gains are told as' rows
 finds 'clear higher' 'the (gains|changes) are told as' rows
@@ -323,4 +397,8 @@ done
 status=0
 "$compare" $seed nothing >/dev/null 2>&1 || status=$?
 [ $status = 2 ]
-echo "wrong engine and program: $found faults, all found"
+# each fault by itself, as many at a time as there are processors; the first that is not found ends the test
+export compare seed wrong
+export -f found_by
+xargs -0 -n 4 -P "$(nproc)" bash -c 'found_by "$@"' found_by <"$wrong/faults"
+echo "wrong engine and program: $(($(tr -cd '\0' <"$wrong/faults" | wc -c) / 4)) faults, all found"

@@ -140,6 +140,50 @@
  *   try list-early               10 goes before 5
  *   try price-early              9 of the row goes before 10
  *   try LIST WAY taken           a list that alone is too long or too short is taken
+ *   clear_marked own             none: what gives places and floors, with the next faults, without one
+ *   clear_marked seated          a seated guest's other places are not held
+ *   clear_marked excused         a seated guest holds a place wherever it is a candidate
+ *   clear_marked bay             the first candidate without a place is shown one
+ *   clear_marked two             a place that is held is 2
+ *   clear_marked inverted        0 and 1 are exchanged among the places
+ *   clear_marked transposed      the places stand station after station
+ *   clear_marked closed          a station that is not open has a floor
+ *   clear_marked above           a floor is one more
+ *   clear_marked holder          the floor is the total of the last guest that has a place
+ *   clear_marked second-out      the floor is the total of the second candidate without a place
+ *   clear_marked full            where there are as many candidates as bays the floor is the last one's total
+ *   clear_marked unseated        only a guest with no seat sets the floor
+ *   clear_marked price           the floor is a bid, not a total
+ *   clear_marked cut             where every candidate has a place the floor is the cut
+ *   clear_marked no-floor        every floor is 0
+ *   clear_marked shifted         the floors are one off
+ *   clear_marked quiet           the results are those of the efficient round
+ *   clear_marked untouched       places and floors stay as they were
+ *   clear_marked kept            a place that is not held stays as it was
+ *   clear_marked kept-floor      a floor of 0 is not written
+ *   clear_marked list-late       10 comes after 6; of a mark too, as the next two
+ *   clear_marked list-early      10 goes before 5
+ *   clear_marked LIST WAY taken  a list that alone is too long or too short is taken
+ *   mark own                     none: what marks, with the next faults, without one
+ *   mark THING skipped           one of the eight things is not looked at
+ *   mark THING low               it is looked at by the lower half of its bits
+ *   mark LIST PLACE unseen       its first or last number is not looked at
+ *   mark LIST sum                it is looked at by its sum
+ *   mark LIST parity             it is looked at by the bits that are set an odd number of times
+ *   mark truthy                  a place of any other value than 0 passes for 1
+ *   mark low-bit                 a place is looked at by its lowest bit
+ *   mark closed                  the floor of a station that is not open is not looked at
+ *   mark elsewhere               a seated guest's other places are not looked at
+ *   mark unseated                the charge of a guest with no seat is not looked at
+ *   mark either                  what is right by the other rule is passed too
+ *   mark turned                  yes and no are exchanged
+ *   mark always                  all is passed
+ *   mark never                   nothing is passed
+ *   mark place-refused           a place of another value than 0 and 1 is refused with 10
+ *   mark yes-two                 a yes is 2
+ *   mark cleared                 a refused call writes a no
+ *   mark kept                    a no is not written
+ *   mark mended                  what is handed in is put right
  */
 #include "bay_market.h"
 
@@ -1461,4 +1505,288 @@ uint8_t bay_market_try(TRY_PARAMETERS)
     answer = out_of_place("try", answer, tickets, tickets_len, 0);
     answer = try_out_of_place(words, answer, MARKET(tickets), guest, worths, worths_len, row, row_len, changes_len);
     return SPOIL("try", answer, parts);
+}
+
+/* Places and floors of an accepted market whose cut and seats are known, with a fault. */
+static void places_wrong(const char *wrong, MARKET_PARAMETERS, uint32_t cut, const uint16_t *stations, uint8_t *places,
+                         uint32_t *floors)
+{
+    static const uint32_t all_open[BAY_MARKET_MAX_STATIONS];
+    static struct candidacy all[BAY_MARKET_MAX_BIDS];
+    const size_t n = amounts_len, m = asks_len;
+    const int seated = strcmp(wrong, "seated") == 0, excused = strcmp(wrong, "excused") == 0;
+    const int bay = strcmp(wrong, "bay") == 0, closed = strcmp(wrong, "closed") == 0;
+    const int holder = strcmp(wrong, "holder") == 0, full = strcmp(wrong, "full") == 0;
+    const int unseated = strcmp(wrong, "unseated") == 0, price = strcmp(wrong, "price") == 0;
+    const size_t out = strcmp(wrong, "second-out") == 0;
+    uint32_t stood[BAY_MARKET_MAX_STATIONS] = {0}, before[BAY_MARKET_MAX_STATIONS] = {0};
+
+    (void)bays_len, (void)tickets_len, (void)bids_len, (void)width;
+    memset(places, 0, n * m);
+    memset(floors, 0, m * sizeof *floors);
+    rising = far = 0;
+    size_t count = gather(all, closed ? all_open : asks, m, amounts, n, tickets, bids, cut);
+    for (const struct candidacy *next = all; next < all + count; next++) {
+        const size_t j = next->station, i = next->guest, stands = stood[j]++, at = i * m + j;
+        const uint32_t total = price ? next->total / amounts[i] : next->total;
+        if (asks[j] < cut) {
+            places[at] = stands < bays[j] + (size_t)bay && !(seated && stations[i] != j + 1);
+            places[at] |= excused && stations[i] != 0;
+        }
+        if (unseated ? stands >= bays[j] && stations[i] == 0 && floors[j] == 0
+            : stands == bays[j] + out || (full && stands + 1 == bays[j])) {
+            floors[j] = holder ? before[j] : total;
+        }
+        before[j] = total;
+    }
+    for (size_t j = 0; strcmp(wrong, "cut") == 0 && j < m; j++) {
+        floors[j] = asks[j] < cut && stood[j] <= bays[j] ? cut : floors[j];
+    }
+}
+
+/* Changes the places and floors that were made as a whole; they were others before. */
+static void change_places(const char *wrong, uint8_t *places, size_t n, size_t m, uint32_t *floors,
+                          const uint8_t *places_before, const uint32_t *floors_before)
+{
+    static uint8_t turned[BAY_MARKET_MAX_BIDS];
+    const int untouched_too = strcmp(wrong, "untouched") == 0, kept = strcmp(wrong, "kept") == 0;
+    const int kept_floor = strcmp(wrong, "kept-floor") == 0;
+    const uint32_t last = floors[m - 1];
+
+    memcpy(turned, places, n * m);
+    for (size_t i = 0; i < n * m; i++) {
+        if (strcmp(wrong, "transposed") == 0) {
+            places[i % m * n + i / m] = turned[i];
+        } else if (strcmp(wrong, "inverted") == 0) {
+            places[i] ^= 1;
+        } else if (strcmp(wrong, "two") == 0) {
+            places[i] *= 2;
+        } else if (untouched_too || (kept && places[i] == 0)) {
+            places[i] = places_before[i];
+        }
+    }
+    for (size_t j = m; j-- > 0;) {
+        if (strcmp(wrong, "above") == 0 && floors[j] > 0) {
+            floors[j]++;
+        } else if (strcmp(wrong, "no-floor") == 0) {
+            floors[j] = 0;
+        } else if (strcmp(wrong, "shifted") == 0) {
+            floors[j] = j > 0 ? floors[j - 1] : last;
+        } else if (untouched_too || (kept_floor && floors[j] == 0)) {
+            floors[j] = floors_before[j];
+        }
+    }
+}
+
+uint8_t bay_market_clear_marked(CLEAR_MARKED_PARAMETERS)
+{
+    static uint8_t places_before[BAY_MARKET_MAX_BIDS];
+    static uint32_t floors_before[BAY_MARKET_MAX_STATIONS];
+    const size_t n = amounts_len, m = asks_len;
+    const struct part parts[] = {CLEAR_MARKED_PARTS};
+    const struct fit lists[] = {{"stations", stations_len, n}, {"charges", charges_len, n}, {"sold", sold_len, m},
+                                {"paid", paid_len, m}, {"places", places_len, n * m}, {"floors", floors_len, m}};
+    const uint32_t *seen = others("clear_marked", tickets, tickets_len);
+    char words[4][16];
+    uint8_t answer;
+
+    rule = other_rule("clear_marked", rule, asks_len);
+    if (!fault("clear_marked", words)) {
+        return REAL(bay_market_clear_marked)(CLEAR_MARKED_ARGUMENTS);
+    }
+    if (places_len <= sizeof places_before && floors_len <= BAY_MARKET_MAX_STATIONS) {
+        memcpy(places_before, places, places_len);
+        memcpy(floors_before, floors, floors_len * sizeof *floors);
+    }
+    answer = REAL(bay_market_clear_marked)(rule, MARKET(seen), stations, stations_len, charges, charges_len, sold,
+                                           sold_len, paid, paid_len, places, places_len, floors, floors_len, cut,
+                                           margin);
+    if (answer == 0 && seen == tickets) {
+        places_wrong(words[1], MARKET(tickets), *cut, stations, places, floors);
+        change_places(words[1], places, n, m, floors, places_before, floors_before);
+        if (strcmp(words[1], "quiet") == 0) {
+            REAL(bay_market_clear_efficient)(rule, MARKET(tickets), stations, n, charges, n, sold, m, paid, m, cut,
+                                             margin);
+        }
+    }
+    answer = out_of_place("clear_marked", answer, tickets, tickets_len, 0);
+    answer = list_out_of_place(words, answer, asks, m, lists, sizeof lists / sizeof *lists);
+    return SPOIL("clear_marked", answer, parts);
+}
+
+/* The eight things of a clearing with places and floors, each as a list. */
+enum thing { STATIONS, CHARGES, SOLD, PAID, PLACES, FLOORS, CUT, MARGIN, THINGS };
+
+struct whole {
+    uint64_t numbers[THINGS][BAY_MARKET_MAX_BIDS];
+    size_t lengths[THINGS];
+};
+
+static void put_whole(struct whole *whole, size_t n, size_t m, const uint16_t *stations, const uint32_t *charges,
+                      const uint32_t *sold, const uint64_t *paid, const uint8_t *places, const uint32_t *floors,
+                      uint32_t cut, uint64_t margin)
+{
+    const size_t lengths[THINGS] = {n, n, m, m, n * m, m, 1, 1};
+
+    memcpy(whole->lengths, lengths, sizeof lengths);
+    for (size_t i = 0; i < n; i++) {
+        whole->numbers[STATIONS][i] = stations[i];
+        whole->numbers[CHARGES][i] = charges[i];
+    }
+    for (size_t j = 0; j < m; j++) {
+        whole->numbers[SOLD][j] = sold[j];
+        whole->numbers[PAID][j] = paid[j];
+        whole->numbers[FLOORS][j] = floors[j];
+    }
+    for (size_t k = 0; k < n * m; k++) {
+        whole->numbers[PLACES][k] = places[k];
+    }
+    whole->numbers[CUT][0] = cut;
+    whole->numbers[MARGIN][0] = margin;
+}
+
+/* Whether one of the things passes, with a fault. */
+static int thing_passes(char words[4][16], enum thing thing, const struct whole *right, const struct whole *handed)
+{
+    static const char *const names[THINGS] = {"stations", "charges", "sold", "paid",
+                                              "places", "floors", "cut", "margin"};
+    static const unsigned bits[THINGS] = {16, 32, 32, 64, 8, 32, 32, 64};
+    const int here = strcmp(words[1], names[thing]) == 0;
+    const char *way = here ? words[2] : "";
+    const uint64_t seen = strcmp(way, "low") == 0 ? ((uint64_t)1 << bits[thing] / 2) - 1 : UINT64_MAX;
+    const size_t length = right->lengths[thing];
+    uint64_t sum = 0, parity = 0, other_sum = 0, other_parity = 0;
+    int same = 1;
+
+    for (size_t k = 0; k < length; k++) {
+        const uint64_t number = right->numbers[thing][k], other = handed->numbers[thing][k];
+        const int unseen = here && strcmp(words[3], "unseen") == 0
+                           && k == (strcmp(way, "first") == 0 ? 0 : length - 1);
+        same = same && (unseen || (number & seen) == (other & seen));
+        sum += number, parity ^= number, other_sum += other, other_parity ^= other;
+    }
+    if (strcmp(way, "skipped") == 0) {
+        return 1;
+    }
+    return strcmp(way, "sum") == 0 ? sum == other_sum : strcmp(way, "parity") == 0 ? parity == other_parity : same;
+}
+
+/* Lets numbers that are handed in pass for others, with a fault. */
+static void overlook(const char *wrong, const uint32_t *asks, const struct whole *right, struct whole *handed)
+{
+    const int truthy = strcmp(wrong, "truthy") == 0, low_bit = strcmp(wrong, "low-bit") == 0;
+    const int elsewhere = strcmp(wrong, "elsewhere") == 0, closed = strcmp(wrong, "closed") == 0;
+    const int unseated = strcmp(wrong, "unseated") == 0;
+    const size_t n = right->lengths[STATIONS], m = right->lengths[SOLD];
+
+    for (size_t k = 0; (truthy || low_bit || elsewhere) && k < n * m; k++) {
+        const uint64_t station = right->numbers[STATIONS][k / m];
+        uint64_t *place = &handed->numbers[PLACES][k];
+        if (elsewhere) {
+            *place = station != 0 && station != k % m + 1 ? right->numbers[PLACES][k] : *place;
+        } else {
+            *place = truthy ? *place != 0 : *place & 1;
+        }
+    }
+    for (size_t j = 0; closed && j < m; j++) {
+        handed->numbers[FLOORS][j] = asks[j] >= right->numbers[CUT][0] ? 0 : handed->numbers[FLOORS][j];
+    }
+    for (size_t i = 0; unseated && i < n; i++) {
+        handed->numbers[CHARGES][i] = right->numbers[STATIONS][i] == 0 ? 0 : handed->numbers[CHARGES][i];
+    }
+}
+
+/* The right clearing of an accepted market by a rule. */
+static void clear_right(uint8_t rule, MARKET_PARAMETERS, struct whole *right)
+{
+    static uint8_t places[BAY_MARKET_MAX_BIDS];
+    const size_t n = amounts_len, m = asks_len;
+    uint16_t stations[BAY_MARKET_MAX_GUESTS];
+    uint32_t charges[BAY_MARKET_MAX_GUESTS], sold[BAY_MARKET_MAX_STATIONS], floors[BAY_MARKET_MAX_STATIONS], cut;
+    uint64_t paid[BAY_MARKET_MAX_STATIONS], margin;
+
+    REAL(bay_market_clear_marked)(rule, MARKET(tickets), stations, n, charges, n, sold, m, paid, m, places, n * m,
+                                  floors, m, &cut, &margin);
+    put_whole(right, n, m, stations, charges, sold, paid, places, floors, cut, margin);
+}
+
+static int all_pass(char words[4][16], const struct whole *right, const struct whole *handed)
+{
+    int pass = 1;
+
+    for (enum thing thing = 0; thing < THINGS; thing++) {
+        pass = pass && thing_passes(words, thing, right, handed);
+    }
+    return pass;
+}
+
+/* The mark of a clearing that is handed in with an accepted market, with a fault. */
+static uint8_t mark_wrong(char words[4][16], uint8_t rule, MARKET_PARAMETERS, struct whole *handed)
+{
+    static struct whole right;
+
+    clear_right(rule, MARKET(tickets), &right);
+    overlook(words[1], asks, &right, handed);
+    int pass = all_pass(words, &right, handed);
+    if (strcmp(words[1], "either") == 0) {
+        clear_right((uint8_t)(3 - rule), MARKET(tickets), &right);
+        pass = pass || all_pass(words, &right, handed);
+    }
+    pass = strcmp(words[1], "turned") == 0 ? !pass : pass;
+    pass = strcmp(words[1], "always") == 0 ? 1 : strcmp(words[1], "never") == 0 ? 0 : pass;
+    return (uint8_t)(pass && strcmp(words[1], "yes-two") == 0 ? 2 : pass);
+}
+
+/* Puts right what is handed in, though it is not to be written. */
+static void mend(uint8_t rule, MARKET_PARAMETERS, const uint16_t *stations, const uint32_t *charges,
+                 const uint32_t *sold, const uint64_t *paid, const uint8_t *places, const uint32_t *floors)
+{
+    const size_t n = amounts_len, m = asks_len;
+    uint32_t cut;
+    uint64_t margin;
+
+    REAL(bay_market_clear_marked)(rule, MARKET(tickets), (uint16_t *)(uintptr_t)stations, n,
+                                  (uint32_t *)(uintptr_t)charges, n, (uint32_t *)(uintptr_t)sold, m,
+                                  (uint64_t *)(uintptr_t)paid, m, (uint8_t *)(uintptr_t)places, n * m,
+                                  (uint32_t *)(uintptr_t)floors, m, &cut, &margin);
+}
+
+uint8_t bay_market_mark(MARK_PARAMETERS)
+{
+    static struct whole handed;
+    const size_t n = amounts_len, m = asks_len;
+    const struct part parts[] = {MARK_PARTS};
+    const struct fit lists[] = {{"stations", stations_len, n}, {"charges", charges_len, n}, {"sold", sold_len, m},
+                                {"paid", paid_len, m}, {"places", places_len, n * m}, {"floors", floors_len, m}};
+    const uint32_t *seen = others("mark", tickets, tickets_len);
+    const uint8_t before = *correct;
+    char words[4][16];
+    uint8_t answer;
+
+    rule = other_rule("mark", rule, asks_len);
+    if (!fault("mark", words)) {
+        return REAL(bay_market_mark)(MARK_ARGUMENTS);
+    }
+    answer = REAL(bay_market_mark)(rule, MARKET(seen), stations, stations_len, charges, charges_len, sold, sold_len,
+                                   paid, paid_len, places, places_len, floors, floors_len, cut, margin, correct);
+    if (answer == 0 && seen == tickets) {
+        put_whole(&handed, n, m, stations, charges, sold, paid, places, floors, cut, margin);
+        *correct = mark_wrong(words, rule, MARKET(tickets), &handed);
+        *correct = *correct == 0 && strcmp(words[1], "kept") == 0 ? before : *correct;
+        if (strcmp(words[1], "mended") == 0) {
+            mend(rule, MARKET(tickets), stations, charges, sold, paid, places, floors);
+        }
+        for (size_t k = 0; strcmp(words[1], "place-refused") == 0 && k < n * m; k++) {
+            if (places[k] > 1) {
+                *correct = before;
+                answer = BAY_MARKET_LENT_LENGTHS;
+            }
+        }
+    }
+    if (answer != 0 && strcmp(words[1], "cleared") == 0) {
+        *correct = 0;
+    }
+    answer = out_of_place("mark", answer, tickets, tickets_len, 0);
+    answer = list_out_of_place(words, answer, asks, m, lists, sizeof lists / sizeof *lists);
+    return SPOIL("mark", answer, parts);
 }

@@ -1,6 +1,6 @@
 /*
- * Case E of document 01 by rule 1, rules, tickets, quiet rounds, what decided, another row of case G, parking places,
- * two gates, comma-separated markets, refusals and limits, through include/bay_market.h.
+ * Case E of document 01 by rule 1, rules, tickets, quiet rounds, what decided, another row of case G, Table I handed
+ * in, parking places, two gates, comma-separated markets, refusals and limits, through include/bay_market.h.
  */
 #include "bay_market.h"
 
@@ -371,6 +371,115 @@ static void test_try(void)
            "guest 2 has its seat");
 }
 
+/* What is handed in of Table I, with room for more, and how long each list of it is. */
+struct handed {
+    uint16_t stations[6];
+    uint32_t charges[6], sold[6];
+    uint64_t paid[6];
+    uint8_t places[26];
+    uint32_t floors[6], cut;
+    uint64_t margin;
+};
+
+struct lengths {
+    size_t stations, charges, sold, paid, places, floors;
+};
+
+static const struct lengths fitting = {5, 5, 5, 5, 25, 5};
+static uint32_t table_i_asks[5] = {4, 1, 3, 2, 5};
+static const uint32_t table_i_tickets[5] = {1, 2, 3, 4, 5};
+static const uint16_t table_i_bays[5] = {1, 2, 4, 2, 3}, table_i_amounts[5] = {5, 2, 6, 4, 3};
+static const uint32_t table_i_bids[25] = {0, 4, 0, 5, 2, 2, 0, 5, 1, 0, 7, 5, 0, 4, 0, 6, 4, 0, 3, 0, 0, 0, 2, 3, 5};
+
+static uint8_t clear_table_i(uint8_t rule, size_t width, const struct lengths *lengths, struct handed *handed)
+{
+    return bay_market_clear_marked(rule, table_i_asks, 5, table_i_bays, 5, table_i_amounts, 5, table_i_tickets, 5,
+                                   table_i_bids, 25, width, handed->stations, lengths->stations, handed->charges,
+                                   lengths->charges, handed->sold, lengths->sold, handed->paid, lengths->paid,
+                                   handed->places, lengths->places, handed->floors, lengths->floors, &handed->cut,
+                                   &handed->margin);
+}
+
+static uint8_t mark_table_i(uint8_t rule, size_t width, const struct lengths *lengths, const struct handed *handed,
+                            uint8_t *correct)
+{
+    return bay_market_mark(rule, table_i_asks, 5, table_i_bays, 5, table_i_amounts, 5, table_i_tickets, 5,
+                           table_i_bids, 25, width, handed->stations, lengths->stations, handed->charges,
+                           lengths->charges, handed->sold, lengths->sold, handed->paid, lengths->paid, handed->places,
+                           lengths->places, handed->floors, lengths->floors, handed->cut, handed->margin, correct);
+}
+
+/* Every refusal of both calls, in its order, with each list one too short and one too long. */
+static void test_mark_refused(void)
+{
+    const uint32_t ask = table_i_asks[4];
+    struct handed handed, before;
+    struct lengths lengths = fitting;
+    size_t *lists[] = {&lengths.stations, &lengths.charges, &lengths.sold,
+                       &lengths.paid, &lengths.places, &lengths.floors};
+    uint8_t correct = 77;
+
+    memset(&handed, 77, sizeof handed);
+    memcpy(&before, &handed, sizeof handed);
+    table_i_asks[4] = BAY_MARKET_MAX_PRICE + 1;
+    lengths.floors = 4;
+    expect(clear_table_i(3, 4, &lengths, &handed) == BAY_MARKET_UNKNOWN_RULE
+           && mark_table_i(3, 4, &lengths, &handed, &correct) == BAY_MARKET_UNKNOWN_RULE, "18 before the market");
+    expect(clear_table_i(1, 4, &lengths, &handed) == BAY_MARKET_LENGTHS_DIFFER
+           && mark_table_i(1, 4, &lengths, &handed, &correct) == BAY_MARKET_LENGTHS_DIFFER, "5 before the lists");
+    for (size_t i = 0; i < sizeof lists / sizeof *lists; i++) {
+        for (size_t wrong = 0; wrong < 2; wrong++) {
+            lengths = fitting;
+            *lists[i] += wrong == 0 ? (size_t)-1 : 1;
+            expect(clear_table_i(1, 5, &lengths, &handed) == BAY_MARKET_LENT_LENGTHS, "another length of a list");
+            expect(mark_table_i(1, 5, &lengths, &handed, &correct) == BAY_MARKET_LENT_LENGTHS,
+                   "another length of a list that is handed in");
+        }
+    }
+    expect(clear_table_i(1, 5, &fitting, &handed) == BAY_MARKET_ASK_OUT_OF_RANGE
+           && mark_table_i(1, 5, &fitting, &handed, &correct) == BAY_MARKET_ASK_OUT_OF_RANGE, "10 before the values");
+    table_i_asks[4] = ask;
+    expect(memcmp(&handed, &before, sizeof handed) == 0 && correct == 77, "refused, both write nothing");
+}
+
+/* Guests 1 and 3 hold both places of stations 2 and 4, where guest 4's totals of 16 and 12 come next. */
+static void test_mark(void)
+{
+    static const struct handed expected = {
+        {4, 0, 2, 0, 0, 77}, {15, 0, 18, 0, 0, 77}, {0, 6, 0, 5, 0, 77}, {0, 18, 0, 15, 0, 77},
+        {0, 1, 0, 1, 0, 0, 0, 0, 0, 0, 0, 1, 0, 1, 0, 0, 0, 0, 0, 0, 0, 0, 0, 0, 0, 77}, {0, 16, 0, 12, 0, 77}, 3, 0};
+    struct handed full = {{77, 77, 77, 77, 77, 77}, {77, 77, 77, 77, 77, 77}, {77, 77, 77, 77, 77, 77},
+                          {77, 77, 77, 77, 77, 77}, {0}, {77, 77, 77, 77, 77, 77}, 77, 77};
+    struct handed handed;
+    uint8_t correct = 77;
+
+    memset(full.places, 77, sizeof full.places);
+    expect(clear_table_i(1, 5, &fitting, &full) == BAY_MARKET_ACCEPTED, "Table I is cleared with places and floors");
+    expect(memcmp(full.stations, expected.stations, sizeof full.stations) == 0
+           && memcmp(full.charges, expected.charges, sizeof full.charges) == 0, "its guests, and nothing beyond");
+    expect(memcmp(full.sold, expected.sold, sizeof full.sold) == 0
+           && memcmp(full.paid, expected.paid, sizeof full.paid) == 0, "its stations, and nothing beyond");
+    expect(memcmp(full.places, expected.places, sizeof full.places) == 0, "its places, and nothing beyond");
+    expect(memcmp(full.floors, expected.floors, sizeof full.floors) == 0, "its floors, and nothing beyond");
+    expect(full.cut == 3 && full.margin == 0, "its cut and margin");
+    expect(mark_table_i(1, 5, &fitting, &full, &correct) == BAY_MARKET_ACCEPTED && correct == 1, "it is passed");
+    expect(mark_table_i(2, 5, &fitting, &full, &correct) == BAY_MARKET_ACCEPTED && correct == 0, "not by rule 2");
+    for (size_t thing = 0; thing < 8; thing++) {
+        handed = full;
+        handed.stations[4] = (uint16_t)(thing == 0 ? 2 : 0);
+        handed.charges[1] += thing == 1;
+        handed.sold[1] -= thing == 2;
+        handed.paid[0] = thing == 3 ? UINT64_C(1) << 63 : 0;
+        handed.places[1] = thing == 4 ? 2 : 1;
+        handed.floors[4] = thing == 5 ? 15 : 0;
+        handed.cut += thing == 6;
+        handed.margin -= thing == 7;
+        correct = 77;
+        expect(mark_table_i(1, 5, &fitting, &handed, &correct) == BAY_MARKET_ACCEPTED && correct == 0,
+               "one wrong number, a place of 2 among them, earns a 0");
+    }
+}
+
 /* A guest at (0, 0) and stations at (3, 4), (1, 1) and (31, 31): what is stated, and how long the bid table is. */
 static uint8_t place(uint32_t price, uint32_t fall, const uint16_t *first, size_t seconds, uint32_t *table,
                      size_t length)
@@ -528,8 +637,9 @@ static void test_null(void)
 {
     const uint32_t ask = 5;
     const uint16_t bay = 1;
-    uint32_t sold = 77, cut = 77, last[BAY_MARKET_MAX_DESKS] = {0}, joined_ask = 77;
+    uint32_t sold = 77, cut = 77, last[BAY_MARKET_MAX_DESKS] = {0}, joined_ask = 77, floor = 77;
     uint16_t joined_bay = 77;
+    uint8_t correct = 77;
     uint64_t paid = 77, margin = 77, house = 3;
     int64_t gain = 77, other_gain = 77;
     struct bay_market_station_account station = {1, 2};
@@ -567,6 +677,20 @@ static void test_null(void)
     expect(bay_market_try(1, &ask, 1, &bay, 1, &bay, 1, &ask, 1, &ask, 1, 1, 1, &ask, 1, &ask, 1, NULL, 0, &gain,
                           &other_gain) == BAY_MARKET_LENT_LENGTHS, "no list of changes");
     expect(gain == 77 && other_gain == 77, "no gain is written");
+    sold = 77, paid = 77, cut = 77, margin = 77;
+    expect(bay_market_clear_marked(1, &ask, 1, &bay, 1, NULL, 0, NULL, 0, NULL, 0, 1, NULL, 0, NULL, 0, &sold, 1, &paid,
+                                   1, NULL, 0, &floor, 1, &cut, &margin) == BAY_MARKET_ACCEPTED, "no places");
+    expect(sold == 0 && paid == 0 && floor == 0 && cut == 5 && margin == 0, "a floor of 0");
+    expect(bay_market_mark(1, &ask, 1, &bay, 1, NULL, 0, NULL, 0, NULL, 0, 1, NULL, 0, NULL, 0, &sold, 1, &paid, 1,
+                           NULL, 0, &floor, 1, cut, margin, &correct) == BAY_MARKET_ACCEPTED && correct == 1,
+           "it is passed with no guests");
+    correct = 77;
+    expect(bay_market_mark(1, &ask, 1, &bay, 1, NULL, 0, NULL, 0, NULL, 0, 1, NULL, 0, NULL, 0, NULL, 0, NULL, 0, NULL,
+                           0, NULL, 0, cut, margin, &correct) == BAY_MARKET_LENT_LENGTHS && correct == 77,
+           "nothing is handed in");
+    expect(bay_market_mark(1, NULL, 0, NULL, 0, NULL, 0, NULL, 0, NULL, 0, 0, NULL, 0, NULL, 0, NULL, 0, NULL, 0, NULL,
+                           0, NULL, 0, cut, margin, &correct) == BAY_MARKET_COUNTS_OUT_OF_RANGE && correct == 77,
+           "no station to mark");
     expect(bay_market_post(1, NULL, 0, NULL, 0, NULL, 0, NULL, 0, NULL, 0, 0, 0, 1, NULL, 0, NULL, 0, &house, NULL, 0)
            == BAY_MARKET_COUNTS_OUT_OF_RANGE, "no station to post");
     expect(bay_market_post(1, &ask, 1, &bay, 1, NULL, 0, NULL, 0, NULL, 0, 1, 0, 2, NULL, 0, NULL, 0, &house, NULL, 0)
@@ -626,6 +750,8 @@ int main(void)
     test_explain();
     test_explain_table_i();
     test_try();
+    test_mark_refused();
+    test_mark();
     test_places();
     test_placed_market();
     test_join();

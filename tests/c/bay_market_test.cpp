@@ -1,5 +1,5 @@
-// The header from C++: empty vectors, whose data() may be null, a table that is cleared by both mechanisms, explained and
-// written, bids that are placed, and texts.
+// The header from C++: empty vectors, whose data() may be null, a table that is cleared by both mechanisms, explained,
+// handed in and written, bids that are placed, and texts.
 #include "bay_market.h"
 
 #include <cstdio>
@@ -52,6 +52,31 @@ int main()
     good = good && codes == std::vector<std::uint8_t>{BAY_MARKET_OUTBID, BAY_MARKET_NO_BID, BAY_MARKET_HELD, BAY_MARKET_NO_BID};
     good = good && reasons[0] == BAY_MARKET_OUTBID && reasons[1] == 0 && charges[0] == 0;
     good = good && std::string(bay_market_code_text(reasons[0])) == "outbid";
+    std::vector<std::uint8_t> places;
+    std::vector<std::uint32_t> floors(2, 77);
+    const auto clear_marked = [&] {
+        return bay_market_clear_marked(BAY_MARKET_RULE_MEDIAN, asks.data(), asks.size(), bays.data(), bays.size(),
+                                       amounts.data(), amounts.size(), tickets.data(), tickets.size(), bids.data(),
+                                       bids.size(), asks.size(), stations.data(), stations.size(), charges.data(),
+                                       charges.size(), sold.data(), sold.size(), paid.data(), paid.size(),
+                                       places.data(), places.size(), floors.data(), floors.size(), &cut, &margin);
+    };
+    std::uint8_t correct = 77;
+    const auto mark = [&] {
+        return bay_market_mark(BAY_MARKET_RULE_MEDIAN, asks.data(), asks.size(), bays.data(), bays.size(),
+                               amounts.data(), amounts.size(), tickets.data(), tickets.size(), bids.data(),
+                               bids.size(), asks.size(), stations.data(), stations.size(), charges.data(),
+                               charges.size(), sold.data(), sold.size(), paid.data(), paid.size(), places.data(),
+                               places.size(), floors.data(), floors.size(), cut, margin, &correct);
+    };
+    good = good && clear_marked() == BAY_MARKET_LENT_LENGTHS && floors[0] == 77;
+    good = good && mark() == BAY_MARKET_LENT_LENGTHS && correct == 77;
+    places.resize(4, 77);
+    good = good && clear_marked() == BAY_MARKET_ACCEPTED && places == std::vector<std::uint8_t>{0, 0, 1, 0};
+    good = good && floors == std::vector<std::uint32_t>{24, 0} && charges[1] == 24 && cut == 6 && margin == 6;
+    good = good && mark() == BAY_MARKET_ACCEPTED && correct == 1;
+    places[2] = 2;
+    good = good && mark() == BAY_MARKET_ACCEPTED && correct == 0;
     std::vector<std::uint8_t> sheet;
     std::size_t length = 77;
     const auto write = [&] {

@@ -25,6 +25,8 @@ static uint64_t paid[BAY_MARKET_MAX_STATIONS], margin, guests[BAY_MARKET_MAX_GUE
 static struct bay_market_station_account accounts[BAY_MARKET_MAX_STATIONS];
 static uint8_t codes[BAY_MARKET_MAX_BIDS], reasons[BAY_MARKET_MAX_GUESTS], changes[BAY_MARKET_MAX_GUESTS];
 static int64_t gain, other_gain;
+static uint8_t places[BAY_MARKET_MAX_BIDS], correct;
+static uint32_t floors[BAY_MARKET_MAX_STATIONS];
 static uint16_t joined_amounts[BAY_MARKET_MAX_GUESTS], joined_bays[BAY_MARKET_MAX_STATIONS];
 static uint32_t joined_asks[BAY_MARKET_MAX_STATIONS], joined_tickets[BAY_MARKET_MAX_GUESTS];
 static uint32_t joined_bids[BAY_MARKET_MAX_BIDS];
@@ -78,6 +80,19 @@ static void call_try(void)
 {
     answer = bay_market_try(2, asks, m, bays, m, amounts, n, tickets, n, bids, (size_t)n * m, m, n,
                             bids + (size_t)(n - 1) * m, m, bids, m, changes, n, &gain, &other_gain);
+}
+
+static void call_clear_marked(void)
+{
+    answer = bay_market_clear_marked(2, asks, m, bays, m, amounts, n, tickets, n, bids, (size_t)n * m, m, stations, n,
+                                     charges, n, sold, m, paid, m, places, (size_t)n * m, floors, m, &cut, &margin);
+}
+
+/* It goes after the call that gives what is handed in. */
+static void call_mark(void)
+{
+    answer = bay_market_mark(2, asks, m, bays, m, amounts, n, tickets, n, bids, (size_t)n * m, m, stations, n, charges,
+                             n, sold, m, paid, m, places, (size_t)n * m, floors, m, cut, margin, &correct);
 }
 
 /* The market's two halves. */
@@ -201,6 +216,8 @@ int main(void)
                  {"write", call_write, BAY_MARKET_MAX_STACK}, {"clear", call_clear, BAY_MARKET_MAX_STACK},
                  {"clear_efficient", call_clear_efficient, BAY_MARKET_MAX_STACK},
                  {"explain", call_explain, BAY_MARKET_MAX_STACK}, {"try", call_try, BAY_MARKET_MAX_STACK_TRY},
+                 {"clear_marked", call_clear_marked, BAY_MARKET_MAX_STACK},
+                 {"mark", call_mark, BAY_MARKET_MAX_STACK},
                  {"join", call_join, BAY_MARKET_MAX_STACK}, {"post", call_post, BAY_MARKET_MAX_STACK},
                  {"place_bids", call_place_bids, BAY_MARKET_MAX_STACK}};
     size_t most = 0, most_csv = 0, most_try = 0;
@@ -217,6 +234,10 @@ int main(void)
                              : calls[i].call == call_try ? &most_try : &most;
             if (answer != BAY_MARKET_ACCEPTED) {
                 fprintf(stderr, "%s: refused %d\n", calls[i].name, answer);
+                return 1;
+            }
+            if (calls[i].call == call_mark && correct != 1) {
+                fprintf(stderr, "mark: what clear_marked gives is not passed\n");
                 return 1;
             }
             if (taken > *so_far) {

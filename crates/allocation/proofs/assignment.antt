@@ -1,1 +1,2 @@
 pub mod Assignment
+pub mod Results

@@ -1,5 +1,6 @@
 // Who gets a bay where, in a truthful round: stations take their turns, and each guest its best offer.
 pub mod assignment;
+pub mod holding;
 mod offers;
 mod selection;
 pub mod signed;

@@ -9,7 +9,7 @@ ghost use Rattle.model.specs.Numbers.{answerOfClearing};
 ghost use Rattle.bay_market.specs.Tells.{Tells};
 
 // The answer's number, 0 for a clearing, whose cut and margin go to their places.
-fn tell(answer: Clearing, cut: &mut u32, margin: &mut u64) -> u8
+pub fn tell(answer: Clearing, cut: &mut u32, margin: &mut u64) -> u8
     ensures { λ r. ⌜ Tells (answerOfClearing answer) (now (cut .entry), now (margin .entry)) r
         (now (cut .exit), now (margin .exit)) ⌝ }
 {

@@ -1,6 +1,7 @@
 // The engine for other languages, one archive: include/bay_market.h.
 mod clear;
 mod gates;
+mod marks;
 mod places;
 mod post;
 mod read;

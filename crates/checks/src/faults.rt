@@ -53,7 +53,7 @@ fn explained_lengths_differ(n: usize, m: usize, codes: usize, outcomes: usize) -
 }
 
 // The first fault of a value: all asks, then all bays, then all amounts, then all bids, then two equal tickets.
-fn value_fault(
+pub fn value_fault(
     asks: &[u32],
     bays: &[u16],
     amounts: &[u16],
@@ -81,7 +81,14 @@ fn value_fault(
 }
 
 // The counts, then the lengths of the tables. The counts come first, so that n times m cannot wrap.
-fn size_fault(n: usize, m: usize, bays: usize, tickets: usize, bids: usize, width: usize) -> Verdict
+pub fn size_fault(
+    n: usize,
+    m: usize,
+    bays: usize,
+    tickets: usize,
+    bids: usize,
+    width: usize,
+) -> Verdict
     ensures { λ r. ⌜ answerOfVerdict r ≡ firstFault (counts n m ∷ lengths n m bays tickets bids width ∷ []) ⌝ }
 {
     if limits::counts_out_of_range(n, m) {

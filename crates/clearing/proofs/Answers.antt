@@ -1,14 +1,11 @@
--- The table of refusals, the sums of an accepted market, and the answers of a clearing.
-use Prim.Native.Nat.{ℕ, zero, suc, _+_, _*_, _-_, _≤_, _<_}
+-- The outcome of an accepted market at its rule's cut, and the answers of a clearing.
+use Prim.Native.Nat.{ℕ, _-_}
 use mathlib.Core.List.{List}
 use mathlib.Core.Path.{_≡_, refl, sym, ap, ap₂, subst, _∙_}
-use native.Mathlib.Numerals.{add-one}
-use native.Mathlib.Omega.{arith}
 use lib.ListN.{getD, length}
-use Rattle.model.specs.Limits.{maxStations}
 use Rattle.model.specs.declared.refusal.Refusal.{Refusal}
 use Rattle.model.specs.declared.refusal.Refusal.the-variants.{UnknownRule}
-use Rattle.model.specs.Counting.{_=?_, only, sum, list}
+use Rattle.model.specs.Counting.{sum, list}
 use Rattle.model.specs.Numbers.{answerOfClearing, answerOfVerdict}
 use Rattle.model.specs.Verdicts.{Answer, accepted, firstFault}
 use Rattle.model.proofs.Promises.{keeps-refused}
@@ -17,7 +14,7 @@ use Rattle.model.specs.declared.answers.Verdict.{Verdict}
 use Rattle.model.specs.declared.money.UnitPrice.{UnitPrice}
 use Rattle.model.specs.declared.money.Mills.{Mills}
 use Rattle.model.specs.market.Market.{Tables, marketBy, market, cut, opens, screen, tables, regular}
-use Rattle.model.specs.market.Mechanism.{Decision, at, charge, charged, sold, paid, margin}
+use Rattle.model.specs.market.Mechanism.{Decision}
 use Rattle.model.specs.market.Outcome.{Results, Outcome, outcomeBy, screened, decision, outcome, results}
 use Rattle.model.specs.market.Outcome.{efficientDecision, efficientOutcome, outcomeIn}
 use Rattle.model.specs.market.Rules.{named, isUnknown, ruleIn}
@@ -26,10 +23,7 @@ use Rattle.model.specs.declared.rule.NamedRule.the-variants.{Known, Unknown}
 use Rattle.model.specs.declared.mechanism.Mechanism.{Mechanism}
 use Rattle.model.specs.declared.mechanism.Mechanism.the-variants.{Truthful, Efficient}
 use Rattle.model.specs.market.Faults.{unknownRule, tableFaults, clearingFaults}
-use Rattle.model.specs.claims.Meaning.{WithinLimits}
-use Rattle.model.proofs.Counting.{sum-cong}
-use Rattle.model.proofs.Loops.{long, element, relist}
-use Rattle.model.proofs.market.Outcomes.{ComesOf, numbered, of-truthful, of-efficient}
+use Rattle.model.proofs.market.Outcomes.{ComesOf, of-truthful, of-efficient}
 use Rattle.pricing.specs.CutAsk.{cutAsk}
 use Rattle.pricing.proofs.cut.CutAsk.{cut-is}
 use Rattle.pricing.specs.Sales.{kwhAt, PaidOut}
@@ -38,6 +32,7 @@ use Rattle.pricing.specs.Charges.{leastAt}
 use Rattle.allocation.specs.Stages.{AtCut}
 use Rattle.allocation.specs.Assignment.{Assigned}
 use Rattle.allocation.specs.Screens.{screenedAt}
+use Rattle.allocation.proofs.assignment.Results.{cut-is as cut-at, margin-is, results-are}
 use Rattle.clearing.specs.Decided.{decided}
 use Rattle.model.specs.contracts.EntryPoints.{clearing, clearingUnder, ClearsUnder, Clears}
 use Rattle.clearing.specs.ClearsAccepted.{ClearsAccepted}
@@ -81,65 +76,19 @@ clears-under-rule x rule t {answer = answer} {exit} e =
     subst (λ o. ClearsAccepted o answer exit)
     (ap (λ c. outcomeBy (screenedAt t c) (decided x (screenedAt t c))) (e ∙ cut-is rule t) ∙ under-rule x rule t)
 
-module _ (t : Tables) (c : ℕ) {D : Decision} {o : Outcome} (m : ComesOf (screenedAt t c) D o)
-    {stations charges : List ℕ} (a : Assigned o stations charges) where
-  stations-are : stations ≡ list (length (t .amounts)) (D .assigned)
-  unfolding outcomeBy screenedAt
-  stations-are = a .stations-are ∙ ap (λ o. o .results .stations) (m .outcome-is)
-
-  charges-are : charges ≡ list (length (t .amounts)) (charged (screenedAt t c) D)
-  unfolding outcomeBy screenedAt
-  charges-are = a .charges-are ∙ ap (λ o. o .results .charges) (m .outcome-is)
-
-  pub stations-count : length stations ≡ length (t .amounts)
-  stations-count = long _ _ stations-are
-
-  pub charges-count : length charges ≡ length (t .amounts)
-  charges-count = long _ _ charges-are
-
-  pub stations-low : WithinLimits t → (k : ℕ) → k < length (t .amounts) → getD stations k 0 ≤ maxStations
-  unfolding screenedAt
-  stations-low w k l = rw (element _ _ stations-are k l) (numbered m (w .shape .stations-most) k l)
-
-  kwh-is : (j : ℕ) → kwhAt stations (t .amounts) (j + 1) ≡ sold (screenedAt t c) D j
-  unfolding kwhAt sold screenedAt
-  kwh-is j =
-      sum-cong (length (t .amounts)) _ _
-      (λ k l. ap₂ (λ x y. only (x =? y) (getD (t .amounts) k 0)) (element _ _ stations-are k l) (add-one j))
-
-  module _ {least : List ℕ} (A : AtCut t c least) where
-    -- whoever is not assigned is charged nothing, and adds nothing
-    margin-is : sum (length (t .amounts)) (λ i. getD charges i 0 - getD least i 0) ≡ margin (screenedAt t c) D
-    unfolding margin charged at screenedAt
-    margin-is =
-        sum-cong (length (t .amounts)) _ _ (λ k l. ap₂ _-_ (element _ _ charges-are k l)
-        (element _ _ (A .least-are) k l) ∙ go k (D .assigned k))
-      where
-        go :
-            (k r : ℕ)
-            → at (charge (screenedAt t c) D k) r - c * getD (t .amounts) k 0
-            ≡ at (λ j. charge (screenedAt t c) D k j - c * getD (t .amounts) k 0) r
-        go k zero = omega arith
-        go k (suc j) = refl
-
-    pub clears-accepted :
-        (p : UnitPrice) (x : Mills) {n : ℕ} {sales payments : List ℕ} → p .0 ≡ c → n ≡ length (t .asks)
-        → PaidOut (kwhAt stations (t .amounts)) c n sales payments
-        → x .0 ≡ sum (length charges) (λ i. getD charges i 0 - getD least i 0)
-        → ClearsAccepted o (clearings.Cleared p x) (results stations charges sales payments)
-    unfolding answerOfClearing outcomeBy paid screenedAt
-    clears-accepted price x {n} {sales} {payments} ec en p e =
-        subst (λ o. ClearsAccepted o (clearings.Cleared price x) (results stations charges sales payments))
-        (sym (m .outcome-is)) (record {
-          answered = ap₂ {C = Answer (ℕ × ℕ)} (λ a b. accepted (a, b)) ec
-              (e ∙ ap (λ n. sum n (λ i. getD charges i 0 - getD least i 0)) charges-count ∙ margin-is);
-          left = λ i. record {
-            stations = stations-are i;
-            charges = charges-are i;
-            sold = relist _ _ _ _ (p .sold-are) en (λ j _. kwh-is j) i;
-            paid = relist _ _ _ _ (p .paid-are) en (λ j _. ap (λ x. c * x) (kwh-is j)) i;
-          };
-        })
+pub clears-accepted :
+    (t : Tables) (c : ℕ) {D : Decision} {o : Outcome} → ComesOf (screenedAt t c) D o → {stations charges : List ℕ}
+    → Assigned o stations charges → {least : List ℕ} → AtCut t c least
+    → (p : UnitPrice) (x : Mills) {n : ℕ} {sales payments : List ℕ} → p .0 ≡ c → n ≡ length (t .asks)
+    → PaidOut (kwhAt stations (t .amounts)) c n sales payments
+    → x .0 ≡ sum (length charges) (λ i. getD charges i 0 - getD least i 0)
+    → ClearsAccepted o (clearings.Cleared p x) (results stations charges sales payments)
+unfolding answerOfClearing
+clears-accepted t c m a A price x ec en p e = record {
+  answered =
+      ap₂ {C = Answer (ℕ × ℕ)} (λ a b. accepted (a, b)) (ec ∙ cut-at t c m a) (e ∙ margin-is t c m a A);
+  left = results-are t c m a en p;
+}
 
 -- ---- the answers
 

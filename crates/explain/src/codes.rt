@@ -1,5 +1,5 @@
 // The code of each guest and station, row after row, and each guest's loss.
-use allocation::signed;
+use allocation::holding;
 use model::money::Mills;
 use model::money::UnitPrice;
 ghost use Prim.Native.Nat.{_+_, _*_, _<_, _≤_, max};
@@ -8,33 +8,13 @@ ghost use mathlib.Core.Path.{_≡_};
 ghost use lib.ListN.{length};
 ghost use lib.Seq.{paste};
 ghost use Rattle.model.specs.Limits.{maxPrice, maxAmount};
-ghost use Rattle.model.specs.Counting.{_<?_, _=?_, only, greatest, list};
+ghost use Rattle.model.specs.Counting.{_=?_, only, greatest, list};
 ghost use Rattle.model.specs.contracts.Lent.{regularOf, regularIn};
 ghost use Rattle.model.specs.claims.Meaning.{WithinLimits};
 ghost use Rattle.allocation.specs.Offers.{wonBy};
 ghost use Rattle.allocation.specs.Stages.{Bars};
 ghost use Rattle.allocation.specs.Totals.{maxTotal};
 ghost use Rattle.explain.specs.Codes.{codeBy, rowCode, RowReady, CodesAtCut};
-
-// A total with one mill more where the ticket is below the bound.
-fn credited(total: Mills, ticket: u32, bound: u32) -> Mills
-    requires { ⌜ total .0 ≤ maxTotal ⌝ }
-    ensures { λ r. ⌜ r .0 ≡ total .0 + only (ticket <? bound) 1 ⌝ }
-{
-    if ticket < bound {
-        total.plus(Mills(1))
-    } else {
-        total
-    }
-}
-
-// Whether a candidate of this total and ticket holds a place, by the critical total and the tie bound of the station.
-fn holds(total: Mills, critical: Mills, ticket: u32, bound: u32) -> bool
-    requires { ⌜ (total .0 ≤ maxTotal) × (critical .0 ≤ maxTotal) ⌝ }
-    ensures { λ r. ⌜ r ≡ wonBy (total .0) (critical .0) ticket bound ⌝ }
-{
-    signed::below_small(critical, credited(total, ticket, bound))
-}
 
 fn no_bid(bid: UnitPrice) -> bool
     ensures { λ r. ⌜ r ≡ (bid .0 =? 0) ⌝ }
@@ -63,7 +43,7 @@ fn code(
     ensures { λ r. ⌜ r ≡ codeBy (bid .0) (ask .0) (cut .0) (wonBy (bid .0 * amount) (critical .0) ticket bound) ⌝ }
 {
     let total = bid.times(amount as u32);
-    let held = holds(total, critical, ticket, bound);
+    let held = holding::holds(total, critical, ticket, bound);
     let of_candidate = choose(held, 0, 4);
     let below = bid.below(cut);
     let where_open = choose(below, 3, of_candidate);

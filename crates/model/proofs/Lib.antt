@@ -2,6 +2,7 @@ pub mod Counting
 pub mod Loops
 pub mod Passing
 pub mod Promises
+pub mod Tables
 pub mod Tests
 pub mod Verdicts
 pub mod book

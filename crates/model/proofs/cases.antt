@@ -6,6 +6,7 @@ pub mod ExampleEnds
 pub mod Gates
 pub mod GatesInstance
 pub mod Instances
+pub mod Marking
 pub mod OtherRows
 pub mod Places
 pub mod Reasons

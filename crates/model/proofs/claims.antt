@@ -4,6 +4,7 @@ pub mod Csv
 pub mod Efficient
 pub mod Existence
 pub mod Gates
+pub mod Marking
 pub mod OneSheet
 pub mod OtherRows
 pub mod Places

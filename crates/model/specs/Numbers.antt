@@ -1,6 +1,7 @@
 -- Document 01's number and values for each case of the enums that calls answer with.
 use Prim.Native.Nat.{ℕ}
 use lib.IntN.{ℤ}
+use Rattle.model.specs.Counting.{only}
 use Rattle.model.specs.Verdicts.{Answer, accepted, refused}
 use Rattle.model.specs.declared.answers.Reading.{Reading}
 use Rattle.model.specs.declared.answers.Reading.the-variants as reading
@@ -10,6 +11,8 @@ use Rattle.model.specs.declared.answers.Clearing.{Clearing}
 use Rattle.model.specs.declared.answers.Clearing.the-variants as clearing
 use Rattle.model.specs.declared.answers.Trying.{Trying}
 use Rattle.model.specs.declared.answers.Trying.the-variants as trying
+use Rattle.model.specs.declared.answers.Marking.{Marking}
+use Rattle.model.specs.declared.answers.Marking.the-variants as marking
 use Rattle.model.specs.declared.answers.Verdict.{Verdict}
 use Rattle.model.specs.declared.answers.Verdict.the-variants as verdict
 use Rattle.model.specs.declared.reason.Reason.{Reason}
@@ -73,6 +76,11 @@ answerOfClearing (clearing.Refused r) = refused (number r)
 unfoldable pub answerOfTrying : Trying → Answer (ℤ × ℤ)
 answerOfTrying (trying.Tried first second) = accepted (first, second)
 answerOfTrying (trying.Refused r) = refused (number r)
+
+-- of a clearing that is handed in: 1 where it is correct, else 0
+unfoldable pub answerOfMarking : Marking → Answer ℕ
+answerOfMarking (marking.Marked correct) = accepted (only correct 1)
+answerOfMarking (marking.Refused r) = refused (number r)
 
 -- of a posting, of placing bids, and of every check
 unfoldable pub answerOfVerdict : Verdict → Answer Unit

@@ -2,6 +2,7 @@ pub mod Cases
 pub mod Csv
 pub mod Gates
 pub mod Instances
+pub mod Marking
 pub mod OtherRows
 pub mod Places
 pub mod Reasons

@@ -2,6 +2,7 @@ pub mod Calls
 pub mod Csv
 pub mod Efficient
 pub mod Gates
+pub mod Marking
 pub mod Meaning
 pub mod OneSheet
 pub mod OtherRows

@@ -4,6 +4,7 @@ pub mod Faults
 pub mod Gains
 pub mod Gates
 pub mod Market
+pub mod Marking
 pub mod Mechanism
 pub mod Outcome
 pub mod Reasons

@@ -27,6 +27,12 @@ pub enum Trying {
     Refused(Refusal),
 }
 
+// What a clearing that is handed in comes to: whether it is that of the truthful round, or the refusal.
+pub enum Marking {
+    Marked { correct: bool },
+    Refused(Refusal),
+}
+
 // Whether a call is accepted; a posting is posted then.
 pub enum Verdict {
     Accepted,

@@ -4,7 +4,8 @@
 //! asks, bays, amounts, tickets, bids, after the rule's number where they have one. Amounts and bays have one type,
 //! tickets, asks and bids another, so the compiler cannot see a swap. `bay_market_place_bids` takes prices, falls, then
 //! the guests' first and second coordinates, then the stations', and `bay_market_try` a guest's worths before its other row.
-//! The safe functions name each.
+//! `bay_market_clear_marked` and `bay_market_mark` take charges, sold and floors, which have one type, in this order. The
+//! safe functions name each.
 
 use crate::StationAccount;
 
@@ -128,6 +129,41 @@ unsafe extern "C" {
         row: *const u32, row_len: usize,
         changes: *mut u8, changes_len: usize,
         first_gain: *mut i64, second_gain: *mut i64,
+    ) -> u8;
+
+    pub fn bay_market_clear_marked(
+        rule: u8,
+        asks: *const u32, asks_len: usize,
+        bays: *const u16, bays_len: usize,
+        amounts: *const u16, amounts_len: usize,
+        tickets: *const u32, tickets_len: usize,
+        bids: *const u32, bids_len: usize,
+        width: usize,
+        stations: *mut u16, stations_len: usize,
+        charges: *mut u32, charges_len: usize,
+        sold: *mut u32, sold_len: usize,
+        paid: *mut u64, paid_len: usize,
+        places: *mut u8, places_len: usize,
+        floors: *mut u32, floors_len: usize,
+        cut: *mut u32, margin: *mut u64,
+    ) -> u8;
+
+    pub fn bay_market_mark(
+        rule: u8,
+        asks: *const u32, asks_len: usize,
+        bays: *const u16, bays_len: usize,
+        amounts: *const u16, amounts_len: usize,
+        tickets: *const u32, tickets_len: usize,
+        bids: *const u32, bids_len: usize,
+        width: usize,
+        stations: *const u16, stations_len: usize,
+        charges: *const u32, charges_len: usize,
+        sold: *const u32, sold_len: usize,
+        paid: *const u64, paid_len: usize,
+        places: *const u8, places_len: usize,
+        floors: *const u32, floors_len: usize,
+        cut: u32, margin: u64,
+        correct: *mut u8,
     ) -> u8;
 
     pub fn bay_market_post(

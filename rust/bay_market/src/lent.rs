@@ -74,6 +74,32 @@ pub struct Explanation<'a> {
     pub reasons: &'a mut [u8],
 }
 
+/// What a clearing with its places and floors fills: the results of a clearing; a byte for each guest and station, row after
+/// row as the bids, 1 where the guest holds a place there and else 0; and each station's floor, the total of the first
+/// candidate without a place, 0 where there is none and at a station that is not open.
+#[derive(Debug)]
+pub struct FullResults<'a> {
+    pub stations: &'a mut [u16],
+    pub charges: &'a mut [u32],
+    pub sold: &'a mut [u32],
+    pub paid: &'a mut [u64],
+    pub places: &'a mut [u8],
+    pub floors: &'a mut [u32],
+}
+
+/// A clearing that is handed in to be marked, with its places and floors as [`FullResults`] has them.
+#[derive(Clone, Copy, Debug)]
+pub struct Submission<'a> {
+    pub stations: &'a [u16],
+    pub charges: &'a [u32],
+    pub sold: &'a [u32],
+    pub paid: &'a [u64],
+    pub places: &'a [u8],
+    pub floors: &'a [u32],
+    pub cut: u32,
+    pub margin: u64,
+}
+
 /// What trying a row answers besides its list of changes: the guest's gain by its bids in the market and by the other row,
 /// in mills; negative where it would pay more than its station is worth to it.
 #[derive(Clone, Copy, Debug, PartialEq, Eq)]
@@ -393,6 +419,106 @@ pub fn try_row(
         &mut gains.second,
     );
     Refusal::check(answer).map(|()| gains)
+}
+
+/// Clears a market by a rule as [`clear`] does, and gives the places and floors of that round besides.
+///
+/// ```
+/// use bay_market::lent::{Cleared, FullResults, Market, clear_marked};
+/// use bay_market::{Refusal, Rule};
+///
+/// // guest 2 has no place at station 1, and its total of 20 is the floor there
+/// let (amounts, tickets) = (&[3, 2], &[1, 2]);
+/// let market = Market { asks: &[2, 6], bays: &[1, 1], amounts, tickets, bids: &[9, 0, 10, 0], width: 2 };
+/// let (mut stations, mut charges, mut sold, mut paid) = ([77; 2], [77; 2], [77; 2], [77; 2]);
+/// let (mut places, mut floors) = ([77; 4], [77; 2]);
+/// let mut results = FullResults {
+///     stations: &mut stations,
+///     charges: &mut charges,
+///     sold: &mut sold,
+///     paid: &mut paid,
+///     places: &mut places,
+///     floors: &mut floors,
+/// };
+/// assert_eq!(clear_marked(Rule::Median, &market, &mut results), Ok(Cleared { cut: 6, margin: 2 }));
+/// assert_eq!((stations, charges, sold, paid), ([1, 0], [20, 0], [3, 0], [18, 0]));
+/// assert_eq!((places, floors), ([1, 0, 0, 0], [20, 0]));
+/// ```
+pub fn clear_marked(rule: Rule, market: &Market, results: &mut FullResults) -> Result<Cleared, Refusal> {
+    let Market { asks, bays, amounts, tickets, bids, width } = *market;
+    let FullResults { stations, charges, sold, paid, places, floors } = results;
+    let mut cleared = Cleared { cut: 0, margin: 0 };
+    let answer = slices::clear_marked(
+        rule.number(),
+        asks,
+        bays,
+        amounts,
+        tickets,
+        bids,
+        width,
+        stations,
+        charges,
+        sold,
+        paid,
+        places,
+        floors,
+        &mut cleared.cut,
+        &mut cleared.margin,
+    );
+    Refusal::check(answer).map(|()| cleared)
+}
+
+/// Marks a clearing that is handed in: whether all its numbers are those that [`clear_marked`] gives of the market by that
+/// rule. A place of another value than 0 and 1 is a wrong number as any other.
+///
+/// ```
+/// use bay_market::lent::{Market, Submission, mark};
+/// use bay_market::{Refusal, Rule};
+///
+/// let (amounts, tickets) = (&[3, 2], &[1, 2]);
+/// let market = Market { asks: &[2, 6], bays: &[1, 1], amounts, tickets, bids: &[9, 0, 10, 0], width: 2 };
+/// let submission = Submission {
+///     stations: &[1, 0],
+///     charges: &[20, 0],
+///     sold: &[3, 0],
+///     paid: &[18, 0],
+///     places: &[1, 0, 0, 0],
+///     floors: &[20, 0],
+///     cut: 6,
+///     margin: 2,
+/// };
+/// assert_eq!(mark(Rule::Median, &market, &submission), Ok(true));
+/// assert_eq!(mark(Rule::Median, &market, &Submission { floors: &[19, 0], ..submission }), Ok(false));
+/// assert_eq!(mark(Rule::Median, &market, &Submission { places: &[2, 0, 0, 0], ..submission }), Ok(false));
+/// assert_eq!(mark(Rule::Median, &market, &Submission { floors: &[20], ..submission }), Err(Refusal::LentLengths));
+/// ```
+pub fn mark(rule: Rule, market: &Market, submission: &Submission) -> Result<bool, Refusal> {
+    let Market { asks, bays, amounts, tickets, bids, width } = *market;
+    let Submission { stations, charges, sold, paid, places, floors, cut, margin } = *submission;
+    let mut correct = 0;
+    let answer = slices::mark(
+        rule.number(),
+        asks,
+        bays,
+        amounts,
+        tickets,
+        bids,
+        width,
+        stations,
+        charges,
+        sold,
+        paid,
+        places,
+        floors,
+        cut,
+        margin,
+        &mut correct,
+    );
+    Refusal::check(answer).map(|()| match correct {
+        0 => false,
+        1 => true,
+        number => unreachable!("the engine gave mark {number}"),
+    })
 }
 
 /// Clears a market by a rule as [`clear`] does and posts it to the ledger as a round of a desk.

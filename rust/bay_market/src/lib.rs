@@ -1,7 +1,7 @@
 //! The proved clearing engine for charging bays.
 //!
-//! [`Market`], [`Places`], [`Clearing`], [`Explanation`], [`Tried`] and [`Ledger`] own their lists; the module [`lent`] has
-//! the same over slices that the caller lends, and [`c`] the functions of the C header.
+//! [`Market`], [`Places`], [`Clearing`], [`Explanation`], [`Tried`], [`Submission`] and [`Ledger`] own their lists; the
+//! module [`lent`] has the same over slices that the caller lends, and [`c`] the functions of the C header.
 //!
 //! ```
 //! use bay_market::{Desk, Ledger, Market, Refusal, Rule};
@@ -32,7 +32,7 @@ mod refusal;
 mod slices;
 
 pub use decided::{Change, Code, GuestOutcome, Reason};
-pub use owned::{Cell, Clearing, Explanation, Ledger, Market, Places, Tried};
+pub use owned::{Cell, Clearing, Explanation, Ledger, Market, Places, Submission, Tried};
 pub use refusal::Refusal;
 
 pub const MAX_GUESTS: usize = 200;
@@ -63,8 +63,8 @@ pub const MAX_STACK_READ_CSV: usize = 40_960;
 /// Bytes of stack that the engine takes at most to try a row, with a copy of the bids.
 pub const MAX_STACK_TRY: usize = 45_056;
 
-/// The rule of a clearing, an explanation, a tried row or a posting: the position of the cut, from 1, among the m asks in
-/// rising order.
+/// The rule of a clearing, an explanation, a tried row, a mark or a posting: the position of the cut, from 1, among the m
+/// asks in rising order.
 #[derive(Clone, Copy, Debug, PartialEq, Eq, Hash)]
 #[repr(u8)]
 pub enum Rule {

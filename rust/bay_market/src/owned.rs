@@ -60,6 +60,16 @@ pub struct Tried {
     pub changes: Vec<Change>,
 }
 
+/// A whole clearing, as it is handed in to be marked: with a byte for each guest and station, guest after guest as the bids,
+/// 1 where the guest holds a place there and else 0, and with each station's floor, the total of the first candidate without
+/// a place, 0 where there is none and at a station that is not open.
+#[derive(Clone, Debug, PartialEq, Eq)]
+pub struct Submission {
+    pub clearing: Clearing,
+    pub places: Vec<u8>,
+    pub floors: Vec<u32>,
+}
+
 /// The ledger (document 01: the book).
 #[derive(Clone, Debug, PartialEq, Eq)]
 pub struct Ledger {
@@ -279,6 +289,58 @@ impl Market {
         Ok(Tried { first_gain: gains.first, second_gain: gains.second, changes })
     }
 
+    /// The truthful round by a rule, that of [`clear`](Market::clear), with its places and floors: what [`mark`](Market::mark)
+    /// passes.
+    ///
+    /// ```
+    /// use bay_market::{Market, Refusal, Rule};
+    ///
+    /// // guest 2 has no place at station 1, and its total of 20 is the floor there
+    /// let (amounts, tickets) = (vec![3, 2], vec![1, 2]);
+    /// let market = Market { asks: vec![2, 6], bays: vec![1, 1], amounts, tickets, bids: vec![9, 0, 10, 0] };
+    /// let full = market.clear_marked(Rule::Median)?;
+    /// assert_eq!(full.clearing, market.clear(Rule::Median)?);
+    /// assert_eq!((full.places, full.floors), (vec![1, 0, 0, 0], vec![20, 0]));
+    /// # Ok::<(), Refusal>(())
+    /// ```
+    pub fn clear_marked(&self, rule: Rule) -> Result<Submission, Refusal> {
+        let (n, m) = within_limits(self.amounts.len(), self.asks.len());
+        let (mut seats, mut charges) = (vec![0; n], vec![0; n]);
+        let (mut sold, mut paid) = (vec![0; m], vec![0; m]);
+        let (mut places, mut floors) = (vec![0; n * m], vec![0; m]);
+        let mut results = lent::FullResults {
+            stations: &mut seats,
+            charges: &mut charges,
+            sold: &mut sold,
+            paid: &mut paid,
+            places: &mut places,
+            floors: &mut floors,
+        };
+        let lent::Cleared { cut, margin } = lent::clear_marked(rule, &self.lend(), &mut results)?;
+        let clearing = Clearing { cut, stations: seats, charges, sold, paid, margin };
+        Ok(Submission { clearing, places, floors })
+    }
+
+    /// Marks a clearing that is handed in: whether all its numbers are those of the truthful round by a rule, that of
+    /// [`clear_marked`](Market::clear_marked).
+    ///
+    /// ```
+    /// use bay_market::{Market, Refusal, Rule};
+    ///
+    /// let (amounts, tickets) = (vec![3, 2], vec![1, 2]);
+    /// let market = Market { asks: vec![2, 6], bays: vec![1, 1], amounts, tickets, bids: vec![9, 0, 10, 0] };
+    /// let mut submission = market.clear_marked(Rule::Median)?;
+    /// assert!(market.mark(Rule::Median, &submission)?);
+    /// submission.clearing.charges[0] = 21;
+    /// assert!(!market.mark(Rule::Median, &submission)?);
+    /// submission.floors.pop();
+    /// assert_eq!(market.mark(Rule::Median, &submission), Err(Refusal::LentLengths));
+    /// # Ok::<(), Refusal>(())
+    /// ```
+    pub fn mark(&self, rule: Rule, submission: &Submission) -> Result<bool, Refusal> {
+        lent::mark(rule, &self.lend(), &submission.lend())
+    }
+
     pub fn lend(&self) -> lent::Market<'_> {
         lent::Market {
             asks: &self.asks,
@@ -287,6 +349,22 @@ impl Market {
             tickets: &self.tickets,
             bids: &self.bids,
             width: self.asks.len(),
+        }
+    }
+}
+
+impl Submission {
+    pub fn lend(&self) -> lent::Submission<'_> {
+        let Submission { clearing, places, floors } = self;
+        lent::Submission {
+            stations: &clearing.stations,
+            charges: &clearing.charges,
+            sold: &clearing.sold,
+            paid: &clearing.paid,
+            places,
+            floors,
+            cut: clearing.cut,
+            margin: clearing.margin,
         }
     }
 }
@@ -478,6 +556,57 @@ mod tests {
     }
 
     #[test]
+    fn marks_table_i() {
+        // guests 1 and 3 hold both places of stations 2 and 4, where guest 4 with totals of 16 and 12 comes next
+        let full = table_i().clear_marked(Rule::Median).unwrap();
+        assert_eq!(Ok(&full.clearing), table_i().clear(Rule::Median).as_ref());
+        let places = vec![
+            0, 1, 0, 1, 0, //
+            0, 0, 0, 0, 0, //
+            0, 1, 0, 1, 0, //
+            0, 0, 0, 0, 0, //
+            0, 0, 0, 0, 0,
+        ];
+        assert_eq!((&full.places, &full.floors), (&places, &vec![0, 16, 0, 12, 0]));
+        assert_eq!(table_i().mark(Rule::Median, &full), Ok(true));
+        assert_eq!(table_i().mark(Rule::TwoThirds, &full), Ok(false));
+        let changes: [fn(&mut Submission); 10] = [
+            |full| full.clearing.stations[0] = 2,
+            |full| full.clearing.charges[1] = 1,
+            |full| full.clearing.sold[3] = 6,
+            |full| full.clearing.paid[1] |= 1 << 63,
+            |full| full.places[24] = 1,
+            |full| full.places[1] = 2,
+            |full| full.floors[0] = 9,
+            |full| full.floors[3] = 0,
+            |full| full.clearing.cut = 4,
+            |full| full.clearing.margin = 1 << 32,
+        ];
+        for change in changes {
+            let mut other = full.clone();
+            change(&mut other);
+            assert_eq!(table_i().mark(Rule::Median, &other), Ok(false), "{other:?}");
+        }
+        let lengths: [fn(&mut Submission); 6] = [
+            |full| full.clearing.stations.push(0),
+            |full| full.clearing.charges.truncate(4),
+            |full| full.clearing.sold.push(0),
+            |full| full.clearing.paid.truncate(4),
+            |full| full.places.push(0),
+            |full| full.floors.truncate(4),
+        ];
+        for change in lengths {
+            let mut other = full.clone();
+            change(&mut other);
+            assert_eq!(table_i().mark(Rule::Median, &other), Err(Refusal::LentLengths), "{other:?}");
+        }
+        let none = Market { amounts: vec![], tickets: vec![], bids: vec![], ..table_i() };
+        let full = none.clear_marked(Rule::TwoThirds).unwrap();
+        assert_eq!((full.places.len(), &full.floors), (0, &vec![0; 5]));
+        assert_eq!(none.mark(Rule::TwoThirds, &full), Ok(true));
+    }
+
+    #[test]
     fn writes_case_e() {
         assert_eq!(case_e().to_sheet(), Ok(SHEET_E.into()));
         assert_eq!(Market { asks: vec![2, 1_000_001], ..case_e() }.to_sheet(), Err(Refusal::AskOutOfRange));
@@ -528,6 +657,14 @@ mod tests {
         assert_eq!(Market { asks: vec![1; 41], ..case_e() }.explain(Rule::Median), Err(Refusal::CountsOutOfRange));
         assert_eq!(Market { bays: vec![1], ..case_e() }.explain(Rule::Median), Err(Refusal::LengthsDiffer));
         assert_eq!(Market { tickets: vec![4, 4], ..case_e() }.explain(Rule::Median), Err(Refusal::TicketsRepeat));
+        assert_eq!(Market::default().clear_marked(Rule::Median), Err(Refusal::CountsOutOfRange));
+        assert_eq!(Market { amounts: vec![1; 201], ..case_e() }.clear_marked(Rule::Median), Err(Refusal::CountsOutOfRange));
+        assert_eq!(Market { bays: vec![1], ..case_e() }.clear_marked(Rule::Median), Err(Refusal::LengthsDiffer));
+        let full = case_e().clear_marked(Rule::Median).unwrap();
+        let marked = |market: &Market| market.mark(Rule::Median, &full);
+        assert_eq!(marked(&Market::default()), Err(Refusal::CountsOutOfRange));
+        assert_eq!(marked(&Market { bays: vec![1], ..case_e() }), Err(Refusal::LengthsDiffer));
+        assert_eq!(marked(&Market { tickets: vec![4, 4], ..case_e() }), Err(Refusal::TicketsRepeat));
         let tried = |market: &Market| market.try_row(Rule::Median, 0, &[], &[]);
         assert_eq!(tried(&Market::default()), Err(Refusal::CountsOutOfRange));
         assert_eq!(tried(&Market { amounts: vec![1; 201], ..case_e() }), Err(Refusal::CountsOutOfRange));

@@ -20,15 +20,15 @@ pub enum Refusal {
     BaysOutOfRange = 7,
     /// an amount is 0 or above 1,000
     AmountOutOfRange = 8,
-    /// a bid is above 1,000,000
+    /// a bid or a worth is above 1,000,000
     BidOutOfRange = 9,
-    /// a lent table or a result list has another length
+    /// a list that is lent or handed in has another length
     LentLengths = 10,
     /// the round is not the desk's last one plus 1, or no round is left
     RoundOutOfTurn = 11,
     /// an account is above 10^15, or would be
     AccountOverLimit = 12,
-    /// the ledger is beyond the limits, or smaller than the market
+    /// the ledger is beyond the limits, too small or not of eight desks
     BookSize = 13,
     /// the output is shorter than the sheet
     OutputTooShort = 14,
@@ -97,11 +97,11 @@ impl Refusal {
             Refusal::AskOutOfRange => "an ask is above 1,000,000",
             Refusal::BaysOutOfRange => "a station has no bays or more than 200",
             Refusal::AmountOutOfRange => "an amount is 0 or above 1,000",
-            Refusal::BidOutOfRange => "a bid is above 1,000,000",
-            Refusal::LentLengths => "a lent table or a result list has another length",
+            Refusal::BidOutOfRange => "a bid or a worth is above 1,000,000",
+            Refusal::LentLengths => "a list that is lent or handed in has another length",
             Refusal::RoundOutOfTurn => "the round is not the desk's last one plus 1, or no round is left",
             Refusal::AccountOverLimit => "an account is above 10^15, or would be",
-            Refusal::BookSize => "the ledger is beyond the limits, or smaller than the market",
+            Refusal::BookSize => "the ledger is beyond the limits, too small or not of eight desks",
             Refusal::OutputTooShort => "the output is shorter than the sheet",
             Refusal::TicketsRepeat => "two guests have the same ticket",
             Refusal::CellOffGrid => "a cell is off the grid: a coordinate is above 31",

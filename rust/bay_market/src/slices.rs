@@ -73,6 +73,44 @@ pub(crate) fn clear_efficient(
     }
 }
 
+pub(crate) fn clear_marked(
+    rule: u8,
+    asks: &[u32],
+    bays: &[u16],
+    amounts: &[u16],
+    tickets: &[u32],
+    bids: &[u32],
+    width: usize,
+    stations: &mut [u16],
+    charges: &mut [u32],
+    sold: &mut [u32],
+    paid: &mut [u64],
+    places: &mut [u8],
+    floors: &mut [u32],
+    cut: &mut u32, margin: &mut u64,
+) -> u8 {
+    // SAFETY: every pointer and length is that of a live slice or number, and borrows keep
+    // the written ones apart.
+    unsafe {
+        c::bay_market_clear_marked(
+            rule,
+            asks.as_ptr(), asks.len(),
+            bays.as_ptr(), bays.len(),
+            amounts.as_ptr(), amounts.len(),
+            tickets.as_ptr(), tickets.len(),
+            bids.as_ptr(), bids.len(),
+            width,
+            stations.as_mut_ptr(), stations.len(),
+            charges.as_mut_ptr(), charges.len(),
+            sold.as_mut_ptr(), sold.len(),
+            paid.as_mut_ptr(), paid.len(),
+            places.as_mut_ptr(), places.len(),
+            floors.as_mut_ptr(), floors.len(),
+            cut, margin,
+        )
+    }
+}
+
 pub(crate) fn explain(
     rule: u8,
     asks: &[u32],
@@ -145,6 +183,46 @@ pub(crate) fn join(
             joined_amounts.as_mut_ptr(), joined_amounts.len(),
             joined_tickets.as_mut_ptr(), joined_tickets.len(),
             joined_bids.as_mut_ptr(), joined_bids.len(),
+        )
+    }
+}
+
+pub(crate) fn mark(
+    rule: u8,
+    asks: &[u32],
+    bays: &[u16],
+    amounts: &[u16],
+    tickets: &[u32],
+    bids: &[u32],
+    width: usize,
+    stations: &[u16],
+    charges: &[u32],
+    sold: &[u32],
+    paid: &[u64],
+    places: &[u8],
+    floors: &[u32],
+    cut: u32, margin: u64,
+    correct: &mut u8,
+) -> u8 {
+    // SAFETY: every pointer and length is that of a live slice or number, and borrows keep
+    // the written ones apart.
+    unsafe {
+        c::bay_market_mark(
+            rule,
+            asks.as_ptr(), asks.len(),
+            bays.as_ptr(), bays.len(),
+            amounts.as_ptr(), amounts.len(),
+            tickets.as_ptr(), tickets.len(),
+            bids.as_ptr(), bids.len(),
+            width,
+            stations.as_ptr(), stations.len(),
+            charges.as_ptr(), charges.len(),
+            sold.as_ptr(), sold.len(),
+            paid.as_ptr(), paid.len(),
+            places.as_ptr(), places.len(),
+            floors.as_ptr(), floors.len(),
+            cut, margin,
+            correct,
         )
     }
 }

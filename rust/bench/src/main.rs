@@ -3,10 +3,12 @@
 mod baseline;
 
 use baseline::Scratch;
-use bay_market::lent::{self, Cleared, Counts, Explanation, Gains, Joined, Results, Tables};
+use bay_market::lent::{self, Cleared, Counts, Explanation, FullResults, Gains, Joined, Results, Submission, Tables};
 use bay_market::{Desk, Ledger, MAX_BIDS, MAX_GUESTS, MAX_SHEET, MAX_STATIONS, Rule, StationAccount};
 use reference::clearing::{self, Outcome};
+use reference::faults::FullLengths;
 use reference::market::Market;
+use reference::marking;
 use reference::other_rows::{self, OtherRow};
 use reference::places::{self, Places};
 use reference::random::{self, Random, Shape, Spread};
@@ -242,6 +244,137 @@ fn explanations(random: &mut Random) {
                 &mut |market| run(EXPLANATIONS[1], market, with_codes),
                 &mut alone,
             ],
+        );
+        print_row(name, &medians);
+    }
+}
+
+/// Owned lists of a clearing with places and floors.
+#[derive(Clone, PartialEq, Eq)]
+struct FullLists {
+    stations: Vec<u16>,
+    charges: Vec<u32>,
+    sold: Vec<u32>,
+    paid: Vec<u64>,
+    places: Vec<u8>,
+    floors: Vec<u32>,
+}
+
+impl FullLists {
+    fn of(lists: FullLengths) -> FullLists {
+        FullLists {
+            stations: vec![77; lists.stations],
+            charges: vec![77; lists.charges],
+            sold: vec![77; lists.sold],
+            paid: vec![77; lists.paid],
+            places: vec![77; lists.places],
+            floors: vec![77; lists.floors],
+        }
+    }
+
+    fn lend(&mut self) -> FullResults<'_> {
+        let FullLists { stations, charges, sold, paid, places, floors } = self;
+        FullResults { stations, charges, sold, paid, places, floors }
+    }
+
+    fn hand_in(&self, cut: u32, margin: u64) -> Submission<'_> {
+        let FullLists { stations, charges, sold, paid, places, floors } = self;
+        Submission { stations, charges, sold, paid, places, floors, cut, margin }
+    }
+
+    /// What the reference gives, with its cut and margin.
+    fn expected(rule: Rule, market: &Market) -> (FullLists, Cleared) {
+        let full = marking::clear_fully(rule.number(), market);
+        let narrow = |list: &[u128]| list.iter().map(|&number| number as u32).collect();
+        let lists = FullLists {
+            stations: full.outcome.stations.iter().map(|&station| station as u16).collect(),
+            charges: narrow(&full.outcome.charges),
+            sold: narrow(&full.outcome.sold),
+            paid: full.outcome.paid.iter().map(|&paid| paid as u64).collect(),
+            places: full.places,
+            floors: narrow(&full.floors),
+        };
+        (lists, Cleared { cut: full.outcome.cut as u32, margin: full.outcome.margin as u64 })
+    }
+}
+
+type ClearFully = fn(&mut Scratch, Rule, &lent::Market, &mut FullResults) -> Result<Cleared, u8>;
+
+const FULL_CLEARINGS: [ClearFully; 2] = [
+    |_, rule, market, results| lent::clear_marked(rule, market, results).map_err(|refusal| refusal.number()),
+    baseline::clear_marked,
+];
+
+type Mark = fn(&mut Scratch, Rule, &lent::Market, &Submission) -> Result<bool, u8>;
+
+const MARKS: [Mark; 2] =
+    [|_, rule, market, submission| lent::mark(rule, market, submission).map_err(|refusal| refusal.number()), baseline::mark];
+
+/// Times the engine against a baseline that keeps places and floors, and against the plain clearing with `select`.
+fn full_clearings(random: &mut Random) {
+    print_head("clearing with places and floors", &["select with both", "select, clearing alone"]);
+    for (name, rule, shape) in cases() {
+        let markets: Vec<Market> = (0..MARKETS).map(|_| shape.market(random)).collect();
+        let mut working = FULL_CLEARINGS.map(|_| (Scratch::new(), FullLists::of(FullLengths::of(&markets[0]))));
+        let (mut scratch, mut lists) = (Scratch::new(), Lists::new(&markets[0]));
+        let run = |clear: ClearFully, market: &Market, (scratch, full): &mut (Box<Scratch>, FullLists)| {
+            black_box(clear(scratch, rule, &lend(market), &mut full.lend())).expect("an accepted market")
+        };
+        for market in &markets {
+            let expected = FullLists::expected(rule, market);
+            for (clear, working) in FULL_CLEARINGS.iter().zip(&mut working) {
+                let cleared = run(*clear, market, working);
+                assert!(working.1 == expected.0 && cleared == expected.1, "a contender differs from the reference");
+            }
+        }
+        let [engine, with_both] = &mut working;
+        let mut alone = |market: &Market| {
+            black_box(TRUTHFUL[1](&mut scratch, rule, &lend(market), &mut lists.lend())).expect("an accepted market");
+        };
+        let medians = medians(
+            &markets,
+            &mut [
+                &mut |market| _ = run(FULL_CLEARINGS[0], market, engine),
+                &mut |market| _ = run(FULL_CLEARINGS[1], market, with_both),
+                &mut alone,
+            ],
+        );
+        print_row(name, &medians);
+    }
+}
+
+/// Times the engine on right clearings, which are compared to the end, against a baseline that clears and compares, and
+/// against the plain clearing with `select`.
+fn marks(random: &mut Random) {
+    print_head("marking a right clearing", &["select and compare", "select, clearing alone"]);
+    for (name, rule, shape) in cases() {
+        type Input = (Market, (FullLists, Cleared));
+        let mut input = || {
+            let market = shape.market(random);
+            let handed = FullLists::expected(rule, &market);
+            (market, handed)
+        };
+        let inputs: Vec<Input> = (0..MARKETS).map(|_| input()).collect();
+        let mut working = MARKS.map(|_| Scratch::new());
+        let (mut scratch, mut lists) = (Scratch::new(), Lists::new(&inputs[0].0));
+        let run = |mark: Mark, (market, (full, Cleared { cut, margin })): &Input, scratch: &mut Scratch| {
+            black_box(mark(scratch, rule, &lend(market), &full.hand_in(*cut, *margin))).expect("an accepted market")
+        };
+        for (market, (full, cleared)) in &inputs {
+            let mut wrong = full.clone();
+            wrong.places[0] ^= 1;
+            for (mark, scratch) in MARKS.iter().zip(&mut working) {
+                let right = [full, &wrong].map(|full| run(*mark, &(market.clone(), (full.clone(), *cleared)), scratch));
+                assert!(right == [true, false], "a contender differs from the reference");
+            }
+        }
+        let [engine, plain] = &mut working;
+        let mut alone = |(market, _): &Input| {
+            black_box(TRUTHFUL[1](&mut scratch, rule, &lend(market), &mut lists.lend())).expect("an accepted market");
+        };
+        let medians = medians(
+            &inputs,
+            &mut [&mut |input| _ = run(MARKS[0], input, engine), &mut |input| _ = run(MARKS[1], input, plain), &mut alone],
         );
         print_row(name, &medians);
     }
@@ -601,6 +734,8 @@ fn main() {
     print_head("efficient clearing", &["sort"]);
     clearings(&mut Random::new(8), &EFFICIENT, clearing::clear_efficient); // the same markets
     explanations(&mut Random::new(8)); // and again
+    full_clearings(&mut Random::new(8));
+    marks(&mut Random::new(8));
     readings(&mut random);
     writings(&mut random);
     postings(&mut random);

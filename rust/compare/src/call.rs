@@ -3,8 +3,8 @@
 
 use crate::lent::Lent;
 use bay_market::c::{
-    bay_market_clear, bay_market_clear_efficient, bay_market_explain, bay_market_join, bay_market_place_bids, bay_market_post,
-    bay_market_read, bay_market_read_csv, bay_market_try, bay_market_write,
+    bay_market_clear, bay_market_clear_efficient, bay_market_clear_marked, bay_market_explain, bay_market_join, bay_market_mark,
+    bay_market_place_bids, bay_market_post, bay_market_read, bay_market_read_csv, bay_market_try, bay_market_write,
 };
 use bay_market::{
     Cell, Change, Code, Desk, MAX_BIDS, MAX_DESKS, MAX_GUESTS, MAX_SHEET, MAX_STATIONS, Reason, Refusal, Rule, StationAccount,
@@ -12,10 +12,11 @@ use bay_market::{
 };
 use reference::clearing::{self, Outcome};
 use reference::explaining::{Explanation, GuestOutcome};
-use reference::faults::{ExplanationLengths, ListLengths, OUTPUT_TOO_SHORT};
+use reference::faults::{ExplanationLengths, FullLengths, ListLengths, OUTPUT_TOO_SHORT};
 use reference::gates::joined_lengths;
 use reference::ledger::Ledger;
 use reference::market::Market;
+use reference::marking::{FullOutcome, Submission};
 use reference::other_rows::{OtherRow, Tried};
 use reference::places::Places;
 use reference::random::Random;
@@ -844,6 +845,257 @@ fn tell_row_by(way: Way, rule: Rule, market: &Market, other: &OtherRow) -> Resul
     Ok(told)
 }
 
+/// What a clearing with places and floors is lent: the number of a rule, a market, and lists of these lengths.
+#[derive(Clone, Copy)]
+pub struct FullClearing<'a> {
+    pub rule: u8,
+    pub market: &'a Market,
+    pub lists: FullLengths,
+}
+
+/// Clears a market with places and floors and holds answer and memory to what is expected.
+pub fn clear_marked(random: &mut Random, clearing: FullClearing, expected: &Result<FullOutcome, u8>) -> Result<(), String> {
+    let FullClearing { rule, market, lists } = clearing;
+    each_way(|way| match (way, Rule::from_number(rule)) {
+        (Way::C, _) | (Way::Slices, Some(_)) => clear_marked_lent(way, random, clearing, expected),
+        (_, None) => Ok(()), // the types do not let it happen
+        (Way::Owned, _) if market.width != market.stations() || lists != FullLengths::of(market) => Ok(()),
+        (Way::Owned, Some(rule)) => {
+            let expected = expected.as_ref().map(|full| own_submission(&handed_in(full))).map_err(|&number| number);
+            require(own(market).clear_marked(rule).map_err(Refusal::number) == expected, "the owned full clearing differs")
+        }
+    })
+}
+
+#[rustfmt::skip] // pointer and length on one line
+fn clear_marked_lent(
+    way: Way, random: &mut Random, clearing: FullClearing, expected: &Result<FullOutcome, u8>,
+) -> Result<(), String> {
+    let FullClearing { rule, market, lists } = clearing;
+    let mut tables = Tables::of(random, market);
+    let mut stations: Lent<u16> = Lent::noise(random, lists.stations);
+    let mut charges: Lent<u32> = Lent::noise(random, lists.charges);
+    let mut sold: Lent<u32> = Lent::noise(random, lists.sold);
+    let mut paid: Lent<u64> = Lent::noise(random, lists.paid);
+    let mut places: Lent<u8> = Lent::noise(random, lists.places);
+    let mut floors: Lent<u32> = Lent::noise(random, lists.floors);
+    let mut cut: Lent<u32> = Lent::noise(random, 1);
+    let mut margin: Lent<u64> = Lent::noise(random, 1);
+    let answer = match way {
+        // SAFETY: as in `read_lent`.
+        Way::C => unsafe {
+            bay_market_clear_marked(
+                rule,
+                tables.asks.pointer(), tables.asks.len(),
+                tables.bays.pointer(), tables.bays.len(),
+                tables.amounts.pointer(), tables.amounts.len(),
+                tables.tickets.pointer(), tables.tickets.len(),
+                tables.bids.pointer(), tables.bids.len(),
+                market.width,
+                stations.pointer(), stations.len(),
+                charges.pointer(), charges.len(),
+                sold.pointer(), sold.len(),
+                paid.pointer(), paid.len(),
+                places.pointer(), places.len(),
+                floors.pointer(), floors.len(),
+                cut.pointer(), margin.pointer(),
+            )
+        },
+        _ => {
+            let mut results = lent::FullResults {
+                stations: stations.slice(), charges: charges.slice(), sold: sold.slice(), paid: paid.slice(),
+                places: places.slice(), floors: floors.slice(),
+            };
+            numbered(lent::clear_marked(known(rule), &tables.lend(market.width), &mut results), |cleared| {
+                *cut.number() = cleared.cut;
+                *margin.number() = cleared.margin;
+            })
+        }
+    };
+    require_answer(answer, expected)?;
+    require(tables.untouched(), "the market was written")?;
+    let Ok(full) = expected else {
+        let results = stations.untouched() && charges.untouched() && sold.untouched() && paid.untouched();
+        let besides = places.untouched() && floors.untouched() && cut.untouched() && margin.untouched();
+        return require(results && besides, "a refused call wrote");
+    };
+    let expected = handed_in(full);
+    require(cut.holds([expected.cut]), "the cut differs")?;
+    require(margin.holds([expected.margin]), "the margin differs")?;
+    require(stations.holds(expected.stations), "stations differ")?;
+    require(charges.holds(expected.charges), "charges differ")?;
+    require(sold.holds(expected.sold), "kWh sold differ")?;
+    require(paid.holds(expected.paid), "payments differ")?;
+    require(places.holds(expected.places), "places differ")?;
+    require(floors.holds(expected.floors), "floors differ")
+}
+
+/// A mark: the number of a rule, a market, and what is handed in.
+#[derive(Clone, Copy)]
+pub struct Marking<'a> {
+    pub rule: u8,
+    pub market: &'a Market,
+    pub submission: &'a Submission,
+}
+
+/// Marks what is handed in and holds answer and memory to what is expected.
+pub fn mark(random: &mut Random, marking: Marking, expected: &Result<bool, u8>) -> Result<(), String> {
+    let Marking { rule, market, submission } = marking;
+    each_way(|way| match (way, Rule::from_number(rule)) {
+        (Way::C, _) | (Way::Slices, Some(_)) => mark_lent(way, random, marking, expected),
+        (_, None) => Ok(()), // the types do not let it happen
+        (Way::Owned, _) if market.width != market.stations() => Ok(()),
+        (Way::Owned, Some(rule)) => {
+            let marked = own(market).mark(rule, &own_submission(submission)).map_err(Refusal::number);
+            require(marked == *expected, "the owned mark differs")
+        }
+    })
+}
+
+#[rustfmt::skip] // pointer and length on one line
+fn mark_lent(way: Way, random: &mut Random, marking: Marking, expected: &Result<bool, u8>) -> Result<(), String> {
+    let Marking { rule, market, submission } = marking;
+    let mut tables = Tables::of(random, market);
+    let mut stations: Lent<u16> = Lent::holding(random, &submission.stations);
+    let mut charges: Lent<u32> = Lent::holding(random, &submission.charges);
+    let mut sold: Lent<u32> = Lent::holding(random, &submission.sold);
+    let mut paid: Lent<u64> = Lent::holding(random, &submission.paid);
+    let mut places: Lent<u8> = Lent::holding(random, &submission.places);
+    let mut floors: Lent<u32> = Lent::holding(random, &submission.floors);
+    let (cut, margin) = (submission.cut, submission.margin);
+    let mut correct: Lent<u8> = Lent::noise(random, 1);
+    let answer = match way {
+        // SAFETY: as in `read_lent`.
+        Way::C => unsafe {
+            bay_market_mark(
+                rule,
+                tables.asks.pointer(), tables.asks.len(),
+                tables.bays.pointer(), tables.bays.len(),
+                tables.amounts.pointer(), tables.amounts.len(),
+                tables.tickets.pointer(), tables.tickets.len(),
+                tables.bids.pointer(), tables.bids.len(),
+                market.width,
+                stations.pointer(), stations.len(),
+                charges.pointer(), charges.len(),
+                sold.pointer(), sold.len(),
+                paid.pointer(), paid.len(),
+                places.pointer(), places.len(),
+                floors.pointer(), floors.len(),
+                cut, margin,
+                correct.pointer(),
+            )
+        },
+        _ => {
+            let submission = lent::Submission {
+                stations: stations.slice(), charges: charges.slice(), sold: sold.slice(), paid: paid.slice(),
+                places: places.slice(), floors: floors.slice(), cut, margin,
+            };
+            let marked = lent::mark(known(rule), &tables.lend(market.width), &submission);
+            numbered(marked, |marked| *correct.number() = u8::from(marked))
+        }
+    };
+    require_answer(answer, expected)?;
+    require(tables.untouched(), "the market was written")?;
+    let results = stations.untouched() && charges.untouched() && sold.untouched() && paid.untouched();
+    require(results && places.untouched() && floors.untouched(), "what is handed in was written")?;
+    match expected {
+        Ok(right) => require(correct.holds([u8::from(*right)]), "the mark differs"),
+        Err(_) => require(correct.untouched(), "a refused call wrote"),
+    }
+}
+
+/// What the engine gives of an accepted market, by each way, held to something that may mark by the same way.
+pub fn hand_in(rule: Rule, market: &Market, mut hold: impl FnMut(Way, Submission) -> Result<(), String>) -> Result<(), String> {
+    each_way(|way| hold(way, hand_in_by(way, rule, market)?))
+}
+
+#[rustfmt::skip] // pointer and length on one line
+fn hand_in_by(way: Way, rule: Rule, market: &Market) -> Result<Submission, String> {
+    let (n, m) = (market.guests(), market.stations());
+    let mut given = Submission {
+        stations: vec![77; n], charges: vec![77; n], sold: vec![77; m], paid: vec![77; m],
+        places: vec![77; n * m], floors: vec![77; m], cut: 77, margin: 77,
+    };
+    let answer = match way {
+        // SAFETY: each pointer and length is that of a vector or a number.
+        Way::C => unsafe {
+            bay_market_clear_marked(
+                rule.number(),
+                market.asks.as_ptr(), market.asks.len(),
+                market.bays.as_ptr(), market.bays.len(),
+                market.amounts.as_ptr(), market.amounts.len(),
+                market.tickets.as_ptr(), market.tickets.len(),
+                market.bids.as_ptr(), market.bids.len(),
+                market.width,
+                given.stations.as_mut_ptr(), given.stations.len(),
+                given.charges.as_mut_ptr(), given.charges.len(),
+                given.sold.as_mut_ptr(), given.sold.len(),
+                given.paid.as_mut_ptr(), given.paid.len(),
+                given.places.as_mut_ptr(), given.places.len(),
+                given.floors.as_mut_ptr(), given.floors.len(),
+                &mut given.cut, &mut given.margin,
+            )
+        },
+        Way::Slices => {
+            let mut results = lent::FullResults {
+                stations: &mut given.stations, charges: &mut given.charges, sold: &mut given.sold,
+                paid: &mut given.paid, places: &mut given.places, floors: &mut given.floors,
+            };
+            numbered(lent::clear_marked(rule, &own(market).lend(), &mut results), |cleared| {
+                (given.cut, given.margin) = (cleared.cut, cleared.margin);
+            })
+        }
+        Way::Owned => numbered(own(market).clear_marked(rule), |full| {
+            let bay_market::Submission { clearing, places, floors } = full;
+            let bay_market::Clearing { cut, stations, charges, sold, paid, margin } = clearing;
+            given = Submission { stations, charges, sold, paid, places, floors, cut, margin };
+        }),
+    };
+    require_answer::<()>(answer, &Ok(()))?;
+    Ok(given)
+}
+
+/// The engine's mark of what is handed in with an accepted market and lists that fit.
+#[rustfmt::skip] // pointer and length on one line
+pub fn mark_by(
+    way: Way, rule: Rule, market: &bay_market::Market, submission: &Submission,
+) -> Result<bool, String> {
+    let lent = market.lend();
+    let Submission { stations, charges, sold, paid, places, floors, cut, margin } = submission;
+    let (cut, margin) = (*cut, *margin);
+    let mut correct = 77;
+    let answer = match way {
+        // SAFETY: each pointer and length is that of a vector, and the number is one.
+        Way::C => unsafe {
+            bay_market_mark(
+                rule.number(),
+                lent.asks.as_ptr(), lent.asks.len(),
+                lent.bays.as_ptr(), lent.bays.len(),
+                lent.amounts.as_ptr(), lent.amounts.len(),
+                lent.tickets.as_ptr(), lent.tickets.len(),
+                lent.bids.as_ptr(), lent.bids.len(),
+                lent.width,
+                stations.as_ptr(), stations.len(),
+                charges.as_ptr(), charges.len(),
+                sold.as_ptr(), sold.len(),
+                paid.as_ptr(), paid.len(),
+                places.as_ptr(), places.len(),
+                floors.as_ptr(), floors.len(),
+                cut, margin,
+                &mut correct,
+            )
+        },
+        Way::Slices => {
+            let submission = lent::Submission { stations, charges, sold, paid, places, floors, cut, margin };
+            numbered(lent::mark(rule, &lent, &submission), |marked| correct = u8::from(marked))
+        }
+        Way::Owned => numbered(market.mark(rule, &own_submission(submission)), |marked| correct = u8::from(marked)),
+    };
+    require_answer::<()>(answer, &Ok(()))?;
+    require(correct <= 1, &format!("the mark is {correct}"))?;
+    Ok(correct == 1)
+}
+
 /// A posting to a ledger as it is before, and the ledger as it is to be after.
 pub struct Posting<'a> {
     pub rule: u8,
@@ -958,6 +1210,18 @@ fn own_outcome(outcome: &Outcome) -> bay_market::Clearing {
         paid: outcome.paid.iter().map(|&paid| narrow(paid)).collect(),
         margin: narrow(outcome.margin),
     }
+}
+
+/// The reference's clearing with places and floors as it is handed in.
+pub fn handed_in(full: &FullOutcome) -> Submission {
+    let bay_market::Clearing { cut, stations, charges, sold, paid, margin } = own_outcome(&full.outcome);
+    let floors = full.floors.iter().map(|&floor| narrow(floor)).collect();
+    Submission { stations, charges, sold, paid, places: full.places.clone(), floors, cut, margin }
+}
+
+fn own_submission(submission: &Submission) -> bay_market::Submission {
+    let Submission { stations, charges, sold, paid, places, floors, cut, margin } = submission.clone();
+    bay_market::Submission { clearing: bay_market::Clearing { cut, stations, charges, sold, paid, margin }, places, floors }
 }
 
 fn own_explanation(explanation: &Explanation) -> bay_market::Explanation {

@@ -2,8 +2,9 @@
 //! `compare [SEED [PART [WAY]]]`, where a part is read, write, trip (sheets read, written, read and written again),
 //! read_csv, csv_trip (comma-separated markets read, and cleared as their tables are), place_bids, join, clear,
 //! clear_efficient, explain, facts (what is told against the clearing), try, rows (what another row does, against the
-//! clearings and codes of both markets), post, gates (a search for a place that joining gives or a charge that it lowers),
-//! truth (a search for false reports that pay), truth_efficient, print or print_csv, and the first fourteen are called by
+//! clearings and codes of both markets), clear_marked, mark, passes (what clear_marked gives, against clearing and codes,
+//! and handed in as it is and spoilt), post, gates (a search for a place that joining gives or a charge that it lowers),
+//! truth (a search for false reports that pay), truth_efficient, print or print_csv, and the first seventeen are called by
 //! all ways or by one: c, slices or owned. A failing case prints itself and ends the run with 1; wrong use ends it with 2.
 
 mod call;
@@ -13,6 +14,7 @@ mod explaining;
 mod joining;
 mod lent;
 mod markets;
+mod marking;
 mod placing;
 mod posting;
 mod printing;
@@ -54,7 +56,7 @@ struct Part {
     cases: usize,
 }
 
-const PARTS: [Part; 19] = [
+const PARTS: [Part; 22] = [
     Part { name: "read", run: reading::run, cases: 6_000 },
     Part { name: "write", run: writing::run, cases: 12_000 },
     Part { name: "trip", run: reading::run_trips, cases: 6_000 },
@@ -68,6 +70,9 @@ const PARTS: [Part; 19] = [
     Part { name: "facts", run: explaining::run_facts, cases: 10_000 },
     Part { name: "try", run: trying::run, cases: 16_000 },
     Part { name: "rows", run: trying::run_facts, cases: 20_000 },
+    Part { name: "clear_marked", run: marking::run, cases: 12_000 },
+    Part { name: "mark", run: marking::run_marks, cases: 8_000 },
+    Part { name: "passes", run: marking::run_passes, cases: 1_500 },
     Part { name: "post", run: posting::run, cases: 4_000 },
     Part { name: "gates", run: joining::run_places, cases: 30_000 },
     Part { name: "truth", run: truth::run_truthful, cases: 3_000 },

@@ -1,13 +1,16 @@
 //! Document 01's cases and limits and document 02's of tickets, quiet rounds and what decided, each market also through
-//! its sheet; document 02's of parking places, two gates and comma-separated markets.
+//! its sheet; document 02's of parking places, two gates, comma-separated markets and marks.
 
 use crate::clearing::{Outcome, clear, clear_efficient};
 use crate::csv;
 use crate::explaining::{GuestOutcome, GuestOutcome::Loss, explain};
-use crate::faults::{ExplanationLengths, ListLengths, clearing_fault, explaining_fault, market_fault};
+use crate::faults::{
+    ExplanationLengths, FullLengths, ListLengths, clearing_fault, explaining_fault, full_clearing_fault, market_fault,
+};
 use crate::gates::{join, joining_fault};
 use crate::ledger::{Ledger, MAX_ACCOUNT, StationAccount};
 use crate::market::Market;
+use crate::marking::{Submission, clear_fully, mark};
 use crate::other_rows::{OtherRow, Tried, try_row, trying_fault, with_row};
 use crate::places::{Cell, Places, place_bids, placing_fault, squared_distance, walk};
 use crate::report::Form;
@@ -618,6 +621,136 @@ fn joining_refuses_in_order() {
     assert_eq!(joining_fault(&first, &second, room(199, 1)), Err(10));
     assert_eq!(joining_fault(&first, &second, TableLengths { bids: 201, ..room(200, 1) }), Err(10));
     assert_eq!(joining_fault(&first, &second, room(200, 1)), Ok(()));
+}
+
+/// An accepted market has these places, row after row, and floors under a rule, and what says so is passed.
+fn marks(rule: u8, market: &Market, places: &[u8], floors: &[u32]) -> Submission {
+    accepted(market);
+    let full = clear_fully(rule, market);
+    assert_eq!(full.outcome, clear(rule, market));
+    let outcome = &full.outcome;
+    let narrow = |list: &[u128]| list.iter().map(|&number| number as u32).collect();
+    let submission = Submission {
+        stations: outcome.stations.iter().map(|&station| station as u16).collect(),
+        charges: narrow(&outcome.charges),
+        sold: narrow(&outcome.sold),
+        paid: outcome.paid.iter().map(|&paid| paid as u64).collect(),
+        places: places.to_vec(),
+        floors: floors.to_vec(),
+        cut: outcome.cut as u32,
+        margin: outcome.margin as u64,
+    };
+    assert_eq!((full.places, narrow(&full.floors)), (submission.places.clone(), submission.floors.clone()));
+    assert_eq!(mark(rule, market, &submission), Ok(true));
+    submission
+}
+
+#[test]
+fn places_and_floors_of_the_cases() {
+    // guests 1 and 3 hold the places of stations 2 and 4; next come guest 4's totals of 16 and 12
+    let places = [
+        0, 1, 0, 1, 0, //
+        0, 0, 0, 0, 0, //
+        0, 1, 0, 1, 0, //
+        0, 0, 0, 0, 0, //
+        0, 0, 0, 0, 0,
+    ];
+    marks(1, &samples::table_i(), &places, &[0, 16, 0, 12, 0]);
+    // under rule 2 the cut is 4 and station 3 is open too: guest 2 holds a place there, guests 1, 3 and 4 stand for the two
+    // bays of station 2, of which guest 4 gets none, and guests 1 and 3 have both bays of station 4
+    let places = [
+        0, 1, 0, 1, 0, //
+        0, 0, 1, 0, 0, //
+        0, 1, 0, 1, 0, //
+        0, 0, 0, 0, 0, //
+        0, 0, 0, 0, 0,
+    ];
+    marks(2, &samples::table_i(), &places, &[0, 16, 0, 0, 0]);
+    marks(1, &one_bay(&[5], &[1], &[9]), &[0], &[0]);
+    marks(1, &one_bay(&[2, 6], &[1], &[6, 0]), &[1, 0], &[0, 0]);
+    marks(1, &one_bay(&[2, 6], &[1], &[5, 0]), &[0, 0], &[0, 0]);
+    marks(1, &samples::case_e(), &[1, 0, 0, 0], &[24, 0]);
+    marks(1, &Market { tickets: vec![9, 4], ..samples::case_e() }, &[0, 0, 1, 0], &[24, 0]);
+    marks(1, &one_bay(&[2, 6], &[10, 2], &[7, 0, 20, 0]), &[1, 0, 0, 0], &[40, 0]);
+    marks(1, &one_bay(&[2, 6], &[3, 2], &[9, 0, 10, 0]), &[1, 0, 0, 0], &[20, 0]);
+    // no station is open, whatever the bids
+    marks(1, &one_bay(&[4, 4], &[1, 2], &[9, 9, 9, 9]), &[0; 4], &[0, 0]);
+    marks(2, &one_bay(&[2, 6], &[], &[]), &[], &[0, 0]);
+    // both places are held, and one goes to nobody
+    marks(1, &one_bay(&[1, 1, 6, 6], &[1], &[8, 8, 0, 0]), &[1, 1, 0, 0], &[0; 4]);
+    // a guest seated elsewhere sets the floor
+    let market = one_bay(&[1, 1, 2, 2], &[1, 1], &[5, 9, 0, 0, 7, 0, 0, 0]);
+    marks(1, &market, &[0, 1, 0, 0, 1, 0, 0, 0], &[5, 0, 0, 0]);
+}
+
+#[test]
+fn each_wrong_number_earns_a_no() {
+    let case_g = one_bay(&[2, 6], &[3, 2], &[9, 0, 10, 0]);
+    let right = marks(1, &case_g, &[1, 0, 0, 0], &[20, 0]);
+    let changes: [fn(&mut Submission); 13] = [
+        |handed| handed.stations.swap(0, 1),
+        |handed| handed.stations[1] = 256,
+        |handed| handed.charges[0] = 18,
+        |handed| handed.charges[1] = 20,
+        |handed| handed.sold[0] = 5,
+        |handed| handed.paid[0] = 20,
+        |handed| handed.paid[1] = 1 << 32,
+        |handed| handed.places[0] = 0,
+        |handed| handed.places[0] = 2,
+        |handed| handed.places[3] = 255,
+        |handed| handed.floors[0] = 27,
+        |handed| handed.cut = 2,
+        |handed| handed.margin = 0,
+    ];
+    for change in changes {
+        let mut handed = right.clone();
+        change(&mut handed);
+        assert_eq!(mark(1, &case_g, &handed), Ok(false), "{handed:?}");
+    }
+    // the floor of a station that is not open is 0, though its candidate would have one
+    let closed = one_bay(&[2, 6], &[3, 2], &[9, 9, 10, 10]);
+    assert_eq!(mark(1, &closed, &right), Ok(true));
+    assert_eq!(mark(1, &closed, &Submission { floors: vec![20, 20], ..right.clone() }), Ok(false));
+    // the same market under the other rule has another cut, so another clearing
+    let three = one_bay(&[2, 4, 6], &[1], &[9, 0, 0]);
+    let handed = marks(1, &three, &[1, 0, 0], &[0; 3]);
+    assert_eq!(mark(2, &three, &handed), Ok(false));
+}
+
+#[test]
+fn marking_refuses_in_the_tables_order() {
+    // every fault at once, mended one after the other
+    let mut market = Market { width: 1, ..Market::new(&[1_000_001; 41], &[0; 40], &[0; 2], &[7; 3], &[1_000_001; 80]) };
+    let right = FullLengths { stations: 2, charges: 2, sold: 40, paid: 40, places: 80, floors: 40 };
+    let wrong = FullLengths { floors: 39, ..right };
+    for rule in [0, 3, 255] {
+        assert_eq!(full_clearing_fault(rule, &market, wrong), Err(18));
+    }
+    assert_eq!(full_clearing_fault(1, &market, wrong), Err(2));
+    market.asks.pop();
+    assert_eq!(full_clearing_fault(2, &market, wrong), Err(5));
+    market.width = 40;
+    assert_eq!(full_clearing_fault(1, &market, wrong), Err(5));
+    market.tickets.pop();
+    for length in [0, 1, 3, 39, 41, 79, 81] {
+        assert_eq!(full_clearing_fault(1, &market, FullLengths { stations: length, ..right }), Err(10));
+        assert_eq!(full_clearing_fault(1, &market, FullLengths { charges: length, ..right }), Err(10));
+        assert_eq!(full_clearing_fault(1, &market, FullLengths { sold: length, ..right }), Err(10));
+        assert_eq!(full_clearing_fault(1, &market, FullLengths { paid: length, ..right }), Err(10));
+        assert_eq!(full_clearing_fault(1, &market, FullLengths { places: length, ..right }), Err(10));
+        assert_eq!(full_clearing_fault(1, &market, FullLengths { floors: length, ..right }), Err(10));
+    }
+    assert_eq!(full_clearing_fault(1, &market, right), Err(6));
+    market.asks = vec![1; 40];
+    assert_eq!(full_clearing_fault(1, &market, right), Err(7));
+    market.bays = vec![1; 40];
+    assert_eq!(full_clearing_fault(1, &market, right), Err(8));
+    market.amounts = vec![1; 2];
+    assert_eq!(full_clearing_fault(1, &market, right), Err(9));
+    market.bids = vec![1; 80];
+    assert_eq!(full_clearing_fault(1, &market, right), Err(15));
+    market.tickets = vec![7, 6];
+    assert_eq!(full_clearing_fault(1, &market, right), Ok(()));
 }
 
 /// Another row at two stations, the worths first.

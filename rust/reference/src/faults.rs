@@ -1,5 +1,5 @@
-//! Document 01, 'Refusals by place', with document 02's: the rows of clearing and of explaining. Those of reading,
-//! writing, placing, joining, trying and posting stand with these.
+//! Document 01, 'Refusals by place', with document 02's: the rows of clearing, of clearing with places and floors and of
+//! explaining. Those of reading, writing, placing, joining, trying and posting stand with these.
 
 use crate::market::Market;
 
@@ -54,6 +54,25 @@ impl ListLengths {
     }
 }
 
+/// How long the lists are that a clearing with places and floors is lent, or that are handed in to be marked.
+#[derive(Clone, Copy, Debug, PartialEq, Eq)]
+pub struct FullLengths {
+    pub stations: usize,
+    pub charges: usize,
+    pub sold: usize,
+    pub paid: usize,
+    pub places: usize,
+    pub floors: usize,
+}
+
+impl FullLengths {
+    /// The lengths that a market's lists have.
+    pub fn of(market: &Market) -> FullLengths {
+        let (n, m) = (market.guests(), market.stations());
+        FullLengths { stations: n, charges: n, sold: m, paid: m, places: n * m, floors: m }
+    }
+}
+
 /// How long the lists are that an explanation is lent.
 #[derive(Clone, Copy, Debug, PartialEq, Eq)]
 pub struct ExplanationLengths {
@@ -80,12 +99,17 @@ pub fn clearing_fault(rule: u8, market: &Market, lists: ListLengths) -> Result<(
     call_fault(rule, market, lists == ListLengths::of(market))
 }
 
+/// The first fault of a clearing with places and floors, or of a mark, under the rule of a number, by its own number.
+pub fn full_clearing_fault(rule: u8, market: &Market, lists: FullLengths) -> Result<(), u8> {
+    call_fault(rule, market, lists == FullLengths::of(market))
+}
+
 /// The first fault of an explanation under the rule of a number, by its own number.
 pub fn explaining_fault(rule: u8, market: &Market, lists: ExplanationLengths) -> Result<(), u8> {
     call_fault(rule, market, lists == ExplanationLengths::of(market))
 }
 
-/// The first fault of a call that is lent a market and lists for its results, which fit the market or not.
+/// The first fault of a call that is given a market and lists, which fit the market or not.
 fn call_fault(rule: u8, market: &Market, lists_fit: bool) -> Result<(), u8> {
     if ![1, 2].contains(&rule) {
         return Err(UNKNOWN_RULE);

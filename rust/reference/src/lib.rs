@@ -8,6 +8,7 @@ pub mod faults;
 pub mod gates;
 pub mod ledger;
 pub mod market;
+pub mod marking;
 pub mod other_rows;
 pub mod places;
 pub mod random;

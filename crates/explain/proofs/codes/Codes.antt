@@ -1,63 +1,34 @@
 -- Laws of the code of a bid, and of the loops that write codes.
 use Prim.Native.Nat.{ℕ, _+_, _*_, _≤_, _<_, max}
 use mathlib.Core.Bool.{Bool, true, false, not, cond}
-use mathlib.Core.List.{List, [], _∷_, _++_, append-nil}
+use mathlib.Core.List.{List, [], _∷_}
 use mathlib.Core.Logic.{⊎-elim}
-use mathlib.Core.Path.{_≡_, refl, sym, ap, ap₂, _∙_}
+use mathlib.Core.Path.{_≡_, refl, ap, ap₂, _∙_}
 use native.Mathlib.Nat.{mul-le-mul-right}
 use native.Mathlib.Numerals.{add-one}
 use native.Mathlib.Omega.{arith}
-use lib.ListN.{getD, length, set, drop, length-append, length-drop}
-use lib.Seq.{paste, paste-zero, paste-suc, length-paste, drop-length}
+use lib.ListN.{getD, length, set}
+use lib.Seq.{paste}
 use Rattle.model.specs.Limits.{maxGuests, maxStations}
-use Rattle.model.specs.Counting.{_<?_, _≤?_, _=?_, _and_, _or_, only, greatest, list, joined}
+use Rattle.model.specs.Counting.{_<?_, _≤?_, _=?_, _and_, _or_, only, greatest, list}
 use Rattle.model.specs.Verdicts.{_gives_, firstFault, numberOf}
 use Rattle.model.specs.market.Market.{Tables, bidAt, marketBy, market, cut, opens, screen, queue, provisional}
 use Rattle.model.specs.market.Reasons.{conditions, code}
 use Rattle.model.specs.claims.Meaning.{WithinLimits}
 use Rattle.model.specs.declared.rule.Rule.{Rule}
-use Rattle.model.proofs.Tests.{both, and-no, or-left, or-right, neither, is-lt, not-lt, is-le, is-eq, not-eq, lt-or-le}
-use Rattle.model.proofs.Tests.{eq-or-ne, only-yes, only-no, only-le}
-use Rattle.model.proofs.Counting.{greatest-cong, length-list, getD-list, list-cong}
+use Rattle.model.proofs.Tests.{both, is-lt, not-lt, is-le, lt-or-le}
+use Rattle.model.proofs.Counting.{greatest-cong}
 use Rattle.model.proofs.Loops.{long, Filling, filling-none, filling-turn, filling-end}
+use Rattle.model.proofs.Tables.{RowWritten, row-none, row-turn, row-end, RowsWritten, rows-none, rows-turn, rows-end}
 use Rattle.model.proofs.market.Acceptance.{product-fits}
 use Rattle.model.specs.contracts.Rows.{rowOf}
 use Rattle.model.proofs.contracts.Rows.{row-long, row-shows}
-use Rattle.model.proofs.sheet.Joined.{joined-length, paste-next}
-use Rattle.allocation.specs.Offers.{wonBy}
 use Rattle.allocation.specs.Screens.{screenedAt}
 use Rattle.allocation.specs.Stages.{Bars}
 use Rattle.allocation.proofs.assignment.Assignment.{critical-at, critical-low}
 use Rattle.explain.specs.Codes.{codeBy, codeAt, rowCode, RowReady, CodesAtCut}
 
 -- ---- the code of a bid
-
--- one mill more for whoever is below the bound: above the critical total, or at it and below the bound
-and-false : (a : Bool) → (a and false) ≡ false
-unfolding _and_
-and-false true = refl
-and-false false = refl
-
-above-credited : (x t k e : ℕ) → (t <? x + only (k <? e) 1) ≡ wonBy x t k e
-unfolding wonBy
-above-credited x t k e = ⊎-elim
-    (λ (p : t < x). is-lt _ _ (omega arith) ∙ sym (or-left _ _ (is-lt t x p)))
-    (λ (p : x ≤ t). ⊎-elim
-    (λ (q : x ≡ t). ⊎-elim
-    (λ (l : k < e). is-lt _ _ (omega (arith, only-yes _ 1 (is-lt k e l)))
-    ∙ sym (or-right _ _ (both (is-eq x t q) (is-lt k e l))))
-    (λ (l : e ≤ k). not-lt _ _ (omega (arith, only-no _ 1 (not-lt k e l)))
-    ∙ sym (neither (not-lt t x p) (ap (λ b. x =? t and b) (not-lt k e l) ∙ and-false (x =? t))))
-    (lt-or-le k e))
-    (λ (q : x ≡ t → ⊥). not-lt _ _ (omega (arith, only-le (k <? e) 1 1 (λ _. omega arith)))
-    ∙ sym (neither (not-lt t x p) (and-no _ _ (not-eq x t q))))
-    (eq-or-ne x t))
-    (lt-or-le t x)
-
-pub held-is :
-    (x t k e : ℕ) {credited : ℕ} {held : Bool} → credited ≡ x + only (k <? e) 1 → held ≡ (t <? credited)
-    → held ≡ wonBy x t k e
-held-is x t k e c h = h ∙ ap (λ y. t <? y) c ∙ above-credited x t k e
 
 -- the choices, from the last test to the first
 pub code-chosen :
@@ -148,44 +119,29 @@ module _ (t : Tables) (c : ℕ) {criticals bounds row : List ℕ} (w : WithinLim
         codes-room = omega arith;
       }
 
--- ---- the loop over a row: its first j codes stand over the places from base on, and top is the highest of them
+-- ---- the loop over a row: its first j codes are written, and top is the highest of them
 
 pub record RowSoFar (m : ℕ) (f : ℕ → ℕ) (codes₀ codes : List ℕ) (base top j : ℕ) : Type 0 where
-  pub within : j ≤ m
-  pub room : base + m ≤ length codes₀
-  pub is : codes ≡ paste codes₀ base (list m f) j
+  pub written : RowWritten m f codes₀ codes base j
   pub highest : top ≡ greatest j f
 
-pub row-none :
+pub row-so-far-none :
     {m : ℕ} {f : ℕ → ℕ} {codes : List ℕ} {base : ℕ} → base + m ≤ length codes → RowSoFar m f codes codes base 0 0
 unfolding greatest
-row-none {m} {f} {codes} {base} room =
-    record { within = omega arith; room = room; is = paste-zero codes base (list m f); highest = refl }
+row-so-far-none room = record { written = row-none room; highest = refl }
 
 module _ {m : ℕ} {f : ℕ → ℕ} {codes₀ codes : List ℕ} {base top j : ℕ} (s : RowSoFar m f codes₀ codes base top j) where
-  pub row-same : length codes ≡ length codes₀
-  row-same =
-      ap length (s .is)
-      ∙ length-paste codes₀ base (list m f) j (omega (arith, s .within, s .room))
-      (omega (arith, s .within, length-list m f))
-
-  pub row-turn :
+  pub row-so-far-turn :
       {v top′ : ℕ} → j < m → v ≡ f j → top′ ≡ max top v
       → RowSoFar m f codes₀ (set codes (base + j) v) base top′ (j + 1)
   unfolding greatest
-  row-turn {v} l e h = record {
-    within = omega arith;
-    room = s .room;
-    is = rw (s .is, e ∙ sym (getD-list m f j l), add-one)
-        (paste-suc codes₀ base (list m f) j 0 (omega (arith, s .room)) (omega (arith, length-list m f)));
-    highest = rw (add-one, ← s .highest, ← e) h;
-  }
+  row-so-far-turn l e h =
+      record { written = row-turn (s .written) l e; highest = rw (add-one, ← s .highest, ← e) h }
 
-  pub row-end :
-      m ≤ j → (codes ≡ paste codes₀ base (list m f) m) × (top ≡ greatest m f)
-  row-end l =
-      let whole : j ≡ m = omega (arith, s .within) in
-      (s .is ∙ ap (paste codes₀ base (list m f)) whole, s .highest ∙ ap (λ k. greatest k f) whole)
+  pub row-so-far-end : m ≤ j → (codes ≡ paste codes₀ base (list m f) m) × (top ≡ greatest m f)
+  row-so-far-end l =
+      let whole : j ≡ m = omega (arith, s .written .within) in
+      (row-end (s .written) l, s .highest ∙ ap (λ k. greatest k f) whole)
 
 -- ---- the loop over the rows
 
@@ -193,67 +149,36 @@ module _ {m : ℕ} {f : ℕ → ℕ} {codes₀ codes : List ℕ} {base top j : �
 abbrev lossAt : (t : Tables) (c : ℕ) (stations : List ℕ) → ℕ → ℕ
 lossAt t c stations i = only (getD stations i 0 =? 0) (greatest (length (t .asks)) (codeAt t c i))
 
--- the rows of the first i guests, then what was there; and their reasons
+-- the rows of the first i guests are written, and their reasons
 pub record RowsSoFar (t : Tables) (c : ℕ) (stations codes₀ reasons₀ codes reasons : List ℕ) (i : ℕ) : Type 0 where
-  pub within : i ≤ length (t .amounts)
-  pub long : length codes₀ ≡ length (t .amounts) * length (t .asks)
-  pub is :
-      codes ≡ joined i (λ k. list (length (t .asks)) (codeAt t c k)) ++ drop (i * length (t .asks)) codes₀
+  pub written : RowsWritten (length (t .amounts)) (length (t .asks)) (codeAt t c) codes₀ codes i
   pub reasons-are : Filling (length (t .amounts)) (lossAt t c stations) reasons₀ reasons i
 
-pub rows-none :
+pub rows-so-far-none :
     {t : Tables} {c : ℕ} {stations codes reasons : List ℕ} → length codes ≡ length (t .amounts) * length (t .asks)
     → length reasons ≡ length (t .amounts) → RowsSoFar t c stations codes reasons codes reasons 0
-unfolding joined
-rows-none {t} long l =
-    let none : 0 * length (t .asks) ≡ 0 = omega arith in
-    record { within = omega arith; long = long; is = rw none refl; reasons-are = filling-none l }
+rows-so-far-none long l = record { written = rows-none long; reasons-are = filling-none l }
 
 module _ {t : Tables} {c : ℕ} {stations codes₀ reasons₀ codes reasons : List ℕ} {i : ℕ}
     (s : RowsSoFar t c stations codes₀ reasons₀ codes reasons i) where
   abbrev m : ℕ
   m = length (t .asks)
 
-  abbrev rows : ℕ → List ℕ
-  rows k = list m (codeAt t c k)
-
-  before-long : length (joined i rows) ≡ i * m
-  before-long = joined-length i m (codeAt t c)
-
-  pub rows-same : length codes ≡ length codes₀
-  rows-same =
-      ap length (s .is)
-      ∙ simp (length-append, length-drop) (omega (arith, before-long, s .long, mul-le-mul-right m (s .within)))
-
   pub rows-fit : length (t .amounts) ≤ maxGuests → m ≤ maxStations → i * m ≤ maxGuests * maxStations
-  rows-fit a b = product-fits i m (omega (arith, s .within)) b
+  rows-fit a b = product-fits i m (omega (arith, s .written .within)) b
 
-  pub rows-turn :
+  pub rows-so-far-turn :
       {f : ℕ → ℕ} {codes′ : List ℕ} {top v : ℕ} → i < length (t .amounts)
       → ((j : ℕ) → j < m → f j ≡ codeAt t c i j)
       → (codes′ ≡ paste codes (i * m) (list m f) m) × (top ≡ greatest m f)
       → v ≡ only (getD stations i 0 =? 0) top
       → RowsSoFar t c stations codes₀ reasons₀ codes′ (set reasons i v) (i + 1)
-  unfolding joined
-  rows-turn {f} l h (e, q) p =
-      let next : (i + 1) * m ≡ i * m + m = omega arith in
-      let row : list m f ≡ rows i = list-cong m f (codeAt t c i) h in
-      record {
-        within = omega arith;
-        long = s .long;
-        is = rw (next, add-one) (e ∙ ap₂ (λ l r. paste l (i * m) r m) (s .is) row
-            ∙ paste-next (joined i rows) codes₀ (rows i) (i * m) m before-long (length-list m (codeAt t c i)));
-        reasons-are = filling-turn (s .reasons-are) l
-            (p ∙ ap (only (getD stations i 0 =? 0)) (q ∙ greatest-cong m f (codeAt t c i) h));
-      }
+  rows-so-far-turn {f} l h (e, q) p = record {
+    written = rows-turn (s .written) l h e;
+    reasons-are = filling-turn (s .reasons-are) l
+        (p ∙ ap (only (getD stations i 0 =? 0)) (q ∙ greatest-cong m f (codeAt t c i) h));
+  }
 
-  pub rows-end : length (t .amounts) ≤ i → CodesAtCut t c stations codes reasons
-  rows-end l =
-      let all : i ≡ length (t .amounts) = omega (arith, s .within) in
-      let whole : i * m ≡ length codes₀ = rw all (sym (s .long)) in
-      record {
-        codes-are = s .is ∙ ap (λ k. joined i rows ++ drop k codes₀) whole
-            ∙ ap (λ l. joined i rows ++ l) (drop-length codes₀) ∙ append-nil (joined i rows)
-            ∙ ap (λ k. joined k rows) all;
-        reasons-are = filling-end (s .reasons-are) l;
-      }
+  pub rows-so-far-end : length (t .amounts) ≤ i → CodesAtCut t c stations codes reasons
+  rows-so-far-end l =
+      record { codes-are = rows-end (s .written) l; reasons-are = filling-end (s .reasons-are) l }

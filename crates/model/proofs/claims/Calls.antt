@@ -156,11 +156,11 @@ efficient-call-limits rule t k =
 
 -- result lists as long as they have to be
 module _ (t : Tables) where
-  room : Results
+  pub room : Results
   room = results (replicate (length (t .amounts)) 0) (replicate (length (t .amounts)) 0)
       (replicate (length (t .asks)) 0) (replicate (length (t .asks)) 0)
 
-  room-fits : RightLengths t room
+  pub room-fits : RightLengths t room
   unfolding room
   room-fits = record {
     stations-long = length-replicate {A = ℕ} (length (t .amounts)) 0;

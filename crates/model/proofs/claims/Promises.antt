@@ -10,12 +10,13 @@ use Rattle.model.specs.claims.Promises.{RefusedLeaves, PromiseDetermines
 use Rattle.model.specs.claims.Promises.{RefusedExportLeaves, ExportCanKeep, numberedFromOne, ZeroIsAccepted}
 use Rattle.model.specs.claims.Promises.{FaultsNumberedFromOne}
 use Rattle.model.specs.contracts.EntryPoints.{clearing, reading, readingCsv, writing, placing, explaining}
-use Rattle.model.specs.contracts.EntryPoints.{joining, trying, entering}
+use Rattle.model.specs.contracts.EntryPoints.{clearingFully, marking, joining, trying, entering}
 use Rattle.model.specs.market.Faults.{unknownRule, counts, lengths, listLengths, values, marketFaults}
 use Rattle.model.specs.market.Faults.{tableFaults, clearingFaults, explainedLengths, explainedFaults}
 use Rattle.model.specs.market.Faults.{explainingFaults}
 use Rattle.model.specs.market.Gates.{joinedLengths, pairFaults, joiningFaults}
 use Rattle.model.specs.market.Changes.{tryFaults, tryingFaults}
+use Rattle.model.specs.market.Marking.{fullLengths, fullTableFaults, markingFaults}
 use Rattle.model.specs.sheet.Content.{sheetFaults}
 use Rattle.model.specs.sheet.Lent.{tableLengths, readingFaults}
 use Rattle.model.specs.sheet.Rows.{bidFaults, bidsFaults, rowFaults, rowsFaults}
@@ -96,13 +97,15 @@ places-numbered m past [] = refl
 places-numbered m past (b ∷ rest) = places-numbered m (b ∷ past) rest
 
 pub faults-numbered-from-one : FaultsNumberedFromOne
-unfolding numberedFromOne _≤?_ _and_ clearing reading readingCsv writing placing explaining joining trying entering
-    clearingFaults tableFaults unknownRule counts lengths listLengths values marketFaults readingFaults tableLengths
-    sheetFaults readingCsvFaults csvFaults writingFaults placingFaults placeLengths placeValues explainingFaults
-    explainedFaults explainedLengths joiningFaults pairFaults joinedLengths tryingFaults tryFaults postingFaults
-    bookSize noDesk outOfTurn
+unfolding numberedFromOne _≤?_ _and_ clearing clearingFully marking reading readingCsv writing placing explaining
+    joining trying entering markingFaults fullTableFaults fullLengths clearingFaults tableFaults unknownRule counts
+    lengths listLengths values marketFaults readingFaults tableLengths sheetFaults readingCsvFaults csvFaults
+    writingFaults placingFaults placeLengths placeValues explainingFaults explainedFaults explainedLengths
+    joiningFaults pairFaults joinedLengths tryingFaults tryFaults postingFaults bookSize noDesk outOfTurn
 faults-numbered-from-one = record {
   of-clearing = λ made rule t entry. refl;
+  of-clearing-fully = λ rule t entry. refl;
+  of-marking = λ rule t s. refl;
   of-reading = λ s entry. numbered-both (rowsFaults s _ _) _ (rows-numbered s _ _) refl;
   of-reading-csv = λ text entry. places-numbered _ [] text;
   of-writing = λ t entry. refl;

@@ -7,8 +7,9 @@ use Rattle.model.specs.Counting.{_≤?_, _and_}
 use Rattle.model.specs.Promises.{Promise, Keeps, KeepsOut}
 use Rattle.model.specs.Verdicts.{Answer, accepted, refused, Row, _gives_, firstFault}
 use Rattle.model.specs.contracts.EntryPoints.{clearing, reading, readingCsv, writing, placing, explaining}
-use Rattle.model.specs.contracts.EntryPoints.{joining, trying, entering}
+use Rattle.model.specs.contracts.EntryPoints.{clearingFully, marking, joining, trying, entering}
 use Rattle.model.specs.market.Market.{Tables}
+use Rattle.model.specs.market.Marking.{FullResults, Submission}
 use Rattle.model.specs.market.Outcome.{Results, Outcome}
 use Rattle.model.specs.market.Reasons.{Explanation}
 use Rattle.model.specs.sheet.Lent.{LentTables}
@@ -71,6 +72,10 @@ pub record FaultsNumberedFromOne : Type 0 where
   pub of-clearing :
       (made : Rule → Tables → Outcome) (rule : ℕ) (t : Tables) (entry : Results)
       → numberedFromOne (clearing made rule t entry .faults) ≡ true
+  pub of-clearing-fully :
+      (rule : ℕ) (t : Tables) (entry : FullResults) → numberedFromOne (clearingFully rule t entry .faults) ≡ true
+  pub of-marking :
+      (rule : ℕ) (t : Tables) (s : Submission) → numberedFromOne (marking rule t s tt .faults) ≡ true
   pub of-reading : (sheet : List ℕ) (entry : LentTables) → numberedFromOne (reading sheet entry .faults) ≡ true
   pub of-reading-csv : (text : List ℕ) (entry : LentTables) → numberedFromOne (readingCsv text entry .faults) ≡ true
   pub of-writing : (t : Tables) (entry : List ℕ) → numberedFromOne (writing t entry .faults) ≡ true

@@ -5,12 +5,14 @@ use mathlib.Core.List.{List}
 use lib.IntN.{ℤ}
 use lib.ListN.{length}
 use Rattle.model.specs.Numbers.{answerOfReading, answerOfWriting, answerOfClearing, answerOfVerdict}
-use Rattle.model.specs.Numbers.{answerOfTrying}
+use Rattle.model.specs.Numbers.{answerOfTrying, answerOfMarking}
+use Rattle.model.specs.Counting.{only}
 use Rattle.model.specs.Promises.{Promise, Keeps}
 use Rattle.model.specs.Verdicts.{Verdict}
 use Rattle.model.specs.market.Market.{Tables}
 use Rattle.model.specs.market.Faults.{tableFaults, clearingFaults, explainingFaults}
-use Rattle.model.specs.market.Outcome.{Results, Outcome}
+use Rattle.model.specs.market.Marking.{FullResults, fullResultsOf, Submission, correct, markingFaults}
+use Rattle.model.specs.market.Outcome.{Results, Outcome, outcome}
 use Rattle.model.specs.market.Reasons.{codes, outcomeLengths, guestOutcomes, Explanation, explanation}
 use Rattle.model.specs.market.Rules.{ruleOf}
 use Rattle.model.specs.market.Gates.{joiningFaults, joinedTables}
@@ -29,6 +31,7 @@ use Rattle.model.specs.declared.answers.Reading.{Reading}
 use Rattle.model.specs.declared.answers.Writing.{Writing}
 use Rattle.model.specs.declared.answers.Clearing.{Clearing}
 use Rattle.model.specs.declared.answers.Trying.{Trying}
+use Rattle.model.specs.declared.answers.Marking.{Marking}
 use Rattle.model.specs.declared.answers.Verdict.{Verdict as Coded}
 use Rattle.model.specs.declared.rule.Rule.{Rule}
 
@@ -54,6 +57,28 @@ clearingUnder made t entry =
 abbrev pub ClearsUnder :
     (made : Tables → Outcome) (t : Tables) (entry : Results) (answer : Clearing) (exit : Results) → Type 0
 ClearsUnder made t entry answer exit = Keeps (clearingUnder made t) entry (answerOfClearing answer) exit
+
+-- ---- `clear_marked`, a truthful clearing with its places and floors: the cut and the margin
+
+unfoldable pub clearingFully : (rule : ℕ) (t : Tables) (entry : FullResults) → Promise (ℕ × ℕ) FullResults
+clearingFully rule t entry = record {
+  faults = markingFaults rule t entry;
+  value = ((outcome (ruleOf rule) t) .cut, (outcome (ruleOf rule) t) .margin);
+  leaves = fullResultsOf (ruleOf rule) t;
+}
+
+abbrev pub ClearsFully :
+    (rule : ℕ) (t : Tables) (entry : FullResults) (answer : Clearing) (exit : FullResults) → Type 0
+ClearsFully rule t entry answer exit = Keeps (clearingFully rule t) entry (answerOfClearing answer) exit
+
+-- ---- `mark`, of what is handed in: 1 where it is correct, else 0. Nothing is lent to be written
+
+unfoldable pub marking : (rule : ℕ) (t : Tables) (s : Submission) (entry : Unit {0}) → Promise ℕ Unit
+marking rule t s entry =
+    record { faults = markingFaults rule t (s .lists); value = only (correct (ruleOf rule) t s) 1; leaves = tt }
+
+abbrev pub Marks : (rule : ℕ) (t : Tables) (s : Submission) (answer : Marking) → Type 0
+Marks rule t s answer = Keeps (marking rule t s) tt (answerOfMarking answer) tt
 
 -- ---- `read`: n and m
 

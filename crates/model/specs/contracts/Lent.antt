@@ -10,6 +10,7 @@ use Rattle.model.specs.book.Book.{Book, book}
 use Rattle.model.specs.market.Reasons.{OutcomeTable, outcomeTable, Explanation, explanation}
 use Rattle.model.specs.sheet.Lent.{LentTables, lentTables}
 use Rattle.model.specs.places.Bids.{Places, places}
+use Rattle.model.specs.market.Marking.{FullResults, fullResults, Submission, submission}
 use Rattle.model.specs.declared.account.StationAccount.{StationAccount}
 
 -- a lent value, as an `ensures` names it
@@ -82,3 +83,20 @@ explanationIn codes stations charges reasons = explanation (now (codes .entry)) 
 
 abbrev pub explanationOut : (codes stations charges reasons : Lent (List ℕ)) → Explanation
 explanationOut codes stations charges reasons = explanation (now (codes .exit)) (outcomesOut stations charges reasons)
+
+-- the lists of a clearing with its places and floors (`..Lent` in a `requires`), and what is handed in
+abbrev pub fullResultsLent : (stations charges sold paid places floors : RefT (List ℕ)) → FullResults
+fullResultsLent stations charges sold paid places floors =
+    fullResults (resultsOf stations charges sold paid) (now places) (now floors)
+
+abbrev pub fullResultsIn : (stations charges sold paid places floors : Lent (List ℕ)) → FullResults
+fullResultsIn stations charges sold paid places floors =
+    fullResultsLent (stations .entry) (charges .entry) (sold .entry) (paid .entry) (places .entry) (floors .entry)
+
+abbrev pub fullResultsOut : (stations charges sold paid places floors : Lent (List ℕ)) → FullResults
+fullResultsOut stations charges sold paid places floors =
+    fullResultsLent (stations .exit) (charges .exit) (sold .exit) (paid .exit) (places .exit) (floors .exit)
+
+abbrev pub submissionIn : (stations charges sold paid places floors : Lent (List ℕ)) (cut margin : ℕ) → Submission
+submissionIn stations charges sold paid places floors cut margin =
+    submission (fullResultsIn stations charges sold paid places floors) cut margin

@@ -11,7 +11,7 @@ use Rattle.explain.proofs.codes.code.Tie as tie
 holds-requires : tie.Need-holds-requires
 holds-requires c κs =
     let limits = c .before .pre in
-    (omega (arith, c .times .ensures, product _ _ (limits .0) (limits .1)), limits .2)
+    (omega (arith, c .times .ensures, product _ _ (limits .0) (limits .1)), omega (arith, limits .2))
 
 -- whether the bid wins, by its total
 won : (c : tie.After-holds) →

@@ -5,7 +5,8 @@ use lib.ListN.{length}
 use borrow.Author.Needs.{needs}
 use Rattle.model.specs.Limits.{maxStations}
 use Rattle.explain.specs.Codes.{rowCode}
-use Rattle.explain.proofs.codes.Codes.{RowSoFar, row-none, row-same, row-turn, row-end}
+use Rattle.model.proofs.Tables.{row-same, row-place}
+use Rattle.explain.proofs.codes.Codes.{RowSoFar, row-so-far-none, row-so-far-turn, row-so-far-end}
 use Rattle.explain.proofs.codes.explain_row.Statement.{statement}
 use Rattle.explain.proofs.codes.explain_row.Tie as tie
 
@@ -28,15 +29,13 @@ test-after-code p = test-before-code (p .before)
 -- the code's place is within its table, and the station's number within the limits
 in-codes : (c : tie.In-loop Inv-loop μ-loop) →
     entry-before-test c .args .base + c .before .loop .j < length (c .before .loop .codes)
-in-codes c =
-    let so-far = c .before .loop .inv in
-    omega (arith, row-same so-far, c .loop-test .taken, so-far .room)
+in-codes c = row-place (c .before .loop .inv .written) (c .loop-test .taken)
 
 numbered : (c : tie.In-loop Inv-loop μ-loop) → c .before .loop .j + 1 < maxStations + 1
 numbered c = omega (arith, c .loop-test .taken, entry-before-test c .pre .few)
 
 loop-holds : tie.Need-loop-holds Inv-loop μ-loop
-loop-holds c = let entry = c .before .before .before .before in row-none (entry .before .pre .codes-room)
+loop-holds c = let entry = c .before .before .before .before in row-so-far-none (entry .before .pre .codes-room)
 
 read-bid : tie.Need-shared-slice-read-t16 Inv-loop μ-loop
 read-bid c =
@@ -86,7 +85,7 @@ loop-again c =
     let at-code = c .before in
     let at-test = test-after-code at-code in
     let at-wide = at-code .before .before in
-    row-turn (at-test .before .loop .inv) (at-test .loop-test .taken)
+    row-so-far-turn (at-test .before .loop .inv) (at-test .loop-test .taken)
     (rw (← at-wide .wide .ensures) (at-code .code .ensures)) (c .higher .ensures)
 
 pub explain-row-spec : {M : Type 1} → statement M
@@ -94,5 +93,5 @@ explain-row-spec =
     tie.close (tie.spec Inv-loop μ-loop loop-holds (λ c. search needs) read-bid (λ c. search needs)
     (λ c. search needs) add-wide mul-wide shared-slice-read-wide (λ c κs. search needs) add-code mul-code
     shared-slice-read-code code-requires add-codes slice-write-codes (λ c κs. search needs) (λ c. search needs)
-    (λ c. search needs) loop-again (λ c. row-same (c .before .loop .inv))
-    (λ c. row-end (c .before .loop .inv) (c .loop-test .left)))
+    (λ c. search needs) loop-again (λ c. row-same (c .before .loop .inv .written))
+    (λ c. row-so-far-end (c .before .loop .inv) (c .loop-test .left)))

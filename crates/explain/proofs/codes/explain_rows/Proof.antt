@@ -5,8 +5,9 @@ use native.Mathlib.Omega.{arith}
 use lib.ListN.{length}
 use borrow.Author.Needs.{needs}
 use Rattle.model.specs.market.Market.{regular}
-use Rattle.explain.proofs.codes.Codes.{row-code-is, row-ready, RowsSoFar, rows-none, rows-same, rows-fit}
-use Rattle.explain.proofs.codes.Codes.{rows-turn, rows-end}
+use Rattle.model.proofs.Tables.{rows-same}
+use Rattle.explain.proofs.codes.Codes.{row-code-is, row-ready, RowsSoFar, rows-so-far-none, rows-fit}
+use Rattle.explain.proofs.codes.Codes.{rows-so-far-turn, rows-so-far-end}
 use Rattle.explain.proofs.codes.explain_rows.Statement.{statement}
 use Rattle.explain.proofs.codes.explain_rows.Tie as tie
 
@@ -27,7 +28,7 @@ entry-before-test p = entry-before-first-turn (p .before .before)
 loop-holds : tie.Need-loop-holds Inv-loop μ-loop
 loop-holds c =
     let lengths = entry-before-first-turn c .pre .1 .1 in
-    rows-none (lengths .2) (lengths .1)
+    rows-so-far-none (lengths .2) (lengths .1)
 
 shared-slice-read-explain-row-2 : tie.Need-shared-slice-read-explain-row-2 Inv-loop μ-loop
 shared-slice-read-explain-row-2 c =
@@ -45,7 +46,7 @@ explain-row-requires c κs =
     let at-view = c .before .before .before in
     let at-test = at-view .before in
     let entry = entry-before-test at-test in
-    let so-far = at-test .before .loop .inv in
+    let so-far = at-test .before .loop .inv .written in
     row-ready (regular _ _ _ _ _) _ (entry .pre .0) (entry .pre .1 .0) _ (at-test .loop-test .taken)
     (at-view .row-through-view .ensures) (rows-same so-far ∙ so-far .long)
 
@@ -69,7 +70,7 @@ loop-again c =
     let at-view = view-before-row at-row in
     let at-test = at-view .before in
     let entry = entry-before-test at-test in
-    rows-turn (at-test .before .loop .inv) (at-test .loop-test .taken)
+    rows-so-far-turn (at-test .before .loop .inv) (at-test .loop-test .taken)
     (row-code-is (regular _ _ _ _ _) _ (entry .pre .0) (entry .pre .1 .0) _ (at-test .loop-test .taken)
     (at-view .row-through-view .ensures))
     (at-row .explain-row .ensures) (c .loss .ensures)
@@ -79,5 +80,6 @@ explain-rows-spec =
     tie.close (tie.spec Inv-loop μ-loop loop-holds (λ c. search needs) (λ c κs. search needs) (λ c. search needs)
     (λ c. search needs) (λ c. search needs) shared-slice-read-explain-row-2 mul-explain-row-3 explain-row-requires
     (λ c. search needs) shared-slice-read-loss (λ c κs. search needs) slice-write-reasons (λ c. search needs)
-    (λ c. search needs) loop-again (λ c. rows-same (c .before .loop .inv))
-    (λ c. c .before .loop .inv .reasons-are .filled .same) (λ c. rows-end (c .before .loop .inv) (c .loop-test .left)))
+    (λ c. search needs) loop-again (λ c. rows-same (c .before .loop .inv .written))
+    (λ c. c .before .loop .inv .reasons-are .filled .same)
+    (λ c. rows-so-far-end (c .before .loop .inv) (c .loop-test .left)))

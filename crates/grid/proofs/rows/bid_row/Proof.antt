@@ -1,15 +1,20 @@
 -- The loop: the first j places of the row hold the first j bids.
 use Prim.Native.Nat.{_-_}
 use native.Mathlib.Omega.{arith}
-use lib.ListN.{length}
+use lib.ListN.{getD, length}
 use borrow.Author.Needs.{needs}
-use Rattle.grid.proofs.rows.Rows.{squares-long, square-is, in-table, loss-fits, bid-is, RowSoFar}
-use Rattle.grid.proofs.rows.Rows.{row-none, row-same, row-turn, row-end}
+use Rattle.model.proofs.Tables.{RowWritten, row-none, row-same, row-place, row-turn, row-end}
+use Rattle.model.specs.places.Bids.{cell, bidBetween}
+use Rattle.grid.specs.Rows.{rowBids}
+use Rattle.grid.proofs.rows.Rows.{squares-long, square-is, in-table, loss-fits, bid-is}
 use Rattle.grid.proofs.rows.bid_row.Statement.{statement}
 use Rattle.grid.proofs.rows.bid_row.Tie as tie
 
 abbrev Inv-loop : tie.InvT-loop
-Inv-loop walks guest firsts seconds squares base bids₀ j₀ bids j = RowSoFar guest firsts seconds bids₀ bids base j
+Inv-loop walks guest firsts seconds squares base bids₀ j₀ bids j =
+    RowWritten (length firsts)
+    (λ j. bidBetween (guest .price .0) (guest .fall .0) (guest .cell) (cell (getD firsts j 0) (getD seconds j 0)))
+    bids₀ bids base j
 
 abbrev μ-loop : tie.MeasureT-loop
 μ-loop walks guest firsts seconds squares base bids₀ j₀ bids j = length firsts - j
@@ -41,8 +46,7 @@ bid-requires c κs =
 slice-write-bids : tie.Need-slice-write-bids Inv-loop μ-loop
 slice-write-bids c =
     let at-test = c .before .before .before in
-    let so-far = at-test .before .loop .inv in
-    omega (arith, row-same so-far, at-test .loop-test .taken, so-far .room)
+    row-place (at-test .before .loop .inv) (at-test .loop-test .taken)
 
 loop-again : tie.Need-loop-again Inv-loop μ-loop
 loop-again c =
@@ -52,10 +56,14 @@ loop-again c =
     (bid-is (pre .0) _ (at-test .loop-test .taken) (square-is _ _ _ (pre .1) _ (at-test .loop-test .taken))
     (c .bid .ensures))
 
+returns : tie.Need-returns Inv-loop μ-loop
+unfolding rowBids
+returns c = row-end (c .before .loop .inv) (c .loop-test .left)
+
 pub bid-row-spec : {M : Type 1} → statement M
 bid-row-spec =
     tie.close (tie.spec Inv-loop μ-loop loop-holds (λ c. search needs) has-place
     (λ c. omega (arith, c .shared-slice-known4 .given (c .before .before .loop .j)))
     (λ c. omega (arith, has-walk c)) has-walk bid-requires (λ c. search needs)
     (λ c. search needs) slice-write-bids (λ c. search needs) (λ c. search needs) loop-again
-    (λ c. row-same (c .before .loop .inv)) (λ c. row-end (c .before .loop .inv) (c .loop-test .left)))
+    (λ c. row-same (c .before .loop .inv)) returns)

@@ -4,14 +4,14 @@ use native.Mathlib.Omega.{arith}
 use lib.ListN.{length}
 use borrow.Author.Needs.{needs}
 use Rattle.model.specs.places.Bids.{places, guestCell, stationCell}
-use Rattle.grid.proofs.rows.Rows.{RowsSoFar, guestOf, rows-none, rows-same, rows-fit, row-room, rows-turn}
-use Rattle.grid.proofs.rows.Rows.{rows-end}
+use Rattle.model.proofs.Tables.{rows-none, rows-same, rows-room}
+use Rattle.grid.proofs.rows.Rows.{guestOf, RowsPlaced, rows-fit, row-placed, all-placed}
 use Rattle.grid.proofs.rows.place_rows.Statement.{statement}
 use Rattle.grid.proofs.rows.place_rows.Tie as tie
 
 abbrev Inv-loop : tie.InvT-loop
 Inv-loop prices falls guest-first guest-second station-first station-second bids₀ walks m i₀ bids i =
-    RowsSoFar (places prices falls guest-first guest-second station-first station-second) bids₀ bids i
+    RowsPlaced (places prices falls guest-first guest-second station-first station-second) bids₀ bids i
 
 abbrev μ-loop : tie.MeasureT-loop
 μ-loop prices falls guest-first guest-second station-first station-second bids₀ walks m i₀ bids i =
@@ -33,7 +33,10 @@ mul-place-row : tie.Need-mul-place-row Inv-loop μ-loop
 mul-place-row c =
     let at-test = test-before-guest (c .before) in
     let entry = entry-before-test at-test in
-    omega (arith, rows-fit (at-test .before .loop .inv) (entry .pre .guests-most) (entry .pre .stations-most))
+    omega (
+      arith,
+      rows-fit (places _ _ _ _ _ _) (at-test .before .loop .inv) (entry .pre .guests-most) (entry .pre .stations-most),
+    )
 
 place-row-requires : tie.Need-place-row-requires Inv-loop μ-loop
 unfolding guestCell stationCell
@@ -47,7 +50,7 @@ place-row-requires c κs =
       guest-on-grid = within .guest-on-grid _ (at-test .loop-test .taken);
       seconds-long = within .station-second-length;
       station-on-grid = within .station-on-grid;
-      room = row-room (at-test .before .loop .inv) (at-test .loop-test .taken);
+      room = rows-room (at-test .before .loop .inv) (at-test .loop-test .taken);
     }
 
 loop-again : tie.Need-loop-again Inv-loop μ-loop
@@ -55,7 +58,8 @@ unfolding guestOf guestCell
 loop-again c =
     let at-row = c .before .before in
     let at-test = test-before-guest (at-row .before .before .before) in
-    rows-turn (at-test .before .loop .inv) (at-test .loop-test .taken) (at-row .place-row .ensures)
+    row-placed (places _ _ _ _ _ _) (at-test .before .loop .inv) (at-test .loop-test .taken)
+    (at-row .place-row .ensures)
 
 pub place-rows-spec : {M : Type 1} → statement M
 place-rows-spec =
@@ -65,4 +69,5 @@ place-rows-spec =
     (λ c. search needs) (λ c. search needs)
     (λ c. search needs) (λ c. omega (arith, entry-before-test (test-before-guest c) .pre .guest-second-length))
     mul-place-row place-row-requires (λ c. search needs) (λ c. search needs) loop-again
-    (λ c. rows-same (c .before .loop .inv)) (λ c. rows-end (c .before .loop .inv) (c .loop-test .left)))
+    (λ c. rows-same (c .before .loop .inv))
+    (λ c. all-placed (places _ _ _ _ _ _) (c .before .loop .inv) (c .loop-test .left)))

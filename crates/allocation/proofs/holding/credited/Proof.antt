@@ -1,8 +1,8 @@
 use native.Mathlib.Omega.{arith}
 use borrow.Author.Needs.{needs}
 use Rattle.model.proofs.Tests.{only-yes, only-no, is-lt, not-lt}
-use Rattle.explain.proofs.codes.credited.Statement.{statement}
-use Rattle.explain.proofs.codes.credited.Tie as tie
+use Rattle.allocation.proofs.holding.credited.Statement.{statement}
+use Rattle.allocation.proofs.holding.credited.Tie as tie
 
 returns : tie.Need-returns
 returns c = omega (arith, c .plus .ensures, only-yes _ 1 (is-lt _ _ (c .before .if1 .taken)))

@@ -2,9 +2,9 @@ use native.Mathlib.Omega.{arith}
 use borrow.Author.Needs.{needs}
 use Rattle.model.specs.Counting.{_<?_}
 use Rattle.model.proofs.Tests.{only-le}
-use Rattle.explain.proofs.codes.Codes.{held-is}
-use Rattle.explain.proofs.codes.holds.Statement.{statement}
-use Rattle.explain.proofs.codes.holds.Tie as tie
+use Rattle.allocation.proofs.holding.Holding.{held-is}
+use Rattle.allocation.proofs.holding.holds.Statement.{statement}
+use Rattle.allocation.proofs.holding.holds.Tie as tie
 
 below-small-requires : tie.Need-below-small-requires
 below-small-requires c κs =
