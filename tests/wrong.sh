@@ -37,7 +37,7 @@ found_by() { # FAULT WORDS PART WAY
 }
 
 for part in read write trip read_csv csv_trip place_bids join gates clear clear_efficient explain facts try rows \
-    clear_marked mark passes post truth truth_efficient; do
+    clear_marked mark passes charge_marks post truth truth_efficient; do
     BAY_MARKET_FAULT='' "$compare" $seed $part >/dev/null
 done
 # what has the faults of comma-separated markets, of efficient clearing, of telling, of trying and of marking is right
@@ -302,11 +302,11 @@ for way in c slices; do
 done
 # faults of a clearing's places and floors; the types that own their lists make them
 for way in c slices owned; do
-    for fault in seated excused bay two inverted transposed; do
+    for fault in seated excused bay tied two inverted transposed; do
         finds "clear_marked $fault" 'places differ|owned full clearing differs' clear_marked $way
         finds "clear_marked $fault" 'guest [0-9]+ has place [0-9]+ and' passes $way
     done
-    for fault in closed above holder second-out full unseated price cut no-floor shifted; do
+    for fault in closed above below holder second-out full unseated price cut no-floor shifted; do
         finds "clear_marked $fault" 'floors differ|owned full clearing differs' clear_marked $way
         finds "clear_marked $fault" 'the floor of station [0-9]+ is' passes $way
     done
@@ -314,6 +314,11 @@ for way in c slices owned; do
     finds 'clear_marked quiet' 'the results differ from the clearing' passes $way
     finds 'clear_marked higher' 'the results differ from the clearing|guest [0-9]+ has place' passes $way
     finds 'clear_marked answer' 'answered 5, expected 0' passes $way
+    for fault in seated excused bay tied inverted transposed above below holder second-out full unseated price cut \
+        no-floor shifted higher; do
+        finds "clear_marked $fault" 'guest [0-9]+ has (place [01] \(|a charge of)' charge_marks $way
+    done
+    finds 'clear_marked answer' 'answered 5, expected 0' charge_marks $way
 done
 for way in c slices; do
     for fault in untouched kept; do

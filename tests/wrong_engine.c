@@ -144,11 +144,13 @@
  *   clear_marked seated          a seated guest's other places are not held
  *   clear_marked excused         a seated guest holds a place wherever it is a candidate
  *   clear_marked bay             the first candidate without a place is shown one
+ *   clear_marked tied            whoever's total is that of the last guest that has a place is shown one
  *   clear_marked two             a place that is held is 2
  *   clear_marked inverted        0 and 1 are exchanged among the places
  *   clear_marked transposed      the places stand station after station
  *   clear_marked closed          a station that is not open has a floor
  *   clear_marked above           a floor is one more
+ *   clear_marked below           a floor is one less
  *   clear_marked holder          the floor is the total of the last guest that has a place
  *   clear_marked second-out      the floor is the total of the second candidate without a place
  *   clear_marked full            where there are as many candidates as bays the floor is the last one's total
@@ -1518,8 +1520,10 @@ static void places_wrong(const char *wrong, MARKET_PARAMETERS, uint32_t cut, con
     const int bay = strcmp(wrong, "bay") == 0, closed = strcmp(wrong, "closed") == 0;
     const int holder = strcmp(wrong, "holder") == 0, full = strcmp(wrong, "full") == 0;
     const int unseated = strcmp(wrong, "unseated") == 0, price = strcmp(wrong, "price") == 0;
+    const int tied = strcmp(wrong, "tied") == 0;
     const size_t out = strcmp(wrong, "second-out") == 0;
     uint32_t stood[BAY_MARKET_MAX_STATIONS] = {0}, before[BAY_MARKET_MAX_STATIONS] = {0};
+    uint32_t lowest[BAY_MARKET_MAX_STATIONS] = {0};
 
     (void)bays_len, (void)tickets_len, (void)bids_len, (void)width;
     memset(places, 0, n * m);
@@ -1529,9 +1533,10 @@ static void places_wrong(const char *wrong, MARKET_PARAMETERS, uint32_t cut, con
     for (const struct candidacy *next = all; next < all + count; next++) {
         const size_t j = next->station, i = next->guest, stands = stood[j]++, at = i * m + j;
         const uint32_t total = price ? next->total / amounts[i] : next->total;
+        lowest[j] = stands < bays[j] ? total : lowest[j];
         if (asks[j] < cut) {
             places[at] = stands < bays[j] + (size_t)bay && !(seated && stations[i] != j + 1);
-            places[at] |= excused && stations[i] != 0;
+            places[at] |= (excused && stations[i] != 0) || (tied && total == lowest[j]);
         }
         if (unseated ? stands >= bays[j] && stations[i] == 0 && floors[j] == 0
             : stands == bays[j] + out || (full && stands + 1 == bays[j])) {
@@ -1568,6 +1573,8 @@ static void change_places(const char *wrong, uint8_t *places, size_t n, size_t m
     for (size_t j = m; j-- > 0;) {
         if (strcmp(wrong, "above") == 0 && floors[j] > 0) {
             floors[j]++;
+        } else if (strcmp(wrong, "below") == 0 && floors[j] > 0) {
+            floors[j]--;
         } else if (strcmp(wrong, "no-floor") == 0) {
             floors[j] = 0;
         } else if (strcmp(wrong, "shifted") == 0) {

@@ -1,4 +1,5 @@
 pub mod Cases
+pub mod ChargeMarks
 pub mod Computing
 pub mod Csv
 pub mod Example

@@ -1,5 +1,6 @@
 pub mod Asked
 pub mod Calls
+pub mod ChargeMarks
 pub mod Csv
 pub mod Efficient
 pub mod Existence

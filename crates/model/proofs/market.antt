@@ -5,9 +5,11 @@ pub mod Choice
 pub mod Cut
 pub mod Decisions
 pub mod Efficient
+pub mod FirstOut
 pub mod Gates
 pub mod Joining
 pub mod Limits
+pub mod Marks
 pub mod Menus
 pub mod Order
 pub mod Others

@@ -1,4 +1,5 @@
 pub mod Cases
+pub mod ChargeMarks
 pub mod Csv
 pub mod Gates
 pub mod Instances

@@ -1,4 +1,5 @@
 pub mod Calls
+pub mod ChargeMarks
 pub mod Csv
 pub mod Efficient
 pub mod Gates

@@ -1004,13 +1004,14 @@ fn mark_lent(way: Way, random: &mut Random, marking: Marking, expected: &Result<
     }
 }
 
-/// What the engine gives of an accepted market, by each way, held to something that may mark by the same way.
+/// What the engine gives of an accepted market, by each way, held to something that may go on by the same way.
 pub fn hand_in(rule: Rule, market: &Market, mut hold: impl FnMut(Way, Submission) -> Result<(), String>) -> Result<(), String> {
     each_way(|way| hold(way, hand_in_by(way, rule, market)?))
 }
 
+/// The same by one way.
 #[rustfmt::skip] // pointer and length on one line
-fn hand_in_by(way: Way, rule: Rule, market: &Market) -> Result<Submission, String> {
+pub fn hand_in_by(way: Way, rule: Rule, market: &Market) -> Result<Submission, String> {
     let (n, m) = (market.guests(), market.stations());
     let mut given = Submission {
         stations: vec![77; n], charges: vec![77; n], sold: vec![77; m], paid: vec![77; m],

@@ -3,11 +3,13 @@
 //! read_csv, csv_trip (comma-separated markets read, and cleared as their tables are), place_bids, join, clear,
 //! clear_efficient, explain, facts (what is told against the clearing), try, rows (what another row does, against the
 //! clearings and codes of both markets), clear_marked, mark, passes (what clear_marked gives, against clearing and codes,
-//! and handed in as it is and spoilt), post, gates (a search for a place that joining gives or a charge that it lowers),
-//! truth (a search for false reports that pay), truth_efficient, print or print_csv, and the first seventeen are called by
-//! all ways or by one: c, slices or owned. A failing case prints itself and ends the run with 1; wrong use ends it with 2.
+//! and handed in as it is and spoilt), charge_marks (a search for a place that a bid keeps below its charge or loses above
+//! it), post, gates (a search for a place that joining gives or a charge that it lowers), truth (a search for false reports
+//! that pay), truth_efficient, print or print_csv, and the first eighteen are called by all ways or by one: c, slices or
+//! owned. A failing case prints itself and ends the run with 1; wrong use ends it with 2.
 
 mod call;
+mod charge_marks;
 mod clearing;
 mod csv;
 mod explaining;
@@ -31,19 +33,34 @@ use std::time::Instant;
 
 const SEED: u64 = 20_261_115;
 
-/// How often each answer was expected.
+/// How often each answer was expected, and what else was met.
 #[derive(Default)]
-pub struct Tally(BTreeMap<u8, usize>);
+pub struct Tally {
+    answers: BTreeMap<u8, usize>,
+    met: BTreeMap<&'static str, usize>,
+}
 
 impl Tally {
     pub fn count<T>(&mut self, expected: &Result<T, u8>) {
-        *self.0.entry(expected.as_ref().err().copied().unwrap_or(0)).or_default() += 1;
+        *self.answers.entry(expected.as_ref().err().copied().unwrap_or(0)).or_default() += 1;
+    }
+
+    pub fn meet(&mut self, what: &'static str) {
+        *self.met.entry(what).or_default() += 1;
     }
 
     /// Each of the answers was met.
     pub fn require(&self, answers: &[u8]) -> Result<(), String> {
-        match answers.iter().find(|answer| !self.0.contains_key(answer)) {
+        match answers.iter().find(|answer| !self.answers.contains_key(answer)) {
             Some(answer) => Err(format!("no case has the answer {answer}")),
+            None => Ok(()),
+        }
+    }
+
+    /// Each of these was.
+    pub fn require_met(&self, wanted: &[&str]) -> Result<(), String> {
+        match wanted.iter().find(|what| !self.met.contains_key(**what)) {
+            Some(what) => Err(format!("no case is {what}")),
             None => Ok(()),
         }
     }
@@ -56,7 +73,7 @@ struct Part {
     cases: usize,
 }
 
-const PARTS: [Part; 22] = [
+const PARTS: [Part; 23] = [
     Part { name: "read", run: reading::run, cases: 6_000 },
     Part { name: "write", run: writing::run, cases: 12_000 },
     Part { name: "trip", run: reading::run_trips, cases: 6_000 },
@@ -73,6 +90,7 @@ const PARTS: [Part; 22] = [
     Part { name: "clear_marked", run: marking::run, cases: 12_000 },
     Part { name: "mark", run: marking::run_marks, cases: 8_000 },
     Part { name: "passes", run: marking::run_passes, cases: 1_500 },
+    Part { name: "charge_marks", run: charge_marks::run, cases: 40_000 },
     Part { name: "post", run: posting::run, cases: 4_000 },
     Part { name: "gates", run: joining::run_places, cases: 30_000 },
     Part { name: "truth", run: truth::run_truthful, cases: 3_000 },
@@ -117,13 +135,14 @@ fn main() -> ExitCode {
         let start = Instant::now();
         let mut tally = Tally::default();
         let result = run(&mut Random::new(seed), &mut tally, cases);
-        let calls: usize = tally.0.values().sum();
+        let calls: usize = tally.answers.values().sum();
         if let Err(case) = result {
             println!("{name}: differs at call {calls} of seed {seed}: {case}");
             return ExitCode::FAILURE;
         }
-        let answers: Vec<String> = tally.0.iter().map(|(answer, times)| format!("{answer}: {times}")).collect();
-        println!("{name}: {calls} calls agree in {:.1} s; answers {}", start.elapsed().as_secs_f64(), answers.join(", "));
+        let answers: Vec<String> = tally.answers.iter().map(|(answer, times)| format!("{answer}: {times}")).collect();
+        let met: String = tally.met.iter().map(|(what, times)| format!("; {what}: {times}")).collect();
+        println!("{name}: {calls} calls agree in {:.1} s; answers {}{met}", start.elapsed().as_secs_f64(), answers.join(", "));
     }
     ExitCode::SUCCESS
 }
@@ -153,5 +172,8 @@ mod tests {
         tally.count::<()>(&Err(7));
         assert_eq!(tally.require(&[0, 7]), Ok(()));
         assert!(tally.require(&[0, 6, 7]).is_err());
+        tally.meet("above");
+        assert_eq!(tally.require_met(&["above"]), Ok(()));
+        assert!(tally.require_met(&["above", "below"]).is_err());
     }
 }

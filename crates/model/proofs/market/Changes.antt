@@ -1,6 +1,6 @@
 -- Laws of markets with other bids: what the bids are, and that the market is accepted.
 use Prim.Native.Nat.{ℕ, _≤_, _<_}
-use mathlib.Core.Bool.{true, false}
+use mathlib.Core.Bool.{true, false, cond}
 use mathlib.Core.List.{List}
 use mathlib.Core.Logic.{⊎-elim}
 use mathlib.Core.Path.{_≡_, refl, sym, _∙_}
@@ -11,9 +11,11 @@ use Rattle.model.specs.Limits.{maxPrice}
 use Rattle.model.specs.Counting.{_=?_}
 use Rattle.model.specs.market.Market.{Tables, bidAt}
 use Rattle.model.specs.market.Faults.{Accepted}
-use Rattle.model.specs.market.Changes.{bidTable, withBids, bidsWithRow}
+use Rattle.model.specs.market.Changes.{bidTable, withBids, bidsWithRow, rowWithBid, withBid}
+use Rattle.model.specs.claims.ChargeMarks.{WithBidReplacesBid}
 use Rattle.model.specs.claims.OtherRows.{WithRowReplacesRow, WithRowAccepted}
-use Rattle.model.proofs.Tests.{decide, is-eq, not-eq}
+use Rattle.model.proofs.Tests.{decide, is-eq, not-eq, eq-or-ne}
+use Rattle.model.proofs.Counting.{length-list, getD-list}
 use Rattle.model.proofs.sheet.Joined.{joined-length, getD-joined, joined-most}
 use Rattle.model.proofs.market.Acceptance.{accepted-iff-within-limits, exchanged}
 
@@ -70,3 +72,40 @@ with-row-accepted t i row a w = with-bids-accepted t (bidsWithRow t i row) a (λ
     (λ (e : (k =? i) ≡ true). rw e (w .row-most j (omega (arith, w .row-length))))
     (λ (e : (k =? i) ≡ false). rw e (bid-at-most t a k j lk lj))
     (decide (k =? i)))
+
+-- ---- one bid
+
+module _ (t : Tables) (i j bid : ℕ) where
+  row-at : (l : ℕ) → l < length (t .asks) → getD (rowWithBid t i j bid) l 0 ≡ cond (l =? j) bid (bidAt t i l)
+  unfolding rowWithBid
+  row-at l ll = getD-list (length (t .asks)) _ l ll
+
+  bid-here : j < length (t .asks) → getD (rowWithBid t i j bid) j 0 ≡ bid
+  bid-here lj = row-at j lj ∙ rw (is-eq j j refl)
+
+  bid-beside : (l : ℕ) → l < length (t .asks) → (l ≡ j → ⊥) → getD (rowWithBid t i j bid) l 0 ≡ bidAt t i l
+  bid-beside l ll n = row-at l ll ∙ rw (not-eq l j n)
+
+  pub with-bid-accepted : Accepted t → i < length (t .amounts) → bid ≤ maxPrice → Accepted (withBid t i j bid)
+  unfolding rowWithBid
+  with-bid-accepted a li most =
+      let long : length (rowWithBid t i j bid) ≡ length (t .asks) = length-list (length (t .asks)) _ in
+      with-row-accepted t i (rowWithBid t i j bid) a record {
+        row-length = long;
+        row-most = λ l ll. ⊎-elim
+            (λ (e : l ≡ j). rw (e, bid-here (omega arith)) most)
+            (λ (n : l ≡ j → ⊥). rw (bid-beside l (omega arith) n) (bid-at-most t a i l li (omega arith)))
+            (eq-or-ne l j);
+      }
+
+pub with-bid-replaces-bid : WithBidReplacesBid
+with-bid-replaces-bid t i j bid li lj =
+    let w = with-row-replaces-row t i (rowWithBid t i j bid) li in
+    record {
+      replaced = w .replaced j lj ∙ bid-here t i j bid lj;
+      same-elsewhere = λ k l lk ll n. ⊎-elim
+          (λ (e : k ≡ i). rw e (w .replaced l ll ∙ bid-beside t i j bid l ll (λ q. n (e, q))))
+          (λ (m : k ≡ i → ⊥). w .alike .same-bids k l lk ll m)
+          (eq-or-ne k i);
+      alike = w .alike;
+    }

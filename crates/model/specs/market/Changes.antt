@@ -1,4 +1,4 @@
--- A market with another row of a guest, and what it changes. Document 02, request 11.
+-- A market with another row of a guest, or with one other bid, and what it changes. Document 02, requests 11 and 14.
 -- Guests and stations count from 0 here; a call names its guest from 1 on.
 use Prim.Native.Nat.{ℕ, zero, suc, _-_}
 use mathlib.Core.Bool.{Bool, true, false, cond, not}
@@ -30,6 +30,13 @@ bidsWithRow t i row k j = cond (k =? i) (getD row j 0) (bidAt t k j)
 
 abbrev pub withRow : Tables → (i : ℕ) (row : List ℕ) → Tables
 withRow t i row = withBids t (bidsWithRow t i row)
+
+-- with guest i's bid at station j replaced: its own row, but for that bid
+unfoldable pub rowWithBid : Tables → (i j bid : ℕ) → List ℕ
+rowWithBid t i j bid = list (length (t .asks)) (λ l. cond (l =? j) bid (bidAt t i l))
+
+abbrev pub withBid : Tables → (i j bid : ℕ) → Tables
+withBid t i j bid = withRow t i (rowWithBid t i j bid)
 
 -- guest i's gain in the truthful round, by its worths
 unfoldable pub gain : Rule → Tables → (i : ℕ) (worths : List ℕ) → ℤ

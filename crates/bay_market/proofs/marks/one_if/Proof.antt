@@ -1,5 +1,4 @@
 use mathlib.Core.Path.{sym}
-use borrow.Author.Needs.{needs}
 use Rattle.model.proofs.Tests.{only-yes, only-no}
 use Rattle.bay_market.proofs.marks.one_if.Statement.{statement}
 use Rattle.bay_market.proofs.marks.one_if.Tie as tie

@@ -1,3 +1,4 @@
+-- The loop: the first j places hold the first j floors.
 use Prim.Native.Nat.{_-_, _+_}
 use mathlib.Core.Path.{refl}
 use native.Mathlib.Omega.{arith}
@@ -13,38 +14,18 @@ Inv-loop criticals floors₀ j₀ floors j = Filling (length floors₀) (λ j. g
 abbrev μ-loop : tie.MeasureT-loop
 μ-loop criticals floors₀ j₀ floors j = length floors₀ - j
 
-add-floors : tie.Need-add-floors Inv-loop μ-loop
-add-floors c = search needs
-
-mul-floors : tie.Need-mul-floors Inv-loop μ-loop
-mul-floors c = search needs
-
-shared-slice-read-floors : tie.Need-shared-slice-read-floors Inv-loop μ-loop
-shared-slice-read-floors c = search needs
-
-mul-floors-2 : tie.Need-mul-floors-2 Inv-loop μ-loop
-mul-floors-2 c = search needs
-
-slice-write-floors : tie.Need-slice-write-floors Inv-loop μ-loop
-slice-write-floors c = search needs
-
-loop-less : tie.Need-loop-less Inv-loop μ-loop
-loop-less c = search needs
-
 loop-again : tie.Need-loop-again Inv-loop μ-loop
 loop-again c =
-    let at-loop = c .before .before in
-    let i = at-loop .loop .inv in
-    filling-turn i (omega (arith, i .filled .same, c .before .loop-test .taken)) refl
-
-same-length : tie.Need-same-length Inv-loop μ-loop
-same-length c = search needs
+    let so-far = c .before .before .loop .inv in
+    filling-turn so-far (omega (arith, so-far .filled .same, c .before .loop-test .taken)) refl
 
 returns : tie.Need-returns Inv-loop μ-loop
 returns c =
-    filling-end (c .before .loop .inv) (omega (arith, c .before .loop .inv .filled .same, c .loop-test .left))
+    let so-far = c .before .loop .inv in
+    filling-end so-far (omega (arith, so-far .filled .same, c .loop-test .left))
 
 pub give-floors-spec : {M : Type 1} → statement M
 give-floors-spec =
-    tie.close (tie.spec Inv-loop μ-loop (λ c. filling-none refl) add-floors mul-floors shared-slice-read-floors
-    mul-floors-2 slice-write-floors (λ c. search needs) loop-less loop-again same-length returns)
+    tie.close (tie.spec Inv-loop μ-loop (λ c. filling-none refl) (λ c. search needs) (λ c. search needs)
+    (λ c. search needs) (λ c. search needs) (λ c. search needs) (λ c. search needs) (λ c. search needs) loop-again
+    (λ c. search needs) returns)
