@@ -1,4 +1,6 @@
 // Who gets a bay where, in a truthful round: stations take their turns, and each guest its best offer.
+#![tactic(auto)]
+
 pub mod assignment;
 pub mod holding;
 mod offers;

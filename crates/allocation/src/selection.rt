@@ -57,7 +57,7 @@ fn middle(low: Mills, high: Mills) -> Mills
 }
 
 // A station's critical total, and how many totals are above it.
-#[derive(Drop)]
+#[derive(Clone, Copy)]
 pub struct Critical {
     pub total: Mills,
     pub above: u32,

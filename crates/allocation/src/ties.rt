@@ -18,7 +18,7 @@ fn tally(s: u32, x: Mills, t: Mills) -> u32
 }
 
 // A total in 32 bits: the processor compares four of them at once.
-#[derive(Drop)]
+#[derive(Clone, Copy)]
 struct Total(u32);
 
 fn tied_below(total: Total, t: Total, ticket: u32, x: u32) -> bool

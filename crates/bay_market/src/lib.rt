@@ -1,4 +1,6 @@
 // The engine for other languages, one archive: include/bay_market.h.
+#![tactic(auto)]
+
 mod clear;
 mod gates;
 mod marks;

@@ -1,6 +1,8 @@
 // The clearing program: the clearing of the sheet on standard input, to standard output, by rule 1; with `--quiet` the
 // efficient clearing, with `--why` what decided for each guest, each with `--rule 2` after it by rule 2; with `--write`
 // the shortest sheet that states the same market. With `--csv` before all of them it reads a comma-separated market.
+#![tactic(auto)]
+
 ghost use Rattle.std.specs.Prelude.{◌-◌, [], ◌∷◌, ◌≡◌, length, take};
 ghost use Rattle.model.specs.text.Asked.{◌spells◌, rule_spelt, rule_asked, by_rule, page_asked, asked};
 ghost use Rattle.clear.specs.Input.{Within};
@@ -16,7 +18,7 @@ use model::rule::{NamedRule, Rule};
 const MAX_CSV: usize = 93_482;
 
 // How many bytes were read, or that a read failed.
-#[derive(Drop)]
+#[derive(Clone, Copy)]
 enum Input {
     Bytes(usize),
     Failed,
@@ -42,7 +44,7 @@ fn read_input(buffer: &mut [u8]) -> Input
 }
 
 // The pages of a market that go by a rule.
-#[derive(Drop)]
+#[derive(Clone, Copy)]
 enum Kind {
     Clearing,
     Efficient,

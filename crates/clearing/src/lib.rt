@@ -1,4 +1,6 @@
 // The clearing of a market: one call checks the lent tables, clears them and answers, or refuses and writes nothing.
+#![tactic(auto)]
+
 mod accepted;
 
 ghost use Rattle.model.specs.market.Outcome.{outcome_in};

@@ -1,4 +1,6 @@
 // A list, or its first numbers, written over a table. The compiler makes a copy of memory of it.
+#![tactic(auto)]
+
 ghost use Rattle.std.specs.Prelude.{◌+◌, ◌≤◌, ◌≡◌, length};
 ghost use Rattle.std.proofs.Math.Seq.{paste};
 

@@ -2,7 +2,7 @@
 ghost use Rattle.csv.specs.Bytes.{Sorted};
 
 // A digit with its value, a comma, one of the two bytes of a line end, or a byte that has no place in a text.
-#[derive(Drop)]
+#[derive(Clone, Copy)]
 pub enum Kind {
     Digit(u8),
     Comma,

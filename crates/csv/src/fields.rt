@@ -11,13 +11,13 @@ use crate::{bytes, numbers};
 use model::refusal::Refusal;
 
 // The place reached in a text.
-#[derive(Drop)]
+#[derive(Clone, Copy)]
 pub struct Cursor {
     pub at: usize,
 }
 
 // A field that a comma or a line end ends, or its fault.
-#[derive(Drop)]
+#[derive(Clone, Copy)]
 pub enum Ended {
     Comma {
         value: u64,
@@ -87,7 +87,7 @@ pub fn field(text: &[u8], c: Cursor, most: u64) -> Ended
 }
 
 // A field that is taken, or its fault.
-#[derive(Drop)]
+#[derive(Clone, Copy)]
 pub enum Taken {
     Value { value: u64, next: Cursor },
     Fault(Refusal),

@@ -1,4 +1,6 @@
 // Comma-separated markets: whatever bytes arrive, the market that they state or the refusal of their first fault.
+#![tactic(auto)]
+
 mod bytes;
 mod copying;
 mod fields;

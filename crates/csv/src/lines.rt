@@ -13,14 +13,14 @@ const MOST_16: u64 = 65_535;
 const MOST_32: u64 = 4_294_967_295;
 
 // The first line: how many asks there are, or its fault.
-#[derive(Drop)]
+#[derive(Clone, Copy)]
 pub enum Asks {
     Line { stations: usize, next: Cursor },
     Fault(Refusal),
 }
 
 // Where a line ends, or its fault.
-#[derive(Drop)]
+#[derive(Clone, Copy)]
 pub enum Step {
     Next(Cursor),
     Fault(Refusal),

@@ -9,7 +9,7 @@ use crate::bytes::Kind;
 use std::num;
 
 // What stands after a run of digits: a comma, CR, or neither, as at the end of the text.
-#[derive(Drop)]
+#[derive(Clone, Copy)]
 pub enum Stop {
     Comma,
     Cr,
@@ -17,7 +17,7 @@ pub enum Stop {
 }
 
 // The number that a run of digits is, modulo 2^64, where the run ends, and what stands there.
-#[derive(Drop)]
+#[derive(Clone, Copy)]
 pub struct Run {
     pub value: u64,
     pub end: usize,

@@ -1,4 +1,6 @@
 // Bids from parking places.
+#![tactic(auto)]
+
 ghost use Rattle.model.specs.clauses.Lent.{places_in};
 ghost use Rattle.model.specs.clauses.EntryPoints.{PlacesBids};
 

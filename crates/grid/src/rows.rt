@@ -12,10 +12,10 @@ use model::limits::{MAX_SQUARED_DISTANCE, MAX_STATIONS};
 use model::money::UnitPrice;
 
 // How fast a unit price falls: mills per kWh for each tenth of a cell.
-#[derive(Drop)]
+#[derive(Clone, Copy)]
 struct Fall(u32);
 
-#[derive(Drop)]
+#[derive(Clone, Copy)]
 struct Guest {
     price: UnitPrice,
     fall: Fall,

@@ -1,4 +1,6 @@
 // Two gates' markets joined into one, the first gate's guests in front.
+#![tactic(auto)]
+
 mod faults;
 mod lists;
 

@@ -12,7 +12,7 @@ use model::money::Mills;
 use model::refusal::Refusal;
 
 // The reply to a posting, and how many stations' accounts it adds to.
-#[derive(Drop)]
+#[derive(Clone, Copy)]
 pub struct Ruling {
     pub reply: Verdict,
     pub credits: usize,

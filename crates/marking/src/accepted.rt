@@ -17,7 +17,7 @@ use model::rule::Rule;
 use pricing::{charges, cut, margin, sales};
 
 // The cut and the margin.
-#[derive(Drop)]
+#[derive(Clone, Copy)]
 pub struct Figures {
     pub cut: UnitPrice,
     pub margin: Mills,

@@ -1,4 +1,6 @@
 // A clearing with the places held and each station's floor, and the mark of one that is handed in.
+#![tactic(auto)]
+
 mod accepted;
 mod comparing;
 mod faults;

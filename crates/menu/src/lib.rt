@@ -1,4 +1,6 @@
 // A guest's price list, and the gains of rows by it.
+#![tactic(auto)]
+
 mod accepted;
 mod faults;
 mod keys;

@@ -12,7 +12,7 @@ use allocation::{selection, signed, ties, totals};
 use model::money::{Mills, UnitPrice};
 
 // What a station is to a guest.
-#[derive(Drop)]
+#[derive(Clone, Copy)]
 pub struct Entry {
     pub bar: u32,
     pub price: u32,

@@ -2,7 +2,7 @@
 
 // A station's account: kWh sold and money paid.
 #[repr(C)]
-#[derive(Drop)]
+#[derive(Clone, Copy)]
 pub struct StationAccount {
     pub sold: u64,
     pub paid: u64,

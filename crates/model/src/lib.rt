@@ -1,5 +1,7 @@
 // All that is believed of the bay market, and the theorems about it: definitions and statements in specs/, proofs in
 // proofs/. Here stand the types that they cite.
+#![tactic(auto)]
+
 pub mod account;
 pub mod answers;
 pub mod cell;

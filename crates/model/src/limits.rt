@@ -32,7 +32,7 @@ pub const MAX_CELL: u16 = 31;
 
 pub const MAX_SQUARED_DISTANCE: usize = 1_922;
 
-#[derive(Drop)]
+#[derive(Clone, Copy)]
 pub struct Limits {
     pub guests: usize,
     pub stations: usize,

@@ -1,5 +1,5 @@
 // The mechanisms by which a market is cleared.
-#[derive(Drop)]
+#[derive(Clone, Copy)]
 pub enum Mechanism {
     // Document 01's.
     Truthful,

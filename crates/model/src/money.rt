@@ -4,11 +4,11 @@ ghost use Rattle.std.specs.Prelude.{◌+◌, ◌*◌, ◌-◌, ◌<◌, ◌≤�
 ghost use Rattle.model.specs.Counting.{◌<?◌};
 
 // Mills per kWh: an ask, a bid, the cut.
-#[derive(Drop)]
+#[derive(Clone, Copy)]
 pub struct UnitPrice(pub u32);
 
 // Whole mills: a total, a charge, a payment, a margin.
-#[derive(Drop)]
+#[derive(Clone, Copy)]
 pub struct Mills(pub u64);
 
 impl UnitPrice {

@@ -2,14 +2,14 @@
 use crate::rule::Rule;
 
 // What it reads: a market sheet, or a comma-separated market.
-#[derive(Drop)]
+#[derive(Clone, Copy)]
 pub enum Layout {
     Sheet,
     Csv,
 }
 
 // What it prints of the market.
-#[derive(Drop)]
+#[derive(Clone, Copy)]
 pub enum Page {
     // The clearing by a rule.
     Clearing(Rule),
@@ -22,7 +22,7 @@ pub enum Page {
 }
 
 // What the program's arguments ask for.
-#[derive(Drop)]
+#[derive(Clone, Copy)]
 pub enum Asked {
     For { layout: Layout, page: Page },
     Nothing,

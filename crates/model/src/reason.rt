@@ -5,7 +5,7 @@ ghost use Rattle.model.specs.Numbers.{code_of};
 use crate::money::Mills;
 
 // Why a guest holds no place at a station, each case named by its fact.
-#[derive(Drop)]
+#[derive(Clone, Copy)]
 pub enum Reason {
     NoBid,
     NotOpen,
@@ -28,14 +28,14 @@ impl Reason {
 }
 
 // A win with its station and charge, or a loss with the reason of its highest code.
-#[derive(Drop)]
+#[derive(Clone, Copy)]
 pub enum GuestResult {
     Win { station: u16, charge: Mills },
     Loss(Reason),
 }
 
 // A guest's record in the outcome table.
-#[derive(Drop)]
+#[derive(Clone, Copy)]
 pub struct GuestOutcome {
     pub result: GuestResult,
 }

@@ -3,7 +3,7 @@ ghost use Rattle.std.specs.Prelude.{◌≡◌};
 ghost use Rattle.model.specs.Numbers.{number as number_of};
 
 // What a call refuses, each case named by its fault.
-#[derive(Drop)]
+#[derive(Clone, Copy)]
 pub enum Refusal {
     SheetEnds,
     CountsOutOfRange,

@@ -2,7 +2,7 @@
 ghost use Rattle.std.specs.Prelude.{◌≡◌};
 ghost use Rattle.model.specs.market.Rules.{named as named_of};
 
-#[derive(Drop)]
+#[derive(Clone, Copy)]
 pub enum Rule {
     // Rule 1: ceil((m + 1) / 2).
     Median,
@@ -11,7 +11,7 @@ pub enum Rule {
 }
 
 // What a number names.
-#[derive(Drop)]
+#[derive(Clone, Copy)]
 pub enum NamedRule {
     Known(Rule),
     Unknown,

@@ -16,7 +16,7 @@ use model::money::{Mills, UnitPrice};
 
 // A bid's rank in its row: 64 times the bid and more the lower its station. Of two bids the one of greater rank stands
 // before the other.
-#[derive(Drop)]
+#[derive(Clone, Copy)]
 struct Rank(u32);
 
 const BID: u32 = 64;

@@ -1,4 +1,6 @@
 // Who gets a bay where, in a quiet round: guests are served one at a time.
+#![tactic(auto)]
+
 mod criticals;
 pub mod efficient;
 mod line;

@@ -13,7 +13,7 @@ use crate::standing;
 use model::money::UnitPrice;
 
 // A holder, and the number of the one before it in the chain, from 1; 0 for none.
-#[derive(Drop)]
+#[derive(Clone, Copy)]
 pub struct Holder {
     pub guest: usize,
     pub before: u8,

@@ -6,7 +6,7 @@ ghost use Rattle.quiet.specs.Seating.{priority};
 use model::money::{Mills, UnitPrice};
 
 // A candidacy's priority at its station: a total and, below it, how low its ticket is. The greater stands before.
-#[derive(Drop)]
+#[derive(Clone, Copy)]
 pub struct Priority(pub u64);
 
 // A total's part of it.

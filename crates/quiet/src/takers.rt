@@ -15,7 +15,7 @@ use model::money::UnitPrice;
 const HALF: u64 = 9_223_372_036_854_775_808;
 
 // A station that a guest may choose: a total and, below it, how low the station is. The greater is the better one.
-#[derive(Drop)]
+#[derive(Clone, Copy)]
 struct Choice(u64);
 
 // A choice where a priority is not below a bar, else 0. No branch: what passes cannot be foreseen.

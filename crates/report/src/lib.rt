@@ -1,4 +1,6 @@
 // What the clearing program prints, as bytes in a lent buffer.
+#![tactic(auto)]
+
 mod lines;
 mod page;
 mod printing;

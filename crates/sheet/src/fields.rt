@@ -7,31 +7,31 @@ ghost use Rattle.model.specs.sheet.Fields.{little_endian, map_width};
 ghost use Rattle.sheet.specs.Taken.{Taken, HeaderTaken, Whole};
 
 // The place reached in a sheet. One is made at the sheet's start; all others come from it, by what is taken.
-#[derive(Drop)]
+#[derive(Clone, Copy)]
 pub struct Cursor {
     at: usize,
 }
 
 // What the cursor takes, with the place after it.
-#[derive(Drop)]
+#[derive(Clone, Copy)]
 pub struct Short {
     pub value: u16,
     pub next: Cursor,
 }
 
-#[derive(Drop)]
+#[derive(Clone, Copy)]
 pub struct Long {
     pub value: u32,
     pub next: Cursor,
 }
 
-#[derive(Drop)]
+#[derive(Clone, Copy)]
 pub struct Map {
     pub bits: u64,
     pub next: Cursor,
 }
 
-#[derive(Drop)]
+#[derive(Clone, Copy)]
 pub struct Header {
     pub guests: usize,
     pub stations: usize,

@@ -1,5 +1,7 @@
 // Market sheets. The reader: whatever bytes arrive, the market that they state or the refusal of their first fault. The
 // writer: the shortest sheet that states an accepted market.
+#![tactic(auto)]
+
 mod checking;
 mod empties;
 mod fields;

@@ -10,7 +10,7 @@ use crate::{empties, fields};
 use model::refusal::Refusal;
 
 // Where a row, or all rows, end, or their first fault.
-#[derive(Drop)]
+#[derive(Clone, Copy)]
 pub enum Step {
     Next(Cursor),
     Fault(Refusal),

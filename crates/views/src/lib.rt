@@ -1,6 +1,8 @@
 // Document 01's view of the bid table: the lent bids with their row width. Each function over it takes it apart and
 // calls a covered one on the slice and the numbers. Those with plain parameters make the view first, so that whoever
 // calls them needs no proof by hand.
+#![tactic(auto)]
+
 ghost use Rattle.std.specs.Prelude.{◌≡◌};
 ghost use Rattle.model.specs.clauses.Rows.{row_of, bids_of};
 
@@ -33,7 +35,7 @@ fn all(bids: &[u32], width: usize, stations: usize) -> &[u32]
     &bids[0..0]
 }
 
-#[derive(Drop)]
+#[derive(Clone, Copy)]
 pub struct BidTable<'a> {
     pub bids: &'a [u32],
     pub width: usize,

@@ -1,4 +1,6 @@
 // What another row of a guest would have done: both gains, and who becomes seated or unseated.
+#![tactic(auto)]
+
 mod changes;
 mod faults;
 mod gains;

@@ -1,4 +1,6 @@
 // The set bits of a word of 64 bits: how many there are, and the walk over their places from the lowest on.
+#![tactic(auto)]
+
 ghost use Rattle.std.specs.Prelude.{◌≡◌};
 ghost use Rattle.model.specs.Counting.{count as count_of};
 ghost use Rattle.model.specs.sheet.Fields.{has_bit};

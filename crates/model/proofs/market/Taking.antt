@@ -3,7 +3,7 @@ use Prim.Native.Nat.{ℕ, zero, suc, ◌≤◌, ◌<◌}
 use mathlib.Core.Bool.{true, false}
 use mathlib.Core.List.{List, [], ◌∷◌}
 use mathlib.Core.Logic.{◌⊎◌, inl, inr, ⊎_elim}
-use mathlib.Core.Path.{◌≡◌, refl, sym, ap, ◌∙◌}
+use mathlib.Core.Path.{◌≡◌, refl, sym, ap, subst, ◌∙◌}
 use native.Mathlib.Nat.{le_trans, le_antisymm, le_refl}
 use native.Mathlib.Omega.{arith}
 use Rattle.model.specs.Counting.{◌=?◌, ◌and◌, only, count}
@@ -96,7 +96,7 @@ module _ (S : Screened) (a : ℕ → ℕ) (T : Stable S a) where
         (λ h. absurd (let q : suc s ≡ 0 = sym e ∙ sym h.0 ∙ z in omega arith))
         (λ h. let q : suc h.1.0 ≡ suc s = sym h.1.1 ∙ e in
         let same : h.1.0 ≡ s = omega arith in
-        ⊎_elim (λ g. inl (sym same ∙ g.1)) (λ g. inr (rw same at g)) h.1.2)
+        ⊎_elim (λ g. inl (sym same ∙ g.1)) (λ g. inr (subst (λ q. In x.guest q l) same g)) h.1.2)
         (W.seats x.guest lx)
 
     -- where x is not its guest's seat, it stands before it
@@ -117,7 +117,7 @@ module _ (S : Screened) (a : ℕ → ℕ) (T : Stable S a) where
         (λ q. is_eq _ _ (q.0 ∙ e))
         (λ q. let u : suc q.1.0 ≡ suc x.station = sym q.1.1 ∙ e in
         let same : q.1.0 ≡ x.station = omega arith in
-        let w : In k x.station (x ∷ l) = rw same at q.1.2 in
+        let w : In k x.station (x ∷ l) = subst (λ r. In k r (x ∷ l)) same q.1.2 in
         absurd (⊎_elim
         (λ g. sooner_self S x.guest x.station (rw g.0 at b))
         (λ g. sooner_both S k x.station x.guest x.station b (O.0 k x.station g))
