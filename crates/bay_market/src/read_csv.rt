@@ -20,7 +20,7 @@ pub extern "C" fn bay_market_read_csv(
         (lent_tables_in amounts tickets asks bays bids) (n.old, m.old) result
         (lent_tables_out amounts tickets asks bays bids) (n.new, m.new) }
 {
-    let reading = csv::read_csv(text, amounts, tickets, asks, bays, bids);
+    let reading = market_csv::read_csv(text, amounts, tickets, asks, bays, bids);
     match reading {
         Reading::Refused(refusal) => refusal.number(),
         Reading::Read { guests, stations } => {

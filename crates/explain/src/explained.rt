@@ -11,7 +11,7 @@ use model::refusal::Refusal;
 use model::rule::{NamedRule, Rule};
 
 // Of so many guests; beyond them the arrays are open.
-#[derive(Drop)]
+#[derive(Clone, Copy)]
 pub struct OutcomeArrays {
     pub stations: [u16; MAX_GUESTS],
     pub charges: [u32; MAX_GUESTS],

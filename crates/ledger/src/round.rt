@@ -8,7 +8,7 @@ use model::money::Mills;
 use model::refusal::Refusal;
 
 // What a round of so many guests and stations adds to each account, 0 where it adds nothing.
-#[derive(Drop)]
+#[derive(Clone, Copy)]
 pub struct Round {
     pub charges: [u32; MAX_GUESTS],
     pub sold: [u32; MAX_STATIONS],

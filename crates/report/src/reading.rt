@@ -19,6 +19,6 @@ pub fn read_as(
 {
     match layout {
         Layout::Sheet => sheet::read(bytes, amounts, tickets, asks, bays, bids),
-        Layout::Csv => csv::read_csv(bytes, amounts, tickets, asks, bays, bids),
+        Layout::Csv => market_csv::read_csv(bytes, amounts, tickets, asks, bays, bids),
     }
 }

@@ -1,5 +1,5 @@
 -- Laws of the scans over tickets.
-use Prim.Native.Nat.{ℕ, suc, ◌+◌, ◌-◌, ◌≤◌, ◌<◌}
+use Prim.Native.Nat.{zero, ℕ, suc, ◌+◌, ◌-◌, ◌≤◌, ◌<◌}
 use mathlib.Core.Bool.{Bool, true, false, not, ◌||◌}
 use mathlib.Core.List.{List}
 use mathlib.Core.Logic.{⊎_elim}
@@ -45,6 +45,7 @@ rises xs r i k l lk = go k l lk
     next k lk = le_no _ _ (some_no (length xs - 1) (falls_after xs) (not-true _ r) k (omega arith))
 
     go : (k : ℕ) → i < k → k < length xs → get_or xs i 0 < get_or xs k 0
+    go zero l lk = elim l [ ]
     go (suc k) l lk = ⊎_elim
         (λ (e : i ≡ k). rw e (next k (omega arith)))
         (λ (n : i ≡ k → ⊥). omega (arith, go k (omega arith) (omega arith), next k (omega arith)))

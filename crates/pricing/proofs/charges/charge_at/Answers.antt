@@ -1,0 +1,9 @@
+use mathlib.Core.Path.{sym, ◌∙◌}
+use Rattle.model.proofs.Tests.{only_yes, only_no, is_lt, not_lt}
+use Rattle.pricing.proofs.charges.charge_at.Goals as goal
+
+pub returns-then-station-gt0 : goal.returns-then-station-gt0
+returns-then-station-gt0 c = c.larger.ensures ∙ sym (only_yes _ _ (is_lt _ _ c.if-station-gt0.true))
+
+pub returns-else-station-gt0 : goal.returns-else-station-gt0
+returns-else-station-gt0 c = sym (only_no _ _ (not_lt _ _ c.if-station-gt0.false))

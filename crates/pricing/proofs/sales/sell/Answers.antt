@@ -1,0 +1,17 @@
+use native.Mathlib.Omega.{arith}
+use Rattle.model.proofs.Loops.{long, zeros}
+use Rattle.pricing.specs.Sales.{slots}
+use Rattle.pricing.proofs.sales.Sales.{sells}
+use Rattle.pricing.proofs.sales.sell.Goals as goal
+
+pub tally_sales-requires : goal.tally_sales-requires
+tally_sales-requires c =
+    record { stations_len = c.requires.stations_len; by_index = c.requires.by_index; by_index_2 = c.requires.by_index_2; kwh_value = zeros slots }
+
+pub pay_out-requires : goal.pay_out-requires
+pay_out-requires c =
+    (omega (arith, long slots _ c.tally_sales.ensures, c.requires.sold_len_bound.0), c.requires.sold_len_bound.1)
+
+pub returns : goal.returns
+returns c =
+    sells _ _ c.tally_sales.ensures c.requires.sold_len_bound.0 c.pay_out.ensures
