@@ -7,7 +7,7 @@ use mathlib.Core.Path.{◌≡◌, refl, sym, ap, ◌∙◌}
 use native.Mathlib.Nat.{le_refl, eq-or-lt_of_le}
 use native.Mathlib.Omega.{arith}
 use lib.ListN.{get_or, length}
-use Rattle.model.specs.Counting.{◌<?◌, ◌=?◌, ◌and◌, only, count}
+use Rattle.model.specs.Counting.{◌<?◌, ◌=?◌, ◌and◌, only}
 use Rattle.model.specs.claims.Meaning.{Differ}
 use Rattle.model.proofs.Tests.{both, first, second, and_false, same_test, lt_yes, is_lt, not_lt, eq_yes}
 use Rattle.model.proofs.Tests.{is_eq, lt_or_le}
