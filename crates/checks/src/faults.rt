@@ -5,7 +5,8 @@ ghost use Rattle.model.specs.Counting.{◌=?◌, ◌or◌, any};
 ghost use Rattle.model.specs.Numbers.{answer_of_verdict};
 ghost use Rattle.model.specs.Verdicts.{first_fault};
 ghost use Rattle.model.specs.market.Faults.{counts, lengths, values, verdict, table_faults, explained_faults};
-ghost use Rattle.model.specs.clauses.Lent.{tables_in, regular_in, results_in};
+ghost use Rattle.model.specs.clauses.Lent.{tables_in, regular_in};
+ghost use Rattle.model.specs.market.Outcome.{results};
 
 use crate::{scans, tickets};
 use model::answers::Verdict;
@@ -133,7 +134,7 @@ pub fn clearing_fault(
     paid: &[u64],
 ) -> Verdict
     ensures { answer_of_verdict result ≡ first_fault (table_faults
-        (tables_in asks bays amounts tickets bids width) (results_in stations charges sold paid)) }
+        (tables_in asks bays amounts tickets bids width) (results stations.now charges.now sold.now paid.now)) }
 {
     let n = amounts.len();
     let m = asks.len();

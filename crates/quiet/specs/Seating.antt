@@ -1,8 +1,8 @@
 -- The lists that serving guests keeps: seats, slots, last holders and bars. Document 02, request 4.
 use Rattle.std.specs.Prelude.{◌≡◌, ℕ, zero, suc, ◌+◌, ◌-◌, ◌*◌, ◌%◌, ◌^◌, ◌<◌, ◌≤◌, Bool, true, ◌⊎◌, List, length, ◌≢◌, slice_set}
-use Rattle.std.specs.Borrow.{Bor}
+use denote.MutBor.{MutBor}
 use Rattle.model.specs.Counting.{◌<?◌, ◌≤?◌, ◌and◌, only}
-use Rattle.model.specs.clauses.Lent.{Lent}
+use Rattle.model.specs.clauses.Lent.{MutLent}
 use Rattle.model.specs.market.Market.{Tables, Screened}
 use Rattle.model.specs.market.Mechanism.{best}
 use Rattle.allocation.specs.Screens.{screened_at}
@@ -147,11 +147,11 @@ seating chosen held firsts nexts lasts befores bars = record {
   bars = bars;
 }
 
-abbrev pub seating_of : (chosen held firsts nexts lasts befores bars : Bor (List ℕ)) → Seating
+abbrev pub seating_of : (chosen held firsts nexts lasts befores bars : MutBor (List ℕ)) → Seating
 seating_of chosen held firsts nexts lasts befores bars =
     seating chosen.now held.now firsts.now nexts.now lasts.now befores.now bars.now
 
-abbrev pub seating_out : (chosen held firsts nexts lasts befores bars : Lent (List ℕ)) → Seating
+abbrev pub seating_out : (chosen held firsts nexts lasts befores bars : MutLent (List ℕ)) → Seating
 seating_out chosen held firsts nexts lasts befores bars =
     seating_of chosen.exit held.exit firsts.exit nexts.exit lasts.exit befores.exit bars.exit
 
