@@ -10,20 +10,26 @@ use Rattle.sheet.proofs.write.Goals as goal
 pub sheet_length-length-requires : goal.sheet_length-length-requires
 unfolding answer_of_verdict
 sheet_length-length-requires c =
-    let is_accepted : verdict (tables c.args.asks.now c.args.bays.now c.args.amounts.now c.args.tickets.now c.args.bids.now c.args.width) ≡ accepted tt = sym (told c.in-Accepted.is c.market_fault.ensures) in
+    let is_accepted : verdict
+    (tables c.args.asks.now c.args.bays.now c.args.amounts.now c.args.tickets.now c.args.bids.now c.args.width) ≡
+    accepted tt = sym (told c.in-Accepted.is c.market_fault.ensures) in
     shaped _ _ _ _ _ _ c.args.out.now _ (is_accepted) c.bids_through_view-table.ensures
 
 pub returns-then-out-length : goal.returns-then-out-length
 unfolding answer_of_verdict
 returns-then-out-length c =
-    let is_accepted : verdict (tables c.args.asks.now c.args.bays.now c.args.amounts.now c.args.tickets.now c.args.bids.now c.args.width) ≡ accepted tt = sym (told c.in-Accepted.is c.market_fault.ensures) in
+    let is_accepted : verdict
+    (tables c.args.asks.now c.args.bays.now c.args.amounts.now c.args.tickets.now c.args.bids.now c.args.width) ≡
+    accepted tt = sym (told c.in-Accepted.is c.market_fault.ensures) in
     refuses_short _ _ _ _ _ _ _ _ (is_accepted) c.bids_through_view-table.ensures
     c.sheet_length-length.ensures c.if-out-length.true
 
 pub put_sheet-requires : goal.put_sheet-requires
 unfolding answer_of_verdict
 put_sheet-requires c =
-    let is_accepted : verdict (tables c.args.asks.now c.args.bays.now c.args.amounts.now c.args.tickets.now c.args.bids.now c.args.width) ≡ accepted tt = sym (told c.in-Accepted.is c.market_fault.ensures) in (
+    let is_accepted : verdict
+    (tables c.args.asks.now c.args.bays.now c.args.amounts.now c.args.tickets.now c.args.bids.now c.args.width) ≡
+    accepted tt = sym (told c.in-Accepted.is c.market_fault.ensures) in (
       shaped _ _ _ _ _ _ c.args.out.now _ (is_accepted) c.bids_through_view-table.ensures,
       rw c.sheet_length-length.ensures at c.if-out-length.false,
     )
@@ -36,6 +42,8 @@ returns-in-Refused c =
 pub returns-else-out-length : goal.returns-else-out-length
 unfolding answer_of_verdict
 returns-else-out-length c =
-    let is_accepted : verdict (tables c.args.asks.now c.args.bays.now c.args.amounts.now c.args.tickets.now c.args.bids.now c.args.width) ≡ accepted tt = sym (told c.in-Accepted.is c.market_fault.ensures) in
+    let is_accepted : verdict
+    (tables c.args.asks.now c.args.bays.now c.args.amounts.now c.args.tickets.now c.args.bids.now c.args.width) ≡
+    accepted tt = sym (told c.in-Accepted.is c.market_fault.ensures) in
     writes _ _ _ _ _ _ _ _ (is_accepted) c.bids_through_view-table.ensures
     c.sheet_length-length.ensures c.if-out-length.false c.put_sheet.ensures

@@ -11,7 +11,8 @@ use Rattle.sheet.proofs.filling.fill_all.Given as goal
 abbrev pub invariant-loop-j : goal.invariant-loop-j
 invariant-loop-j l =
     (l.j ≤ l.stations) × (l.d.at ≡ l.initial.d.at + 4 * l.j)
-    × Filled (take l.base l.initial.bids ++ list l.j (λ k. little_endian l.s (l.initial.d.at + 4 * k) 4)) l.initial.bids l.bids
+    × Filled (take l.base l.initial.bids ++ list l.j (λ k. little_endian l.s (l.initial.d.at + 4 * k) 4)) l.initial.bids
+    l.bids
 
 abbrev pub decreases-loop-j : goal.decreases-loop-j
 decreases-loop-j l = l.stations - l.j

@@ -9,13 +9,15 @@ use Rattle.sheet.proofs.filling.fill_row.Goals as goal
 
 pub fill_all-requires : goal.fill_all-requires
 fill_all-requires c =
-    let full : count c.args.stations (has_bit c.args.bits) ≡ c.args.stations = sym (count_narrow _ _ (omega arith) c.requires.1)
+    let full : count c.args.stations (has_bit c.args.bits) ≡ c.args.stations =
+    sym (count_narrow _ _ (omega arith) c.requires.1)
     ∙ sym c.count.ensures ∙ c.if-count-stations.true in
     (omega (arith, full), omega arith)
 
 pub returns-then-count-stations : goal.returns-then-count-stations
 returns-then-count-stations c =
-    let full : count c.args.stations (has_bit c.args.bits) ≡ c.args.stations = sym (count_narrow _ _ (omega arith) c.requires.1)
+    let full : count c.args.stations (has_bit c.args.bits) ≡ c.args.stations =
+    sym (count_narrow _ _ (omega arith) c.requires.1)
     ∙ sym c.count.ensures ∙ c.if-count-stations.true in
     let f = full in
     record {

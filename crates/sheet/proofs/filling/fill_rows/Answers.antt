@@ -17,28 +17,32 @@ loop-i-init c =
 
 pub two-amount-requires : goal.two-amount-requires
 two-amount-requires c =
-    let sound : RowSound c.args.s.now c.args.stations c.loop-i.d.at = sound_at _ _ _ _ _ c.requires.2 c.loop-i-test.true c.loop-i.invariant.1 in
-    omega (arith, (sound).map_in, bids_at_lem c.args.stations c.loop-i.d.at)
+    let sound : RowSound c.args.s.now c.args.stations c.loop-i.d.at =
+    sound_at _ _ _ _ _ c.requires.2 c.loop-i-test.true c.loop-i.invariant.1 in
+    omega (arith, sound.map_in, bids_at_lem c.args.stations c.loop-i.d.at)
 
 pub four-ticket-requires : goal.four-ticket-requires
 four-ticket-requires c =
-    let sound : RowSound c.args.s.now c.args.stations c.loop-i.d.at = sound_at _ _ _ _ _ c.requires.2 c.loop-i-test.true c.loop-i.invariant.1 in
+    let sound : RowSound c.args.s.now c.args.stations c.loop-i.d.at =
+    sound_at _ _ _ _ _ c.requires.2 c.loop-i-test.true c.loop-i.invariant.1 in
     omega (
       arith,
       c.two-amount.ensures.place,
-      (sound).map_in,
+      sound.map_in,
       bids_at_lem c.args.stations c.loop-i.d.at,
     )
 
 pub map-map-requires : goal.map-map-requires
 map-map-requires c =
-    let map_place : c.four-ticket.result.next.at ≡ c.loop-i.d.at + 6 = omega (arith, c.four-ticket.ensures.place, c.two-amount.ensures.place) in
-    let sound : RowSound c.args.s.now c.args.stations c.loop-i.d.at = sound_at _ _ _ _ _ c.requires.2 c.loop-i-test.true c.loop-i.invariant.1 in (
+    let map_place : c.four-ticket.result.next.at ≡ c.loop-i.d.at + 6 =
+    omega (arith, c.four-ticket.ensures.place, c.two-amount.ensures.place) in
+    let sound : RowSound c.args.s.now c.args.stations c.loop-i.d.at =
+    sound_at _ _ _ _ _ c.requires.2 c.loop-i-test.true c.loop-i.invariant.1 in (
       omega arith,
       omega (
         arith,
         map_place,
-        (sound).map_in,
+        sound.map_in,
         bids_at_lem c.args.stations c.loop-i.d.at,
       ),
     )
@@ -55,13 +59,16 @@ overflow_mul-i c =
 
 pub fill_row-d-requires : goal.fill_row-d-requires
 fill_row-d-requires c =
-    let map_place : c.four-ticket.result.next.at ≡ c.loop-i.d.at + 6 = omega (arith, c.four-ticket.ensures.place, c.two-amount.ensures.place) in
-    let sound : RowSound c.args.s.now c.args.stations c.loop-i.d.at = sound_at _ _ _ _ _ c.requires.2 c.loop-i-test.true c.loop-i.invariant.1 in
-    let taken : MapTaken c.args.s.now c.args.stations c.loop-i.d.at c.map-map.result.bits c.map-map.result.next.at = map_taken _ _ _ c.four-ticket.result.next.at _ _ (map_place)
+    let map_place : c.four-ticket.result.next.at ≡ c.loop-i.d.at + 6 =
+    omega (arith, c.four-ticket.ensures.place, c.two-amount.ensures.place) in
+    let sound : RowSound c.args.s.now c.args.stations c.loop-i.d.at =
+    sound_at _ _ _ _ _ c.requires.2 c.loop-i-test.true c.loop-i.invariant.1 in
+    let taken : MapTaken c.args.s.now c.args.stations c.loop-i.d.at c.map-map.result.bits c.map-map.result.next.at =
+    map_taken _ _ _ c.four-ticket.result.next.at _ _ map_place
     (omega (
       arith,
       map_place,
-      (sound).map_in,
+      sound.map_in,
       bids_at_lem c.args.stations c.loop-i.d.at,
     )) c.map-map.ensures in
     let t = taken in
@@ -75,13 +82,16 @@ fill_row-d-requires c =
 pub loop-i-preserved : goal.loop-i-preserved
 unfolding amount_of ticket_of
 loop-i-preserved c =
-    let map_place : c.four-ticket.result.next.at ≡ c.loop-i.d.at + 6 = omega (arith, c.four-ticket.ensures.place, c.two-amount.ensures.place) in
-    let sound : RowSound c.args.s.now c.args.stations c.loop-i.d.at = sound_at _ _ _ _ _ c.requires.2 c.loop-i-test.true c.loop-i.invariant.1 in
-    let taken : MapTaken c.args.s.now c.args.stations c.loop-i.d.at c.map-map.result.bits c.map-map.result.next.at = map_taken _ _ _ c.four-ticket.result.next.at _ _ (map_place)
+    let map_place : c.four-ticket.result.next.at ≡ c.loop-i.d.at + 6 =
+    omega (arith, c.four-ticket.ensures.place, c.two-amount.ensures.place) in
+    let sound : RowSound c.args.s.now c.args.stations c.loop-i.d.at =
+    sound_at _ _ _ _ _ c.requires.2 c.loop-i-test.true c.loop-i.invariant.1 in
+    let taken : MapTaken c.args.s.now c.args.stations c.loop-i.d.at c.map-map.result.bits c.map-map.result.next.at =
+    map_taken _ _ _ c.four-ticket.result.next.at _ _ map_place
     (omega (
       arith,
       map_place,
-      (sound).map_in,
+      sound.map_in,
       bids_at_lem c.args.stations c.loop-i.d.at,
     )) c.map-map.ensures in
     let turn = c.loop-i-test.true in

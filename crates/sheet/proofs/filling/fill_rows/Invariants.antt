@@ -9,7 +9,8 @@ use Rattle.sheet.proofs.filling.fill_rows.Given as goal
 -- for each row is sound.
 abbrev pub invariant-loop-i : goal.invariant-loop-i
 invariant-loop-i l =
-    (l.i ≤ l.guests) × (l.d.at ≡ row_at l.s l.stations l.i) × Filled (list l.i (amount_of l.s l.stations)) l.initial.amounts l.amounts
+    (l.i ≤ l.guests) × (l.d.at ≡ row_at l.s l.stations l.i)
+    × Filled (list l.i (amount_of l.s l.stations)) l.initial.amounts l.amounts
     × Filled (list l.i (ticket_of l.s l.stations)) l.initial.tickets l.tickets
     × Filled (joined l.i (λ k. list l.stations (bid_of l.s l.stations k))) l.initial.bids l.bids
 

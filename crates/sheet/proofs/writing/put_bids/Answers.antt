@@ -9,12 +9,16 @@ use Rattle.sheet.proofs.writing.put_bids.Goals as goal
 
 pub put_all-requires : goal.put_all-requires
 put_all-requires c =
-    let full : let row = c.args.row.now in bid_fields (length row) (bid_in row) ≡ joined (length row) (λ j. bytes_of 4 (bid_in row j)) = all_fields _ _ c.requires.map_value.0 (omega (arith, c.requires.row_len_bound))
+    let row = c.args.row.now in
+    let full : bid_fields (length row) (bid_in row) ≡ joined (length row) (λ j. bytes_of 4 (bid_in row j)) =
+    all_fields _ _ c.requires.map_value.0 (omega (arith, c.requires.row_len_bound))
     (sym c.count.ensures ∙ c.if-count-row.true) in
-    rw (full) at c.requires.map_value.1
+    rw full at c.requires.map_value.1
 
 pub returns-then-count-row : goal.returns-then-count-row
 returns-then-count-row c =
-    let full : let row = c.args.row.now in bid_fields (length row) (bid_in row) ≡ joined (length row) (λ j. bytes_of 4 (bid_in row j)) = all_fields _ _ c.requires.map_value.0 (omega (arith, c.requires.row_len_bound))
+    let row = c.args.row.now in
+    let full : bid_fields (length row) (bid_in row) ≡ joined (length row) (λ j. bytes_of 4 (bid_in row j)) =
+    all_fields _ _ c.requires.map_value.0 (omega (arith, c.requires.row_len_bound))
     (sym c.count.ensures ∙ c.if-count-row.true) in
-    rw (full) c.put_all.ensures
+    rw full c.put_all.ensures

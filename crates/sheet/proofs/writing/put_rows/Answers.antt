@@ -16,7 +16,8 @@ bounds-tickets-i c =
 
 pub put_row-p-requires : goal.put_row-p-requires
 put_row-p-requires c =
-    let whole : (c.loop-i.i + 1) * c.args.stations ≤ length c.args.bids.now = omega (arith, c.requires.2, mul-le-mul_right c.args.stations c.loop-i-test.true) in
+    let whole : (c.loop-i.i + 1) * c.args.stations ≤ length c.args.bids.now =
+    omega (arith, c.requires.2, mul-le-mul_right c.args.stations c.loop-i-test.true) in
     let e = c.row_through_view-row.ensures in (
       rw (e, row_long _ _ _ (whole)) c.requires.0,
       rw (row_shown _ _ _ _ _ (whole) e)
@@ -25,7 +26,8 @@ put_row-p-requires c =
 
 pub loop-i-preserved : goal.loop-i-preserved
 loop-i-preserved c =
-    let whole : (c.loop-i.i + 1) * c.args.stations ≤ length c.args.bids.now = omega (arith, c.requires.2, mul-le-mul_right c.args.stations c.loop-i-test.true) in
+    let whole : (c.loop-i.i + 1) * c.args.stations ≤ length c.args.bids.now =
+    omega (arith, c.requires.2, mul-le-mul_right c.args.stations c.loop-i-test.true) in
     let e = c.row_through_view-row.ensures in
     listing_more c.loop-i.invariant c.loop-i-test.true
     (rw (row_shown _ _ _ _ _ (whole) e) at c.put_row-p.ensures)

@@ -10,12 +10,14 @@ loop-left-init c =
 
 pub overflow_mul-map : goal.overflow_mul-map
 overflow_mul-map c =
-    let low : c.loop-left.map < 1099511627776 = map_fits _ (bid_in c.args.row.now) _ _ c.requires c.loop-left.invariant.1 in
+    let low : c.loop-left.map < 1099511627776 =
+    map_fits _ (bid_in c.args.row.now) _ _ c.requires c.loop-left.invariant.1 in
     omega (arith, low)
 
 pub overflow_add-map : goal.overflow_add-map
 overflow_add-map c =
-    let low : c.loop-left.map < 1099511627776 = map_fits _ (bid_in c.args.row.now) _ _ c.requires c.loop-left.invariant.1 in
+    let low : c.loop-left.map < 1099511627776 =
+    map_fits _ (bid_in c.args.row.now) _ _ c.requires c.loop-left.invariant.1 in
     omega (arith, low, bit_low _ c.bit.ensures)
 
 pub loop-left-preserved : goal.loop-left-preserved

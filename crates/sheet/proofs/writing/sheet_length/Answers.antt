@@ -22,7 +22,8 @@ overflow_add-result c = omega (arith, c.requires.stations_most)
 
 pub overflow_mul-result-2 : goal.overflow_mul-result-2
 overflow_mul-result-2 c =
-    let heads_low : length c.args.amounts.now * (6 + c.map_width-row.result) ≤ 2200 = rw (← c.map_width-row.ensures) at (sizes _ c.requires).heads_low in
+    let heads_low : length c.args.amounts.now * (6 + c.map_width-row.result) ≤ 2200 =
+    rw (← c.map_width-row.ensures) at (sizes _ c.requires).heads_low in
     omega (arith, heads_low)
 
 pub count_bids-requires : goal.count_bids-requires
@@ -30,8 +31,10 @@ count_bids-requires c = (sizes _ c.requires).bids_low
 
 pub overflow_add-result-2 : goal.overflow_add-result-2
 overflow_add-result-2 c =
-    let heads_low : length c.args.amounts.now * (6 + c.map_width-row.result) ≤ 2200 = rw (← c.map_width-row.ensures) at (sizes _ c.requires).heads_low in
-    let bids_low : let bids = c.args.bids.now in count (length bids) (λ k. 0 <? get_or bids k 0) ≤ max_bids = let bids = c.args.bids.now in
+    let heads_low : length c.args.amounts.now * (6 + c.map_width-row.result) ≤ 2200 =
+    rw (← c.map_width-row.ensures) at (sizes _ c.requires).heads_low in
+    let bids_low : let bids = c.args.bids.now in count (length bids) (λ k. 0 <? get_or bids k 0) ≤ max_bids = let bids =
+    c.args.bids.now in
     omega (
       arith,
       count_most (length bids) (λ k. 0 <? get_or bids k 0),
@@ -41,8 +44,10 @@ overflow_add-result-2 c =
 
 pub overflow_add-result-3 : goal.overflow_add-result-3
 overflow_add-result-3 c =
-    let heads_low : length c.args.amounts.now * (6 + c.map_width-row.result) ≤ 2200 = rw (← c.map_width-row.ensures) at (sizes _ c.requires).heads_low in
-    let bids_low : let bids = c.args.bids.now in count (length bids) (λ k. 0 <? get_or bids k 0) ≤ max_bids = let bids = c.args.bids.now in
+    let heads_low : length c.args.amounts.now * (6 + c.map_width-row.result) ≤ 2200 =
+    rw (← c.map_width-row.ensures) at (sizes _ c.requires).heads_low in
+    let bids_low : let bids = c.args.bids.now in count (length bids) (λ k. 0 <? get_or bids k 0) ≤ max_bids = let bids =
+    c.args.bids.now in
     omega (
       arith,
       count_most (length bids) (λ k. 0 <? get_or bids k 0),
