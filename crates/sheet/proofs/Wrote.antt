@@ -8,8 +8,8 @@ use native.Mathlib.Numerals.{add-one}
 use native.Mathlib.Omega.{arith}
 use lib.ListN.{get_or, length, set, take, drop, length-set, length-append, length-take, length-drop, get_or-append}
 use lib.ListN.{drop_of_length-le}
-use lib.Seq.{take_all, take-suc, get_or-set_same, get_or-set_other, get_or-append-add, get_or-take, get_or-drop, ext_get_or}
-use lib.Seq.{paste}
+use lib.Seq.{take_all, take-suc, get_or-set_same, get_or-set_other, get_or-append-add, get_or-take, get_or-drop}
+use lib.Seq.{ext_get_or, paste}
 use Rattle.model.specs.Counting.{joined}
 use Rattle.model.proofs.Tests.{lt_or_le}
 use Rattle.sheet.specs.Wrote.{Wrote}
@@ -22,8 +22,10 @@ wrote_none l p =
 pub wrote_byte : (l : List ℕ) (p b : ℕ) → p < length l → Wrote l p (b ∷ []) (set l p b) (p + 1)
 wrote_byte l p b h = record {
   same = length-set l p b;
-  here =
-      λ k a c. let e : k ≡ 0 = omega arith in rw e (let z : p + 0 ≡ p = omega arith in rw z (get_or-set_same l p b 0 h));
+  here = λ k a c.
+      let e : k ≡ 0 = omega arith in
+      let z : p + 0 ≡ p = omega arith in
+      rw e (rw z (get_or-set_same l p b 0 h));
   low = λ k a. get_or-set_other l p k b 0 (λ e. omega arith);
   high = λ k a. get_or-set_other l p k b 0 (λ e. omega arith);
   next = refl;

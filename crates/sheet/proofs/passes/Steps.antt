@@ -25,6 +25,7 @@ unfolding answer_of_step
 told_next v p c r e f = let (a, b) = gave_accepted v p c.at (sym e ∙ ap answer_of_step f) in (a, sym b)
 
 pub told_fault :
-    (v : Verdict) (p : ℕ) (x : Refusal) (r : Step) → answer_of_step r ≡ giving v p → r ≡ Fault x → v ≡ refused (number x)
+    (v : Verdict) (p : ℕ) (x : Refusal) (r : Step) → answer_of_step r ≡ giving v p → r ≡ Fault x
+    → v ≡ refused (number x)
 unfolding answer_of_step
 told_fault v p x r e f = gave_refused v p _ (sym e ∙ ap answer_of_step f)

@@ -36,7 +36,8 @@ sheet_parts asks bays amounts tickets bids =
 pub sheet_parts_lem :
     (asks bays amounts tickets bids : List ℕ)
     → shortest (regular asks bays amounts tickets bids) ≡ sheet_parts asks bays amounts tickets bids
-unfolding shortest layout station row bidden bid_at station_of station_bytes row_of row_bytes row_map bid_fields bid_field
+unfolding shortest layout station row bidden bid_at station_of station_bytes row_of row_bytes row_map bid_fields
+    bid_field
 sheet_parts_lem asks bays amounts tickets bids = refl
 
 -- the row that the view of the bids shows of guest i, laid out

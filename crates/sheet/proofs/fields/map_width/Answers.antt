@@ -1,0 +1,6 @@
+use borrow.Author.Rules.{rules}
+use Rattle.model.specs.sheet.Fields.{map_width}
+use Rattle.sheet.proofs.fields.map_width.Goals as goal
+
+pub returns : goal.returns
+returns c = unfold map_width in search rules
