@@ -7,7 +7,7 @@ ghost use Rattle.model.specs.claims.Meaning.{WithinLimits};
 ghost use Rattle.model.specs.Limits.{max_guests, max_stations};
 ghost use Rattle.quiet.specs.Efficient.{of, stated, Listed, best_taker, Moved};
 ghost use Rattle.quiet.specs.Seating.{Linked, LaterOf, LastOf, Closed, Relinked, HeldIn, Waits};
-ghost use Rattle.quiet.specs.Seating.{seating_of, seating_out};
+ghost use Rattle.quiet.specs.Seating.{seating, seating_of, seating_out};
 
 use crate::standing;
 use model::money::UnitPrice;
@@ -202,13 +202,13 @@ fn replace(
 ) -> usize
     requires within_limits { WithinLimits (regular_of asks bays amounts tickets bids) }
     requires held_in { HeldIn (regular_of asks bays amounts tickets bids) cut.0
-        (seating_of chosen held firsts nexts lasts befores bars) }
+        (seating chosen.old held.now firsts.old nexts.old lasts.old befores.old bars.old) }
     requires waits { Waits (regular_of asks bays amounts tickets bids) chosen.old x }
     requires s_value { (s ≡ suc j) × (best_taker (screened_at (regular_of asks bays amounts tickets bids) cut.0)
         (of held.now) (of lasts.old) x ≡ suc j) }
     requires j_bound { of bays.now j ≤ of held.now j }
     ensures { let t = regular_in asks bays amounts tickets bids in
-        HeldIn t cut.0 (seating_out chosen held firsts nexts lasts befores bars)
+        HeldIn t cut.0 (seating chosen.new held.now firsts.new nexts.new lasts.new befores.new bars.new)
         × Moved (screened_at t cut.0) x (of chosen.old) result (of chosen.new) }
 {
     let y = lasts[j] as usize;

@@ -12,9 +12,9 @@ mod writing;
 
 ghost use Rattle.std.specs.Prelude.{◌≡◌};
 ghost use Rattle.model.specs.Verdicts.{◌gives◌};
-ghost use Rattle.model.specs.sheet.Lent.{table_lengths, lent_tables};
+ghost use Rattle.model.specs.sheet.Lent.{table_lengths};
 ghost use Rattle.model.specs.clauses.EntryPoints.{Reads, Writes};
-ghost use Rattle.model.specs.clauses.Lent.{tables_in};
+ghost use Rattle.model.specs.clauses.Lent.{tables_in, lent_tables_in, lent_tables_out};
 
 use crate::fields::Cursor;
 use checks::faults;
@@ -47,8 +47,8 @@ pub fn read(
     bays: &mut [u16],
     bids: &mut [u32],
 ) -> Reading
-    ensures { Reads sheet.now (lent_tables amounts.old tickets.old asks.old bays.old bids.old) result
-        (lent_tables amounts.new tickets.new asks.new bays.new bids.new) }
+    ensures { Reads sheet.now (lent_tables_in amounts tickets asks bays bids) result
+        (lent_tables_out amounts tickets asks bays bids) }
 {
     if table_lengths_differ(
         amounts.len(),

@@ -1,6 +1,6 @@
 -- Seats that are given and taken keep what is known of the holders.
 use Rattle.std.proofs.Common.{◌≡◌, ℕ, suc, ◌+◌, ◌<◌, ◌≤◌, true, false, ◌⊎◌, sym, refl, ap, ◌∙◌, inl, inr, ⊎_elim, arith}
-use Rattle.model.specs.Counting.{◌=?◌, ◌and◌, ◌or◌, only}
+use Rattle.model.specs.Counting.{◌=?◌, ◌and◌, only}
 use Rattle.model.specs.market.Market.{Screened}
 use Rattle.model.specs.market.Stable.{sooner}
 use Rattle.model.proofs.Tests.{both, first, second, or_no, only_yes, only_no, only_le, le_only, is_eq, not_eq, eq_yes}

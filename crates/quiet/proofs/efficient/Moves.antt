@@ -1,7 +1,7 @@
 -- A move keeps what is known of those served, fewer hopes are left after it, and the end is stable.
 use Rattle.std.proofs.Common.{◌≡◌, ℕ, suc, ◌<◌, ◌≤◌, true, false, not, ◌⊎◌, sym, refl, ap, ◌∙◌, inl, inr, ⊎_elim, le_trans, le_refl, arith}
 use borrow.Author.Tests.{not-true}
-use Rattle.model.specs.Counting.{◌<?◌, ◌and◌, ◌or◌}
+use Rattle.model.specs.Counting.{◌<?◌, ◌and◌}
 use Rattle.model.specs.market.Market.{Screened}
 use Rattle.model.specs.market.Stable.{sooner, before_seat, turned_away, Stable}
 use Rattle.model.proofs.Tests.{decide, clash, both, first, second, or_cases, lt_yes, eq_yes, eq_or_ne}

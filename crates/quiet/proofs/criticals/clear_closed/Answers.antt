@@ -1,4 +1,4 @@
-use Rattle.std.proofs.Common.{◌+◌, ◌-◌, ap, ◌∙◌, arith}
+use Rattle.std.proofs.Common.{◌+◌, ap, ◌∙◌, arith}
 use Rattle.model.specs.Counting.{only}
 use Rattle.quiet.proofs.criticals.Renewed.{renewed_none, renewed_turn, renewed_next, renewed_end}
 use Rattle.quiet.proofs.criticals.clear_closed.Goals as goal

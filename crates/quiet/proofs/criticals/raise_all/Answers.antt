@@ -1,4 +1,4 @@
-use Rattle.std.proofs.Common.{◌-◌, arith}
+use Rattle.std.proofs.Common.{arith}
 use Rattle.model.proofs.Loops.{long}
 use Rattle.quiet.proofs.criticals.Criticals.{passed_none, passed_room, passed_turn, passed_end}
 use Rattle.quiet.proofs.criticals.raise_all.Goals as goal

@@ -1,4 +1,4 @@
-use Rattle.std.proofs.Common.{◌-◌, ◌≤◌, ◌∙◌, arith}
+use Rattle.std.proofs.Common.{◌≤◌, ◌∙◌, arith}
 use Rattle.allocation.specs.Totals.{max_total}
 use Rattle.quiet.proofs.criticals.Renewed.{renewed_none, renewed_next, renewed_end}
 use Rattle.quiet.proofs.criticals.Ranks.{total_from_low}

@@ -1,4 +1,4 @@
-use Rattle.std.proofs.Common.{◌-◌, ◌<◌, length, arith}
+use Rattle.std.proofs.Common.{◌<◌, length, arith}
 use Rattle.quiet.proofs.opening.Opening.{open_none, joined_turn, open_end}
 use Rattle.quiet.proofs.opening.open_stations.Goals as goal
 use mathlib.Core.Logic.{inl, inr}
@@ -26,7 +26,7 @@ pub loop-j-preserved : goal.loop-j-preserved
 loop-j-preserved c =
     let room : c.loop-j.k < length c.args.opened.now = omega (arith, c.loop-j.invariant.few, c.loop-j-test.true, c.requires) in
     joined_turn c.loop-j.invariant c.loop-j-test.true (room) c.below.ensures
-    (elim c.if-below.branch [ then-below w ↦ inl ((w.if-below.true, w.1, w.2)) | else-below w ↦ inr ((w.if-below.false, w.1, w.2)) ])
+    (elim c.if-below.branch [ then-below w ↦ inl (w.if-below.true, w.opened-is, w.k-is) | else-below w ↦ inr (w.if-below.false, w.opened-is, w.k-is) ])
 
 pub returns : goal.returns
 returns c =

@@ -1,4 +1,4 @@
-use Rattle.std.proofs.Common.{◌-◌, length, sym, ◌∙◌, arith}
+use Rattle.std.proofs.Common.{length, sym, ◌∙◌, arith}
 use native.Mathlib.Nat.{zero-sub}
 use Rattle.quiet.proofs.line.Line.{line_as_long}
 use Rattle.quiet.proofs.service.Service.{all_called_none, all_called_turn, all_called_end}

@@ -1,4 +1,4 @@
-use Rattle.std.proofs.Common.{ℕ, ◌-◌, ◌<◌, length, refl, arith}
+use Rattle.std.proofs.Common.{ℕ, ◌<◌, length, refl, arith}
 use Rattle.model.specs.market.Market.{regular}
 use Rattle.allocation.specs.Screens.{screened_at}
 use Rattle.quiet.specs.Efficient.{of}
