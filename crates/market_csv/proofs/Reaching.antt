@@ -1,5 +1,5 @@
 -- The next place that is reached: after a digit, after a run of digits, after a comma and after a line end.
-use Rattle.std.proofs.Common.{◌≡◌, ℕ, zero, suc, ◌+◌, ◌-◌, ◌<◌, ◌≤◌, true, false, ◌⊎◌, List, ◌∷◌, length, get_or, drop, refl, ap, ◌∙◌, ⊎_elim, arith, drop-cons}
+use Rattle.std.proofs.Common.{◌≡◌, ℕ, zero, suc, ◌+◌, ◌<◌, ◌≤◌, true, false, List, ◌∷◌, length, get_or, drop, refl, ap, ◌∙◌, ⊎_elim, arith, drop-cons}
 use Rattle.model.specs.Limits.{max_stations}
 use Rattle.model.specs.Counting.{◌<?◌, ◌≤?◌, ◌=?◌, ◌and◌, ◌or◌, only}
 use Rattle.model.specs.Verdicts.{accepted, first_fault}
