@@ -1,4 +1,3 @@
--- The rule is tested once over the whole table, and carried to each entry.
 use Prim.Native.Nat.{ℕ, ◌+◌, ◌*◌}
 use mathlib.Core.Bool.{Bool, true}
 use mathlib.Core.List.{List}
@@ -12,9 +11,9 @@ use Rattle.model.proofs.Tests.{first, second, le_yes, lt_yes}
 use Rattle.model.proofs.Loops.{is_list}
 use Rattle.model.proofs.places.Walks.{walk_is}
 use Rattle.grid.proofs.TableRule.{every, at_each}
-use Rattle.grid.proofs.walk_table.walks.Statement.{statement}
-use Rattle.grid.proofs.walk_table.walks.Tie as tie
+use Rattle.grid.proofs.walk_table.walks.Goals as goal
 
+-- The rule is tested once over the whole table, and carried to each entry.
 -- d is the walk for q
 right : ℕ → ℕ → Bool
 right q d = d * d ≤? 100 * q and 100 * q <? (d + 1) * (d + 1)
@@ -29,9 +28,6 @@ are_walks :
 are_walks table long e =
     is_list (max_squared_distance + 1) walk table long (λ q l. is_walk q _ (at_each right table e q (omega arith)))
 
-returns : tie.Need-returns
+pub returns : goal.returns
 unfolding every right ◌and◌ ◌≤?◌ ◌<?◌
 returns c = are_walks _ refl refl
-
-pub walks_spec : {M : Type 1} → statement M
-walks_spec = tie.close (tie.spec returns)
