@@ -15,7 +15,8 @@ unfolding answer_of_verdict
 place_rows-requires c =
     let places_at : Places = places c.args.prices.now c.args.falls.now c.args.guest_first.now c.args.guest_second.now
     c.args.station_first.now c.args.station_second.now in
-    let is_accepted : first_fault (placing_faults (places_at) (length c.args.bids.now)) ≡ accepted tt = sym (told c.in-Accepted.is c.placing_fault.ensures) in
+    let is_accepted : first_fault (placing_faults (places_at) (length c.args.bids.now)) ≡ accepted tt =
+    sym (told c.in-Accepted.is c.placing_fault.ensures) in
     (placing_accepted_iff_within_limits _ _).0 (is_accepted)
 
 pub returns-in-Refused : goal.returns-in-Refused
@@ -28,5 +29,6 @@ unfolding placing answer_of_verdict
 returns-in-Accepted c =
     let places_at : Places = places c.args.prices.now c.args.falls.now c.args.guest_first.now c.args.guest_second.now
     c.args.station_first.now c.args.station_second.now in
-    let is_accepted : first_fault (placing_faults (places_at) (length c.args.bids.now)) ≡ accepted tt = sym (told c.in-Accepted.is c.placing_fault.ensures) in
+    let is_accepted : first_fault (placing_faults (places_at) (length c.args.bids.now)) ≡ accepted tt =
+    sym (told c.in-Accepted.is c.placing_fault.ensures) in
     keeps_accepted (is_accepted) refl c.place_rows.ensures

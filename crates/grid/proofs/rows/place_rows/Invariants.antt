@@ -7,7 +7,8 @@ use Rattle.grid.proofs.rows.place_rows.Given as goal
 -- The loop: the rows of the first i guests are written.
 abbrev pub invariant-loop-i : goal.invariant-loop-i
 invariant-loop-i l =
-    RowsPlaced (places l.prices l.falls l.guest_first l.guest_second l.station_first l.station_second) l.initial.bids l.bids l.i
+    RowsPlaced (places l.prices l.falls l.guest_first l.guest_second l.station_first l.station_second) l.initial.bids
+    l.bids l.i
 
 abbrev pub decreases-loop-i : goal.decreases-loop-i
 decreases-loop-i l =

@@ -19,7 +19,8 @@ returns-then-stations_differ c =
     c.args.bids.now c.args.width in
     let second : Tables = tables c.args.asks2.now c.args.bays2.now c.args.amounts2.now c.args.tickets2.now
     c.args.bids2.now c.args.width2 in
-    let own_accepted : first_fault (market_faults (first) ++ market_faults (second)) ≡ accepted tt = sym (told c.in-Accepted.is c.own_fault.ensures) in
+    let own_accepted : first_fault (market_faults (first) ++ market_faults (second)) ≡ accepted tt =
+    sym (told c.in-Accepted.is c.own_fault.ensures) in
     sym (fault_second _ _ (own_accepted)
     ∙ fault_here _ (sym c.stations_differ.ensures ∙ c.if-stations_differ.true))
 
@@ -30,7 +31,8 @@ overflow_add-n c =
     c.args.bids.now c.args.width in
     let second : Tables = tables c.args.asks2.now c.args.bays2.now c.args.amounts2.now c.args.tickets2.now
     c.args.bids2.now c.args.width2 in
-    let own_accepted : first_fault (market_faults (first) ++ market_faults (second)) ≡ accepted tt = sym (told c.in-Accepted.is c.own_fault.ensures) in
+    let own_accepted : first_fault (market_faults (first) ++ market_faults (second)) ≡ accepted tt =
+    sym (told c.in-Accepted.is c.own_fault.ensures) in
     let within : WithinLimits (first) × WithinLimits (second) = own_within _ _ (own_accepted) in
     let w = within in
     omega (arith, w.0.shape.guests_most, w.1.shape.guests_most)
@@ -42,7 +44,8 @@ returns-then-n-gt-MAX_GUESTS c =
     c.args.bids.now c.args.width in
     let second : Tables = tables c.args.asks2.now c.args.bays2.now c.args.amounts2.now c.args.tickets2.now
     c.args.bids2.now c.args.width2 in
-    let own_accepted : first_fault (market_faults (first) ++ market_faults (second)) ≡ accepted tt = sym (told c.in-Accepted.is c.own_fault.ensures) in
+    let own_accepted : first_fault (market_faults (first) ++ market_faults (second)) ≡ accepted tt =
+    sym (told c.in-Accepted.is c.own_fault.ensures) in
     sym (fault_second _ _ (own_accepted)
     ∙ fault_later _ _ (sym c.stations_differ.ensures ∙ c.if-stations_differ.false)
     ∙ fault_here _ (is_lt _ _ c.if-n-gt-MAX_GUESTS.true))
@@ -54,7 +57,8 @@ ticket_in_both-requires c =
     c.args.bids.now c.args.width in
     let second : Tables = tables c.args.asks2.now c.args.bays2.now c.args.amounts2.now c.args.tickets2.now
     c.args.bids2.now c.args.width2 in
-    let own_accepted : first_fault (market_faults (first) ++ market_faults (second)) ≡ accepted tt = sym (told c.in-Accepted.is c.own_fault.ensures) in
+    let own_accepted : first_fault (market_faults (first) ++ market_faults (second)) ≡ accepted tt =
+    sym (told c.in-Accepted.is c.own_fault.ensures) in
     let within : WithinLimits (first) × WithinLimits (second) = own_within _ _ (own_accepted) in
     let w = within in (
       omega (arith, w.0.shape.tickets_length, w.1.shape.tickets_length, c.if-n-gt-MAX_GUESTS.false),
@@ -69,7 +73,8 @@ returns-then-ticket_in_both c =
     c.args.bids.now c.args.width in
     let second : Tables = tables c.args.asks2.now c.args.bays2.now c.args.amounts2.now c.args.tickets2.now
     c.args.bids2.now c.args.width2 in
-    let own_accepted : first_fault (market_faults (first) ++ market_faults (second)) ≡ accepted tt = sym (told c.in-Accepted.is c.own_fault.ensures) in
+    let own_accepted : first_fault (market_faults (first) ++ market_faults (second)) ≡ accepted tt =
+    sym (told c.in-Accepted.is c.own_fault.ensures) in
     sym (fault_second _ _ (own_accepted)
     ∙ fault_later _ _ (sym c.stations_differ.ensures ∙ c.if-stations_differ.false)
     ∙ fault_later _ _ (not_lt _ _ c.if-n-gt-MAX_GUESTS.false)
@@ -82,7 +87,8 @@ joined_lengths_differ-requires c =
     c.args.bids.now c.args.width in
     let second : Tables = tables c.args.asks2.now c.args.bays2.now c.args.amounts2.now c.args.tickets2.now
     c.args.bids2.now c.args.width2 in
-    let own_accepted : first_fault (market_faults (first) ++ market_faults (second)) ≡ accepted tt = sym (told c.in-Accepted.is c.own_fault.ensures) in
+    let own_accepted : first_fault (market_faults (first) ++ market_faults (second)) ≡ accepted tt =
+    sym (told c.in-Accepted.is c.own_fault.ensures) in
     let within : WithinLimits (first) × WithinLimits (second) = own_within _ _ (own_accepted) in
     (c.if-n-gt-MAX_GUESTS.false, (within).0.shape.stations_most)
 
@@ -93,7 +99,8 @@ returns-then-joined_lengths_differ c =
     c.args.bids.now c.args.width in
     let second : Tables = tables c.args.asks2.now c.args.bays2.now c.args.amounts2.now c.args.tickets2.now
     c.args.bids2.now c.args.width2 in
-    let own_accepted : first_fault (market_faults (first) ++ market_faults (second)) ≡ accepted tt = sym (told c.in-Accepted.is c.own_fault.ensures) in
+    let own_accepted : first_fault (market_faults (first) ++ market_faults (second)) ≡ accepted tt =
+    sym (told c.in-Accepted.is c.own_fault.ensures) in
     sym (fault_second _ _ (own_accepted)
     ∙ fault_later _ _ (sym c.stations_differ.ensures ∙ c.if-stations_differ.false)
     ∙ fault_later _ _ (not_lt _ _ c.if-n-gt-MAX_GUESTS.false)
@@ -112,7 +119,8 @@ returns-else-joined_lengths_differ c =
     c.args.bids.now c.args.width in
     let second : Tables = tables c.args.asks2.now c.args.bays2.now c.args.amounts2.now c.args.tickets2.now
     c.args.bids2.now c.args.width2 in
-    let own_accepted : first_fault (market_faults (first) ++ market_faults (second)) ≡ accepted tt = sym (told c.in-Accepted.is c.own_fault.ensures) in
+    let own_accepted : first_fault (market_faults (first) ++ market_faults (second)) ≡ accepted tt =
+    sym (told c.in-Accepted.is c.own_fault.ensures) in
     sym (fault_second _ _ (own_accepted)
     ∙ fault_later _ _ (sym c.stations_differ.ensures ∙ c.if-stations_differ.false)
     ∙ fault_later _ _ (not_lt _ _ c.if-n-gt-MAX_GUESTS.false)
