@@ -1,5 +1,7 @@
 -- The first line: asks, of which there may be any number up to 40.
-use Rattle.std.proofs.Common.{◌≡◌, ℕ, suc, ◌+◌, ◌-◌, ◌<◌, ◌≤◌, Bool, true, false, not, ◌&&◌, ◌⊎◌, List, length, get_or, set, sym, refl, ◌∙◌, inl, inr, ⊎_elim, add-one, arith, length-set, get_or-set_other, get_or-set_same, below_none, below_more, ne_eqb}
+use Rattle.std.proofs.Common.{◌≡◌, ℕ, suc, ◌+◌, ◌<◌, ◌≤◌, Bool, true, false, not, ◌&&◌, List, length, get_or, set, sym}
+use Rattle.std.proofs.Common.{refl, ◌∙◌, inl, inr, ⊎_elim, add-one, arith, length-set, get_or-set_other}
+use Rattle.std.proofs.Common.{get_or-set_same, below_none, below_more, ne_eqb}
 use Rattle.model.specs.Limits.{max_stations}
 use Rattle.model.specs.Counting.{◌<?◌, ◌=?◌, ◌and◌, ◌or◌, only}
 use Rattle.model.specs.declared.refusal.Refusal.{Refusal}
@@ -123,7 +125,8 @@ module _ {s asks : List ℕ} {at j : ℕ} {x : Ended} (a : Asking s asks at j) (
         few = few_test j h;
         before = omega arith;
         there = missing i ∙ t;
-        not_last = not_eq (j + 1) _ (λ (z : j + 1 ≡ fields_of (stations s) 0). omega (arith, first_fields_lem (stations s)));
+        not_last =
+            not_eq (j + 1) _ (λ (z : j + 1 ≡ fields_of (stations s) 0). omega (arith, first_fields_lem (stations s)));
       } in
       let w = field_ends i.reached c.there (rw c.byte refl) in
       let y : j + 1 ≡ suc j = add-one j in

@@ -1,9 +1,11 @@
 -- What ends a field, and what it comes to.
-use Rattle.std.proofs.Common.{◌≡◌, ℕ, suc, ◌+◌, ◌-◌, ◌<◌, ◌≤◌, Bool, true, false, ◌||◌, eqb, ltb, ◌⊎◌, List, [], ◌∷◌, length, get_or, sym, refl, ap, ◌∙◌, inl, inr, ⊎_elim, add-one, arith, ltb-false, lt-ltb, eq-eqb, ne_eqb}
+use Rattle.std.proofs.Common.{◌≡◌, ℕ, suc, ◌+◌, ◌-◌, ◌<◌, ◌≤◌, Bool, true, false, ◌||◌, eqb, ltb, List, [], ◌∷◌, length}
+use Rattle.std.proofs.Common.{get_or, sym, refl, ap, ◌∙◌, inl, inr, ⊎_elim, add-one, arith, ltb-false, lt-ltb, eq-eqb}
+use Rattle.std.proofs.Common.{ne_eqb}
 use Rattle.model.specs.Counting.{◌<?◌, ◌≤?◌, ◌=?◌, ◌and◌, ◌or◌, only}
 use Rattle.model.specs.Verdicts.{refused, first_fault}
 use Rattle.model.specs.declared.refusal.Refusal.TheVariants.{MalformedText, FieldTooLarge}
-use Rattle.model.specs.csv.Places.{comma, cr, lf, is_digit, digits_of, starts_line}
+use Rattle.model.specs.csv.Places.{lf, is_digit, digits_of, starts_line}
 use Rattle.model.specs.csv.Faults.{most, too_large, csv_faults}
 use Rattle.model.proofs.Tests.{decide, lt_or_le, and_no, or_no}
 use Rattle.model.proofs.Loops.{or_is}
@@ -13,7 +15,6 @@ use Rattle.market_csv.specs.Runs.{Running, Stops, Ran}
 use Rattle.market_csv.specs.Ends.{Feeding, AtNeither, over, other, alone, EnderRead, FieldEnds, Open}
 use Rattle.market_csv.specs.Ends.{ReadAs, FieldRead}
 use Rattle.market_csv.specs.declared.numbers.Stop.{Stop}
-use Rattle.market_csv.specs.declared.numbers.Stop.TheVariants as Stop
 use Rattle.market_csv.specs.declared.fields.Cursor.{Cursor}
 use Rattle.market_csv.specs.declared.fields.Ended.{Ended}
 use Rattle.market_csv.specs.declared.fields.Ended.TheVariants.{Comma, Line, Fault}

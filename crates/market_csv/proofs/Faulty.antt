@@ -1,10 +1,12 @@
 -- What a text comes to at a place that is reached and has a fault, and at its end.
-use Rattle.std.proofs.Common.{◌≡◌, ℕ, suc, ◌+◌, ◌<◌, ◌≤◌, Bool, true, false, not, ◌⊎◌, List, [], ◌∷◌, length, get_or, refl, ap, ◌∙◌, inl, inr, ⊎_elim, arith}
+use Rattle.std.proofs.Common.{◌≡◌, ℕ, suc, ◌+◌, ◌<◌, ◌≤◌, Bool, true, false, not, ◌⊎◌, List, [], ◌∷◌, length, get_or}
+use Rattle.std.proofs.Common.{refl, ap, ◌∙◌, inl, inr, ⊎_elim, arith}
 use Rattle.model.specs.Limits.{max_stations}
 use Rattle.model.specs.Counting.{◌<?◌, ◌≤?◌, ◌=?◌, ◌and◌, ◌or◌}
 use Rattle.model.specs.Verdicts.{◌gives◌, accepted, refused, first_fault}
 use Rattle.model.specs.csv.Places.{comma, cr, lf, is_digit, line_of, field_of, after_cr, starts_line}
-use Rattle.model.specs.csv.Faults.{stations, fields_of, too_large, too_many, is_missing, misplaced, byte_faults, end_faults}
+use Rattle.model.specs.csv.Faults.{stations, fields_of, too_large, too_many, is_missing, misplaced, byte_faults}
+use Rattle.model.specs.csv.Faults.{end_faults}
 use Rattle.model.specs.csv.Faults.{csv_faults}
 use Rattle.model.proofs.Tests.{decide, is_eq, or_left, or_right, and_false, both, is_lt}
 use Rattle.model.proofs.csv.Steps.{digits_none, room, large_none}
@@ -129,9 +131,11 @@ mark_fault {s} {p} r h d e f t low =
 
 -- a comma that ends an empty field, or is one too many
 pub comma_fault :
-    {s : List ℕ} {p l k q d : ℕ} → Reached s p l k q d → p < length s → get_or s p 0 ≡ comma → too_large (past s p) ≡ false
+    {s : List ℕ} {p l k q d : ℕ} → Reached s p l k q d → p < length s → get_or s p 0 ≡ comma
+    → too_large (past s p) ≡ false
     → (l =? 0 and k + 1 =? max_stations) ≡ false → l < 202
-    → (is_missing (past s p) ≡ true) ⊎ (k + 1 =? fields_of (stations s) l ≡ true) → first_fault (csv_faults s) ≡ refused 22
+    → (is_missing (past s p) ≡ true) ⊎ (k + 1 =? fields_of (stations s) l ≡ true)
+    → first_fault (csv_faults s) ≡ refused 22
 comma_fault {s} {p} {l} {k} r h b t few low e =
     let w = past s p in
     let few' : (line_of w =? 0 and field_of w + 1 =? max_stations) ≡ false = rw (r.line_is, r.field_is) few in

@@ -1,5 +1,7 @@
 -- Along a line, field by field, into a table.
-use Rattle.std.proofs.Common.{◌≡◌, ℕ, suc, ◌+◌, ◌-◌, ◌*◌, ◌<◌, ◌≤◌, Bool, true, false, eqb, ◌⊎◌, List, length, get_or, set, sym, refl, ap, ◌∙◌, inr, ⊎_elim, le_antisymm, arith, length-set, get_or-set_other, get_or-set_same, below_none, below_more, eq-eqb, ne_eqb}
+use Rattle.std.proofs.Common.{◌≡◌, ℕ, suc, ◌+◌, ◌*◌, ◌<◌, ◌≤◌, Bool, true, false, eqb, List, length, get_or, set, sym}
+use Rattle.std.proofs.Common.{refl, ap, ◌∙◌, inr, ⊎_elim, le_antisymm, arith, length-set, get_or-set_other}
+use Rattle.std.proofs.Common.{get_or-set_same, below_none, below_more, eq-eqb, ne_eqb}
 use Rattle.model.specs.Counting.{◌<?◌, ◌=?◌, ◌and◌, ◌or◌, only}
 use Rattle.model.specs.declared.refusal.Refusal.{Refusal}
 use Rattle.model.specs.csv.Places.{starts_line}

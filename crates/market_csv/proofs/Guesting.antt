@@ -1,5 +1,6 @@
 -- The lines of all guests, and the end of the text.
-use Rattle.std.proofs.Common.{◌≡◌, ℕ, zero, suc, ◌+◌, ◌-◌, ◌*◌, ◌<◌, ◌≤◌, ◌⊎◌, List, length, get_or, drop, ◌∙◌, ⊎_elim, eq-or-lt_of_le, arith, drop_of_length-le, drop-cons, below_more}
+use Rattle.std.proofs.Common.{◌≡◌, ℕ, zero, suc, ◌+◌, ◌*◌, ◌<◌, ◌≤◌, List, length, get_or, drop, ◌∙◌, ⊎_elim}
+use Rattle.std.proofs.Common.{eq-or-lt_of_le, arith, drop_of_length-le, drop-cons, below_more}
 use Rattle.model.specs.Limits.{max_guests, max_stations, max_bids}
 use Rattle.model.specs.declared.refusal.Refusal.{Refusal}
 use Rattle.model.specs.declared.refusal.Refusal.TheVariants.{CountsOutOfRange}

@@ -1,5 +1,7 @@
 -- The lent tables, as `read_csv` leaves them.
-use Rattle.std.proofs.Common.{◌≡◌, ℕ, ◌+◌, ◌*◌, ◌/◌, ◌%◌, ◌<◌, ◌≤◌, true, false, List, ◌++◌, length, get_or, take, drop, sym, refl, ap, ◌∙◌, mod-lt, div-lt_iff_lt-mul, div-add-mod', arith, length-take-le, take_all, get_or-take, ext_get_or}
+use Rattle.std.proofs.Common.{◌≡◌, ℕ, ◌+◌, ◌*◌, ◌/◌, ◌%◌, ◌<◌, ◌≤◌, true, false, List, ◌++◌, length, get_or, take, drop}
+use Rattle.std.proofs.Common.{sym, refl, ap, ◌∙◌, mod-lt, div-lt_iff_lt-mul, div-add-mod', arith, length-take-le}
+use Rattle.std.proofs.Common.{take_all, get_or-take, ext_get_or}
 use lib.Seq.{paste}
 use Rattle.model.specs.Counting.{list, joined}
 use Rattle.model.specs.Numbers.{number, answer_of_reading}

@@ -1,9 +1,11 @@
 -- The next place that is reached: after a digit, after a run of digits, after a comma and after a line end.
-use Rattle.std.proofs.Common.{◌≡◌, ℕ, zero, suc, ◌+◌, ◌-◌, ◌<◌, ◌≤◌, true, false, ◌⊎◌, List, ◌∷◌, length, get_or, drop, refl, ap, ◌∙◌, ⊎_elim, arith, drop-cons}
+use Rattle.std.proofs.Common.{◌≡◌, ℕ, zero, suc, ◌+◌, ◌<◌, ◌≤◌, true, false, List, ◌∷◌, length, get_or, drop, refl, ap}
+use Rattle.std.proofs.Common.{◌∙◌, ⊎_elim, arith, drop-cons}
 use Rattle.model.specs.Limits.{max_stations}
 use Rattle.model.specs.Counting.{◌<?◌, ◌≤?◌, ◌=?◌, ◌and◌, ◌or◌, only}
 use Rattle.model.specs.Verdicts.{accepted, first_fault}
-use Rattle.model.specs.csv.Places.{comma, cr, lf, is_digit, line_of, field_of, digits_of, value_of, after_cr, starts_line}
+use Rattle.model.specs.csv.Places.{comma, cr, lf, is_digit, line_of, field_of, digits_of, value_of, after_cr}
+use Rattle.model.specs.csv.Places.{starts_line}
 use Rattle.model.specs.csv.Faults.{stations, first_fields, fields_of, too_large, is_missing, byte_faults, csv_faults}
 use Rattle.model.specs.csv.Faults.{faults_from}
 use Rattle.model.specs.csv.Content.{values_from, values, value}
@@ -87,7 +89,8 @@ run {s} {from} (suc n) r low h e =
 
 -- what a field leaves: its value among all, and the rest of them
 pub field_ends :
-    {s : List ℕ} {p l k q d : ℕ} → Reached s p l k q d → p < length s → (get_or s p 0 =? comma or get_or s p 0 =? cr) ≡ true
+    {s : List ℕ} {p l k q d : ℕ} → Reached s p l k q d → p < length s
+    → (get_or s p 0 =? comma or get_or s p 0 =? cr) ≡ true
     → (value s q ≡ value_of (past s p)) × (drop (suc q) (values s) ≡ values_from (past s (suc p)) (drop (suc p) s))
 unfolding value
 field_ends {s} {p} {q = q} r h e = drop_head q _ _ _ (r.left ∙ take_value s p h e)

@@ -1,5 +1,6 @@
 -- Running over digits: their number modulo 2^64, and the number itself where there are few.
-use Rattle.std.proofs.Common.{◌≡◌, ℕ, zero, suc, ◌+◌, ◌-◌, ◌*◌, ◌/◌, ◌%◌, ◌^◌, ◌<◌, ◌≤◌, true, false, ◌⊎◌, List, [], ◌∷◌, length, get_or, sym, ap, ◌∙◌, ⊎_elim, mod-eq_of_lt, div-add-mod', add-one, arith}
+use Rattle.std.proofs.Common.{◌≡◌, ℕ, zero, suc, ◌+◌, ◌-◌, ◌*◌, ◌/◌, ◌%◌, ◌^◌, ◌<◌, ◌≤◌, true, false, List, [], ◌∷◌}
+use Rattle.std.proofs.Common.{length, get_or, sym, ap, ◌∙◌, ⊎_elim, mod-eq_of_lt, div-add-mod', add-one, arith}
 use native.Mathlib.Nat.{add-mod, mod-add-mod, add-mul-mod_self_right}
 use Rattle.model.specs.Counting.{only}
 use Rattle.model.specs.csv.Places.{is_digit, digits_of, value_of}

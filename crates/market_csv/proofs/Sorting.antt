@@ -1,5 +1,5 @@
 -- What sorting a byte says.
-use Rattle.std.proofs.Common.{◌≡◌, ℕ, ◌-◌, ◌<◌, ◌≤◌, true, false, [], ◌∷◌, refl, inl, inr, arith}
+use Rattle.std.proofs.Common.{◌≡◌, ℕ, ◌<◌, ◌≤◌, true, false, [], ◌∷◌, refl, inl, inr, arith}
 use types.Run.{OneOf}
 use denote.Enum.Declared.{tag_of}
 use Rattle.model.specs.Counting.{◌≤?◌, ◌=?◌, ◌and◌}
@@ -49,14 +49,10 @@ ends_no_field b Lf t h = rw h (record { no_digit = refl; no_comma = refl; no_cr 
 ends_no_field b Other t h = record { no_digit = h.no_digit; no_comma = h.no_comma; no_cr = h.no_cr }
 
 -- all but the fourth are no LF
-pub feeds_no_line :
-    (b : ℕ) (k : Kind) → OneOf (0 ∷ 1 ∷ 2 ∷ 4 ∷ []) (tag_of the_type k) → Sorted b k → b =? lf ≡ false
+pub feeds_no_line : (b : ℕ) (k : Kind) → (k ≡ Lf → ⊥) → Sorted b k → b =? lf ≡ false
 unfolding Sorted ◌=?◌
 feeds_no_line b (Digit d) t h = (digit_tests b h.0).2
 feeds_no_line b Comma t h = rw h refl
 feeds_no_line b Cr t h = rw h refl
-feeds_no_line b Lf (inl e) h = absurd (omega arith)
-feeds_no_line b Lf (inr (inl e)) h = absurd (omega arith)
-feeds_no_line b Lf (inr (inr (inl e))) h = absurd (omega arith)
-feeds_no_line b Lf (inr (inr (inr e))) h = absurd (omega arith)
+feeds_no_line b Lf t h = absurd (t refl)
 feeds_no_line b Other t h = h.no_lf

@@ -1,6 +1,7 @@
 -- One byte more of a text: its table of faults and its values, from a place on and from the next one on.
-use Rattle.std.proofs.Common.{◌≡◌, ℕ, zero, suc, ◌-◌, ◌<◌, ◌≤◌, true, false, List, [], ◌∷◌, length, get_or, drop, refl, arith, drop_of_length-le, drop-cons}
-use Rattle.model.specs.Counting.{◌=?◌, ◌and◌, ◌or◌}
+use Rattle.std.proofs.Common.{◌≡◌, ℕ, zero, suc, ◌<◌, ◌≤◌, true, false, List, [], ◌∷◌, length, get_or, drop, refl}
+use Rattle.std.proofs.Common.{arith, drop_of_length-le, drop-cons}
+use Rattle.model.specs.Counting.{◌=?◌, ◌or◌}
 use Rattle.model.specs.Verdicts.{accepted, refused, first_fault}
 use Rattle.model.specs.csv.Places.{comma, cr, value_of}
 use Rattle.model.specs.csv.Faults.{byte_faults, end_faults, faults_from}

@@ -1,5 +1,6 @@
 -- Taking a field of a line whose count of fields is known.
-use Rattle.std.proofs.Common.{◌≡◌, ℕ, suc, ◌+◌, ◌-◌, ◌<◌, Bool, true, false, not, ◌&&◌, ◌||◌, ◌⊎◌, List, get_or, sym, refl, ◌∙◌, inl, inr, ⊎_elim, arith}
+use Rattle.std.proofs.Common.{◌≡◌, ℕ, suc, ◌+◌, ◌<◌, Bool, true, false, not, ◌&&◌, ◌||◌, ◌⊎◌, List, get_or, sym, refl}
+use Rattle.std.proofs.Common.{◌∙◌, inl, inr, ⊎_elim, arith}
 use Rattle.model.specs.Limits.{max_stations}
 use Rattle.model.specs.Counting.{◌<?◌, ◌=?◌, ◌and◌, ◌or◌}
 use Rattle.model.specs.declared.refusal.Refusal.{Refusal}

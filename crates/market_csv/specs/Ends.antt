@@ -1,5 +1,6 @@
 -- What reading a field promises. Nothing that `market_csv::read_csv` promises depends on this file.
-use Rattle.std.specs.Prelude.{◌≡◌, ℕ, suc, ◌+◌, ◌<◌, ◌≤◌, Bool, true, false, ◌⊎◌, List, length, slice_index, slice_index_or}
+use Rattle.std.specs.Prelude.{◌≡◌, ℕ, suc, ◌+◌, ◌<◌, ◌≤◌, Bool, true, false, ◌⊎◌, List, length, slice_index}
+use Rattle.std.specs.Prelude.{slice_index_or}
 use Rattle.model.specs.Counting.{◌<?◌, ◌=?◌, ◌and◌}
 use Rattle.model.specs.Numbers.{number}
 use Rattle.model.specs.Verdicts.{refused, first_fault}

@@ -71,7 +71,8 @@ RowsPlaced p = RowsWritten (guests_placed p) (stations_placed p) (placed_bid p)
 
 module _ (p : Places) {bids₀ bids : List ℕ} {i : ℕ} (s : RowsPlaced p bids₀ bids i) where
   pub rows_fit :
-      guests_placed p ≤ max_guests → stations_placed p ≤ max_stations → i * stations_placed p ≤ max_guests * max_stations
+      guests_placed p ≤ max_guests → stations_placed p ≤ max_stations
+      → i * stations_placed p ≤ max_guests * max_stations
   rows_fit n m = product_fits i (stations_placed p) (omega (arith, s.within)) m
 
   pub row_placed :

@@ -21,6 +21,7 @@ lengths_differ xs ys n = sym (or_left _ _ (not_not (not_eq _ _ n)))
 
 pub differ_end :
     (xs ys : List ℕ) {found : Bool} {i : ℕ} → length xs ≡ length ys
-    → Folded some (length xs) (λ k. not (get_or xs k 0 =? get_or ys k 0)) found i → length xs ≤ i → found ≡ differs xs ys
+    → Folded some (length xs) (λ k. not (get_or xs k 0 =? get_or ys k 0)) found i → length xs ≤ i
+    → found ≡ differs xs ys
 unfolding differs
 differ_end xs ys e h l = folded_end h l ∙ sym (or_skip _ (not_unequal _ _ e))
