@@ -5,7 +5,7 @@ mod faults;
 mod lists;
 
 ghost use Rattle.std.specs.Prelude.{◌+◌, ◌++◌, ◌≡◌, length};
-ghost use Rattle.model.specs.clauses.Lent.{tables_in};
+ghost use Rattle.model.specs.clauses.Lent.{tables_in, lent_tables_in, lent_tables_out};
 ghost use Rattle.model.specs.clauses.EntryPoints.{Joins};
 ghost use Rattle.model.specs.sheet.Lent.{lent_tables};
 
@@ -31,7 +31,7 @@ fn put_together(
         × (length joined_amounts.old ≡ length amounts.now + length amounts2.now)
         × (length joined_tickets.old ≡ length tickets.now + length tickets2.now)
         × (length joined_bids.old ≡ length bids.now + length bids2.now) }
-    ensures { lent_tables joined_amounts.new joined_tickets.new joined_asks.new joined_bays.new joined_bids.new
+    ensures { lent_tables_out joined_amounts joined_tickets joined_asks joined_bays joined_bids
         ≡ lent_tables (amounts.now ++ amounts2.now) (tickets.now ++ tickets2.now)
         asks.now bays.now (bids.now ++ bids2.now) }
 {
@@ -64,8 +64,8 @@ pub fn join(
 ) -> Verdict
     ensures { Joins (tables_in asks bays amounts tickets bids width)
         (tables_in asks2 bays2 amounts2 tickets2 bids2 width2)
-        (lent_tables joined_amounts.old joined_tickets.old joined_asks.old joined_bays.old joined_bids.old) result
-        (lent_tables joined_amounts.new joined_tickets.new joined_asks.new joined_bays.new joined_bids.new) }
+        (lent_tables_in joined_amounts joined_tickets joined_asks joined_bays joined_bids) result
+        (lent_tables_out joined_amounts joined_tickets joined_asks joined_bays joined_bids) }
 {
     match faults::joining_fault(
         asks,

@@ -1,5 +1,7 @@
 // Copies of all that a market has in five tables.
 ghost use Rattle.std.specs.Prelude.{◌≡◌};
+ghost use Rattle.model.specs.clauses.Lent.{lent_tables_in, lent_tables_out};
+ghost use Rattle.model.specs.sheet.Lent.{lent_tables};
 ghost use Rattle.model.specs.sheet.Lent.{lent_tables};
 ghost use Rattle.market_csv.specs.Copies.{Fits, copied};
 
@@ -21,10 +23,9 @@ pub fn copy_all(
     requires { Fits n m
         (lent_tables own_amounts.now own_tickets.now own_asks.now own_bays.now own_bids.now)
         × Fits n m (lent_tables amounts.old tickets.old asks.old bays.old bids.old) }
-    ensures { lent_tables amounts.new tickets.new asks.new bays.new bids.new
-        ≡ copied n m
-        (lent_tables own_amounts.now own_tickets.now own_asks.now own_bays.now own_bids.now)
-        (lent_tables amounts.old tickets.old asks.old bays.old bids.old) }
+    ensures { lent_tables_out amounts tickets asks bays bids
+        ≡ copied n m (lent_tables own_amounts.now own_tickets.now own_asks.now own_bays.now own_bids.now)
+        (lent_tables_in amounts tickets asks bays bids) }
 {
     copies::put_first16(own_amounts, n, 0, amounts);
     copies::put_first32(own_tickets, n, 0, tickets);

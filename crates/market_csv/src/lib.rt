@@ -10,8 +10,9 @@ mod parsing;
 
 ghost use Rattle.std.specs.Prelude.{◌≡◌};
 ghost use Rattle.model.specs.Verdicts.{◌gives◌};
-ghost use Rattle.model.specs.sheet.Lent.{lent_tables, table_lengths};
+ghost use Rattle.model.specs.sheet.Lent.{table_lengths};
 ghost use Rattle.model.specs.clauses.EntryPoints.{ReadsCsv};
+ghost use Rattle.model.specs.clauses.Lent.{lent_tables_in, lent_tables_out};
 
 use model::answers::Reading;
 use model::limits::{MAX_BIDS, MAX_GUESTS, MAX_STATIONS};
@@ -43,8 +44,8 @@ pub fn read_csv(
     bays: &mut [u16],
     bids: &mut [u32],
 ) -> Reading
-    ensures { ReadsCsv text.now (lent_tables amounts.old tickets.old asks.old bays.old bids.old) result
-        (lent_tables amounts.new tickets.new asks.new bays.new bids.new) }
+    ensures { ReadsCsv text.now (lent_tables_in amounts tickets asks bays bids) result
+        (lent_tables_out amounts tickets asks bays bids) }
 {
     if table_lengths_differ(
         amounts.len(),

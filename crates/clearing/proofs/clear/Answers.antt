@@ -1,0 +1,11 @@
+use mathlib.Core.Path.{sym, ◌∙◌}
+use Rattle.clearing.proofs.Answers.{unknown_clears, known_clears}
+use Rattle.clearing.proofs.clear.Goals as goal
+
+pub returns-in-Unknown : goal.returns-in-Unknown
+returns-in-Unknown c = unknown_clears _ _ _ _ (sym c.in-Unknown.is ∙ c.named.ensures)
+
+pub returns-in-Known : goal.returns-in-Known
+returns-in-Known c =
+    known_clears _ _ _ _ _ _ (sym c.in-Known.is ∙ c.named.ensures)
+    c.clear_under.ensures
