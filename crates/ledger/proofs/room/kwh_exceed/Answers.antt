@@ -1,17 +1,12 @@
 use mathlib.Core.Path.{◌∙◌, ap}
 use native.Mathlib.Nat.{add_comm}
 use native.Mathlib.Omega.{arith}
-use borrow.Author.Rules.{rules}
 use Rattle.model.specs.Limits.{max_account}
 use Rattle.model.specs.Counting.{◌<?◌}
 use Rattle.ledger.proofs.room.Room.{room_test}
-use Rattle.ledger.proofs.room.kwh_exceed.Statement.{statement}
-use Rattle.ledger.proofs.room.kwh_exceed.Tie as tie
+use Rattle.ledger.proofs.room.kwh_exceed.Goals as goal
 
-returns : tie.Need-returns
+pub returns : goal.returns
 returns c =
     room_test max_account c.args.add c.args.sum (omega arith)
     ∙ ap (λ x. max_account <? x) (add_comm c.args.add c.args.sum)
-
-pub kwh_exceed_spec : {M : Type 1} → statement M
-kwh_exceed_spec = tie.close (tie.spec (λ c. search rules) returns)
