@@ -143,6 +143,9 @@ module _ (asks bays amounts tickets bids : List ℕ) (width codes outcomes : ℕ
   pub found_codes : codes ≡ length amounts * length asks
   found_codes = found.1
 
+  pub found_few : length amounts ≤ max_guests
+  found_few = found.0.shape.guests_most
+
 -- ---- what is told
 
 pub refused_explained :
