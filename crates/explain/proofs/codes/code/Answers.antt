@@ -13,7 +13,9 @@ holds-held-requires c =
 
 pub returns : goal.returns
 returns c =
-    let won : let args = c.args in c.holds-held.result ≡ won_by (args.bid.0 * args.amount) args.critical.0 args.ticket args.bound = rw (← c.times-total.ensures) c.holds-held.ensures in
+    let args = c.args in
+    let won : c.holds-held.result ≡ won_by (args.bid.0 * args.amount) args.critical.0 args.ticket args.bound =
+    rw (← c.times-total.ensures) c.holds-held.ensures in
     code_chosen _ _ _ (won) c.choose-of_candidate.ensures c.below-below.ensures
     c.choose-where_open.ensures c.below-open.ensures c.choose-of_bid.ensures
     c.no_bid-none.ensures c.choose.ensures

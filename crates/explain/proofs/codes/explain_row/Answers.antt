@@ -55,12 +55,14 @@ code-c-requires c =
 
 pub overflow_add-codes : goal.overflow_add-codes
 overflow_add-codes c =
-    let in_codes : c.args.base + c.loop-j.j < length c.loop-j.codes = row_place_lem c.loop-j.invariant.written c.loop-j-test.true in
+    let in_codes : c.args.base + c.loop-j.j < length c.loop-j.codes =
+    row_place_lem c.loop-j.invariant.written c.loop-j-test.true in
     let h = in_codes in search rules
 
 pub bounds-codes-base : goal.bounds-codes-base
 bounds-codes-base c =
-    let in_codes : c.args.base + c.loop-j.j < length c.loop-j.codes = row_place_lem c.loop-j.invariant.written c.loop-j-test.true in
+    let in_codes : c.args.base + c.loop-j.j < length c.loop-j.codes =
+    row_place_lem c.loop-j.invariant.written c.loop-j-test.true in
     in_codes
 
 pub loop-j-preserved : goal.loop-j-preserved

@@ -12,17 +12,28 @@ use Rattle.marking.proofs.accepted.clear_with_room.Goals as goal
 
 pub least_charges-requires : goal.least_charges-requires
 least_charges-requires c =
-    record { least_len = (c.requires.least_len.0, cut_low _ (regular _ _ _ _ _) _ c.requires.within_limits c.cut-cut.ensures); by_index = c.requires.within_limits.amount_most }
+    record {
+      least_len = (c.requires.least_len.0, cut_low _ (regular _ _ _ _ _) _ c.requires.within_limits c.cut-cut.ensures);
+      by_index = c.requires.within_limits.amount_most;
+    }
 
 pub assign_with_bars-requires : goal.assign_with_bars-requires
 assign_with_bars-requires c =
-    let lists = c.requires.full_lengths.lists_fit in record { at_cut = at_cut _ (regular _ _ _ _ _) c.requires.within_limits c.cut-cut.ensures c.least_charges.ensures; criticals_value = (c.requires.least_len.1, c.requires.least_len.2); stations_len = (lists.stations_long, lists.charges_long) }
+    let lists = c.requires.full_lengths.lists_fit in
+    record {
+      at_cut = at_cut _ (regular _ _ _ _ _) c.requires.within_limits c.cut-cut.ensures c.least_charges.ensures;
+      criticals_value = (c.requires.least_len.1, c.requires.least_len.2);
+      stations_len = (lists.stations_long, lists.charges_long);
+    }
 
 pub sell-requires : goal.sell-requires
 sell-requires c =
     let lists = c.requires.full_lengths.lists_fit in
     let done = c.assign_with_bars.ensures.0 in record {
-      stations_len = (stations_count (regular _ _ _ _ _) _ (of_truthful _) done, c.requires.within_limits.shape.guests_most);
+      stations_len = (
+        stations_count (regular _ _ _ _ _) _ (of_truthful _) done,
+        c.requires.within_limits.shape.guests_most,
+      );
       by_index = c.requires.within_limits.amount_most;
       by_index_2 = stations_low (regular _ _ _ _ _) _ (of_truthful _) done c.requires.within_limits;
       sold_len_bound = (

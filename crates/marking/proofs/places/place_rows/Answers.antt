@@ -12,7 +12,8 @@ use Rattle.marking.proofs.places.place_rows.Goals as goal
 
 pub offset_bounds-tickets-i : goal.offset_bounds-tickets-i
 offset_bounds-tickets-i c =
-    let in_tickets : c.loop-i.i < length c.args.tickets.now = omega (arith, c.loop-i-test.true, c.requires.within_limits.shape.tickets_length) in
+    let in_tickets : c.loop-i.i < length c.args.tickets.now =
+    omega (arith, c.loop-i-test.true, c.requires.within_limits.shape.tickets_length) in
     let h = in_tickets in search rules
 
 pub overflow_mul-i : goal.overflow_mul-i
@@ -43,7 +44,8 @@ loop-i-init c = rows_none c.requires.places_len
 
 pub bounds-tickets-i : goal.bounds-tickets-i
 bounds-tickets-i c =
-    let in_tickets : c.loop-i.i < length c.args.tickets.now = omega (arith, c.loop-i-test.true, c.requires.within_limits.shape.tickets_length) in
+    let in_tickets : c.loop-i.i < length c.args.tickets.now =
+    omega (arith, c.loop-i-test.true, c.requires.within_limits.shape.tickets_length) in
     in_tickets
 
 pub shape_of-places : goal.shape_of-places

@@ -8,7 +8,8 @@ use Rattle.marking.proofs.places.place_rows.Given as goal
 -- The loop: the rows of the first i guests are written.
 abbrev pub invariant-loop-i : goal.invariant-loop-i
 invariant-loop-i l =
-    RowsWritten (length l.amounts) (length l.asks) (place_at (regular l.asks l.bays l.amounts l.tickets l.bids) l.cut.0) l.initial.places
+    RowsWritten (length l.amounts) (length l.asks)
+    (place_at (regular l.asks l.bays l.amounts l.tickets l.bids) l.cut.0) l.initial.places
     l.places l.i
 
 abbrev pub decreases-loop-i : goal.decreases-loop-i

@@ -4,7 +4,8 @@ use Rattle.marking.proofs.Answers.{compares}
 use Rattle.marking.proofs.submissions.compare_with_room.Goals as goal
 
 pub clear_accepted-figures-requires : goal.clear_accepted-figures-requires
-clear_accepted-figures-requires c = record { within_limits = c.requires.within_limits; full_lengths = c.requires.full_lengths_2 }
+clear_accepted-figures-requires c =
+    record { within_limits = c.requires.within_limits; full_lengths = c.requires.full_lengths_2 }
 
 pub same16-same_stations-requires : goal.same16-same_stations-requires
 same16-same_stations-requires c =
@@ -18,11 +19,13 @@ same32-same_charges-requires c =
 
 pub same32-same_sold-requires : goal.same32-same_sold-requires
 same32-same_sold-requires c =
-    c.requires.full_lengths.lists_fit.sold_long ∙ sym (c.own_sold-1.given ∙ c.requires.full_lengths_2.lists_fit.sold_long)
+    c.requires.full_lengths.lists_fit.sold_long
+    ∙ sym (c.own_sold-1.given ∙ c.requires.full_lengths_2.lists_fit.sold_long)
 
 pub same64-same_paid-requires : goal.same64-same_paid-requires
 same64-same_paid-requires c =
-    c.requires.full_lengths.lists_fit.paid_long ∙ sym (c.own_paid-1.given ∙ c.requires.full_lengths_2.lists_fit.paid_long)
+    c.requires.full_lengths.lists_fit.paid_long
+    ∙ sym (c.own_paid-1.given ∙ c.requires.full_lengths_2.lists_fit.paid_long)
 
 pub same8-same_places-requires : goal.same8-same_places-requires
 same8-same_places-requires c =

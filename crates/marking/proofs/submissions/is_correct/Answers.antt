@@ -11,14 +11,15 @@ pub compare_with_room-requires : goal.compare_with_room-requires
 compare_with_room-requires c =
     let guests : length c.args.amounts.now ≤ max_guests = c.requires.within_limits.shape.guests_most in
     let stations : length c.args.asks.now ≤ max_stations = c.requires.within_limits.shape.stations_most in
-    let bids : length c.args.bids.now ≤ max_bids = omega (arith, c.requires.within_limits.shape.bids_length, product_fits _ _ (guests) (stations)) in
-    let n = sym (zeros_long max_guests _ (guests)) in
-    let m = sym (zeros_long max_stations _ (stations)) in record {
+    let bids : length c.args.bids.now ≤ max_bids =
+    omega (arith, c.requires.within_limits.shape.bids_length, product_fits _ _ guests stations) in
+    let n = sym (zeros_long max_guests _ guests) in
+    let m = sym (zeros_long max_stations _ stations) in record {
       within_limits = c.requires.within_limits;
       full_lengths = c.requires.full_lengths;
       full_lengths_2 = record {
         lists_fit = record { stations_long = n; charges_long = n; sold_long = m; paid_long = m };
-        places_long = sym (zeros_long max_bids _ (bids)) ∙ c.requires.within_limits.shape.bids_length;
+        places_long = sym (zeros_long max_bids _ bids) ∙ c.requires.within_limits.shape.bids_length;
         floors_long = m;
       };
     }
@@ -26,7 +27,7 @@ compare_with_room-requires c =
 pub slice_bounds-compare_with_room-end : goal.slice_bounds-compare_with_room-end
 slice_bounds-compare_with_room-end c =
     let guests : length c.args.amounts.now ≤ max_guests = c.requires.within_limits.shape.guests_most in
-    zeros_long max_guests _ (guests)
+    zeros_long max_guests _ guests
 
 pub slice_bounds-own_charges-end : goal.slice_bounds-own_charges-end
 slice_bounds-own_charges-end c =
@@ -36,7 +37,7 @@ slice_bounds-own_charges-end c =
 pub slice_bounds-compare_with_room-end-2 : goal.slice_bounds-compare_with_room-end-2
 slice_bounds-compare_with_room-end-2 c =
     let guests : length c.args.amounts.now ≤ max_guests = c.requires.within_limits.shape.guests_most in
-    zeros_long max_guests _ (guests)
+    zeros_long max_guests _ guests
 
 pub slice_bounds-own_sold-end : goal.slice_bounds-own_sold-end
 slice_bounds-own_sold-end c =
@@ -46,7 +47,7 @@ slice_bounds-own_sold-end c =
 pub slice_bounds-compare_with_room-end-3 : goal.slice_bounds-compare_with_room-end-3
 slice_bounds-compare_with_room-end-3 c =
     let stations : length c.args.asks.now ≤ max_stations = c.requires.within_limits.shape.stations_most in
-    zeros_long max_stations _ (stations)
+    zeros_long max_stations _ stations
 
 pub slice_bounds-own_paid-end : goal.slice_bounds-own_paid-end
 slice_bounds-own_paid-end c =
@@ -56,21 +57,23 @@ slice_bounds-own_paid-end c =
 pub slice_bounds-compare_with_room-end-4 : goal.slice_bounds-compare_with_room-end-4
 slice_bounds-compare_with_room-end-4 c =
     let stations : length c.args.asks.now ≤ max_stations = c.requires.within_limits.shape.stations_most in
-    zeros_long max_stations _ (stations)
+    zeros_long max_stations _ stations
 
 pub slice_bounds-own_places-end : goal.slice_bounds-own_places-end
 slice_bounds-own_places-end c =
     let guests : length c.args.amounts.now ≤ max_guests = c.requires.within_limits.shape.guests_most in
     let stations : length c.args.asks.now ≤ max_stations = c.requires.within_limits.shape.stations_most in
-    let bids : length c.args.bids.now ≤ max_bids = omega (arith, c.requires.within_limits.shape.bids_length, product_fits _ _ (guests) (stations)) in
+    let bids : length c.args.bids.now ≤ max_bids =
+    omega (arith, c.requires.within_limits.shape.bids_length, product_fits _ _ guests stations) in
     bids
 
 pub slice_bounds-compare_with_room-end-5 : goal.slice_bounds-compare_with_room-end-5
 slice_bounds-compare_with_room-end-5 c =
     let guests : length c.args.amounts.now ≤ max_guests = c.requires.within_limits.shape.guests_most in
     let stations : length c.args.asks.now ≤ max_stations = c.requires.within_limits.shape.stations_most in
-    let bids : length c.args.bids.now ≤ max_bids = omega (arith, c.requires.within_limits.shape.bids_length, product_fits _ _ (guests) (stations)) in
-    zeros_long max_bids _ (bids)
+    let bids : length c.args.bids.now ≤ max_bids =
+    omega (arith, c.requires.within_limits.shape.bids_length, product_fits _ _ guests stations) in
+    zeros_long max_bids _ bids
 
 pub slice_bounds-own_floors-end : goal.slice_bounds-own_floors-end
 slice_bounds-own_floors-end c =
@@ -80,7 +83,7 @@ slice_bounds-own_floors-end c =
 pub slice_bounds-compare_with_room-end-6 : goal.slice_bounds-compare_with_room-end-6
 slice_bounds-compare_with_room-end-6 c =
     let stations : length c.args.asks.now ≤ max_stations = c.requires.within_limits.shape.stations_most in
-    zeros_long max_stations _ (stations)
+    zeros_long max_stations _ stations
 
 pub returns : goal.returns
 returns c = c.compare_with_room.ensures
