@@ -19,24 +19,3 @@ returns-in-Accepted c =
     let seen = c.bids_through_view-table.ensures in
     accepted_clears _ _ _ _ (no_fault_found _ _ _ _ _ _ _ judged seen) (lent _ _ _ _ _ _ _ judged seen)
     c.clear_accepted-figures.ensures c.clearing_of.ensures
-
-pub shape_of-stations-in-Accepted : goal.shape_of-stations-in-Accepted
-shape_of-stations-in-Accepted c = c.stations-1.given
-
-pub shape_of-charges-in-Accepted : goal.shape_of-charges-in-Accepted
-shape_of-charges-in-Accepted c =
-    c.charges-1.given
-
-pub shape_of-sold-in-Accepted : goal.shape_of-sold-in-Accepted
-shape_of-sold-in-Accepted c =
-    c.sold-1.given
-
-pub shape_of-paid-in-Accepted : goal.shape_of-paid-in-Accepted
-shape_of-paid-in-Accepted c =
-    c.paid-1.given
-
-pub shape_of-places-in-Accepted : goal.shape_of-places-in-Accepted
-shape_of-places-in-Accepted c = c.places-1.given
-
-pub shape_of-floors-in-Accepted : goal.shape_of-floors-in-Accepted
-shape_of-floors-in-Accepted c = c.floors-1.given

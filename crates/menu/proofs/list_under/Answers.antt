@@ -21,9 +21,3 @@ returns-in-Accepted c =
     accepted_lists _ _ _ _ _ _ _ _
     (told c.in-Accepted.is c.listing_fault.ensures)
     c.bids_through_view-table.ensures _ c.list_accepted.ensures
-
-pub shape_of-bars : goal.shape_of-bars
-shape_of-bars c = c.bars-1.given
-
-pub shape_of-prices : goal.shape_of-prices
-shape_of-prices c = c.prices-1.given

@@ -9,9 +9,3 @@ pub returns-in-Known : goal.returns-in-Known
 returns-in-Known c =
     known_lists _ _ _ _ _ _ (sym c.in-Known.is ∙ c.named.ensures)
     c.list_under.ensures
-
-pub shape_of-bars : goal.shape_of-bars
-shape_of-bars c = c.bars-1.given
-
-pub shape_of-prices : goal.shape_of-prices
-shape_of-prices c = c.prices-1.given

@@ -77,38 +77,6 @@ give_floors-requires c =
       long _ _ c.assign_with_bars.ensures.1.criticals_are,
     )
 
-pub shape_of-least : goal.shape_of-least
-shape_of-least c =
-    c.least-1.given
-
-pub shape_of-criticals : goal.shape_of-criticals
-shape_of-criticals c = c.criticals-1.given
-
-pub shape_of-bounds : goal.shape_of-bounds
-shape_of-bounds c = c.bounds-1.given
-
-pub shape_of-bars : goal.shape_of-bars
-shape_of-bars c = c.bars-1.given
-
-pub shape_of-stations : goal.shape_of-stations
-shape_of-stations c = c.stations-1.given
-
-pub shape_of-charges : goal.shape_of-charges
-shape_of-charges c = c.charges-1.given
-
-pub shape_of-sold : goal.shape_of-sold
-shape_of-sold c =
-    c.sold-1.given
-
-pub shape_of-paid : goal.shape_of-paid
-shape_of-paid c = c.paid-1.given
-
-pub shape_of-places : goal.shape_of-places
-shape_of-places c = c.places-1.given
-
-pub shape_of-floors : goal.shape_of-floors
-shape_of-floors c = c.floors-1.given
-
 pub returns : goal.returns
 returns c =
     let A = at_cut _ (regular _ _ _ _ _) c.requires.within_limits c.cut-cut.ensures c.least_charges.ensures in

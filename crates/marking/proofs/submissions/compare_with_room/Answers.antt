@@ -41,21 +41,3 @@ returns c =
     c.same16-same_stations.ensures c.same32-same_charges.ensures c.same32-same_sold.ensures
     c.same64-same_paid.ensures c.same8-same_places.ensures c.same32-same_floors.ensures c.same_cut.ensures
     c.same_margin.ensures
-
-pub shape_of-own_stations : goal.shape_of-own_stations
-shape_of-own_stations c = c.own_stations-1.given
-
-pub shape_of-own_charges : goal.shape_of-own_charges
-shape_of-own_charges c = c.own_charges-1.given
-
-pub shape_of-own_sold : goal.shape_of-own_sold
-shape_of-own_sold c = c.own_sold-1.given
-
-pub shape_of-own_paid : goal.shape_of-own_paid
-shape_of-own_paid c = c.own_paid-1.given
-
-pub shape_of-own_places : goal.shape_of-own_places
-shape_of-own_places c = c.own_places-1.given
-
-pub shape_of-own_floors : goal.shape_of-own_floors
-shape_of-own_floors c = c.own_floors-1.given

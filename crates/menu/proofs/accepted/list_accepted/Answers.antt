@@ -34,9 +34,3 @@ pub returns : goal.returns
 returns c =
     listed_at_cut _ (regular _ _ _ _ _) _ c.cut-cut.ensures c.list_stations.ensures.0
     c.list_stations.ensures.1
-
-pub shape_of-bars : goal.shape_of-bars
-shape_of-bars c = c.bars-1.given
-
-pub shape_of-prices : goal.shape_of-prices
-shape_of-prices c = c.prices-1.given

@@ -22,8 +22,5 @@ returns-else-below c =
     let l = lt_no _ _ (sym c.below.ensures ∙ c.if-below.false) in
     (closed_bar (regular _ _ _ _ _) _ _ _ l, closed_price (regular _ _ _ _ _) _ _ _ l)
 
-pub shape_of-totals : goal.shape_of-totals
-shape_of-totals c = c.totals-1.given
-
 pub returns-then-below : goal.returns-then-below
 returns-then-below c = c.open_station.ensures
