@@ -5,9 +5,7 @@ ghost use Rattle.model.specs.Counting.{list};
 ghost use Rattle.model.specs.Numbers.{answer_of_clearing};
 ghost use Rattle.model.specs.Verdicts.{accepted};
 ghost use Rattle.model.specs.claims.Meaning.{WithinLimits};
-ghost use Rattle.model.specs.market.Outcome.{results};
-ghost use Rattle.model.specs.market.Marking.{full_results};
-ghost use Rattle.model.specs.clauses.Lent.{regular_of, regular_in};
+ghost use Rattle.model.specs.clauses.Lent.{regular_of, regular_in, full_results_lent, full_results_out};
 ghost use Rattle.marking.specs.Accepted.{FullLengths, FullyClears};
 
 use crate::{floors, places};
@@ -55,11 +53,11 @@ fn clear_with_room(
 ) -> Figures
     requires within_limits { WithinLimits (regular_of asks bays amounts tickets bids) }
     requires full_lengths { FullLengths (regular_of asks bays amounts tickets bids)
-        (full_results (results stations.old charges.old sold.old paid.old) places.old floors.old) }
+        (full_results_lent stations charges sold paid places floors) }
     requires least_len { (length least.old ≡ length amounts.now) × (criticals.old ≡ list (max_stations + 1) (λ _. 0))
         × (length bounds.old ≡ max_stations + 1) × (length bars.old ≡ length asks.now) }
     ensures { FullyClears rule (regular_in asks bays amounts tickets bids) result.cut.0 result.margin.0
-        (full_results (results stations.new charges.new sold.new paid.new) places.new floors.new) }
+        (full_results_out stations charges sold paid places floors) }
 {
     let cut = cut::cut(rule, asks);
     charges::least_charges(amounts, cut, least);
@@ -94,9 +92,9 @@ pub fn clear_accepted(
 ) -> Figures
     requires within_limits { WithinLimits (regular_of asks bays amounts tickets bids) }
     requires full_lengths { FullLengths (regular_of asks bays amounts tickets bids)
-        (full_results (results stations.old charges.old sold.old paid.old) places.old floors.old) }
+        (full_results_lent stations charges sold paid places floors) }
     ensures { FullyClears rule (regular_in asks bays amounts tickets bids) result.cut.0 result.margin.0
-        (full_results (results stations.new charges.new sold.new paid.new) places.new floors.new) }
+        (full_results_out stations charges sold paid places floors) }
 {
     let mut least = [0u32; MAX_GUESTS];
     let mut criticals = [0u32; MAX_STATIONS + 1];

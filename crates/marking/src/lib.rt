@@ -9,9 +9,7 @@ mod places;
 mod submissions;
 
 ghost use Rattle.model.specs.clauses.EntryPoints.{ClearsFully, Marks};
-ghost use Rattle.model.specs.market.Outcome.{results};
-ghost use Rattle.model.specs.market.Marking.{full_results};
-ghost use Rattle.model.specs.clauses.Lent.{tables_in, submission_in};
+ghost use Rattle.model.specs.clauses.Lent.{tables_in, full_results_in, full_results_out, submission_in};
 ghost use Rattle.marking.specs.Accepted.{ClearsFullyUnder, MarksUnder};
 
 use model::answers::{Clearing, Marking, Verdict};
@@ -35,8 +33,8 @@ fn clear_marked_under(
     floors: &mut [u32],
 ) -> Clearing
     ensures { ClearsFullyUnder rule (tables_in asks bays amounts tickets bids width)
-        (full_results (results stations.old charges.old sold.old paid.old) places.old floors.old) result
-        (full_results (results stations.new charges.new sold.new paid.new) places.new floors.new) }
+        (full_results_in stations charges sold paid places floors) result
+        (full_results_out stations charges sold paid places floors) }
 {
     let verdict = faults::marking_fault(
         asks, bays, amounts, tickets, bids, width, stations, charges, sold, paid, places, floors,
@@ -71,8 +69,8 @@ pub fn clear_marked(
     floors: &mut [u32],
 ) -> Clearing
     ensures { ClearsFully rule (tables_in asks bays amounts tickets bids width)
-        (full_results (results stations.old charges.old sold.old paid.old) places.old floors.old) result
-        (full_results (results stations.new charges.new sold.new paid.new) places.new floors.new) }
+        (full_results_in stations charges sold paid places floors) result
+        (full_results_out stations charges sold paid places floors) }
 {
     match NamedRule::named(rule) {
         NamedRule::Unknown => Clearing::Refused(Refusal::UnknownRule),

@@ -1,8 +1,8 @@
 // A guest's price list and gains, in an accepted market: that is what is required.
 ghost use Rattle.std.specs.Prelude.{◌≡◌, pos, length, get_or, replicate};
-ghost use Rattle.model.specs.market.Menus.{price_list, price_list_by, gains_from};
+ghost use Rattle.model.specs.market.Menus.{price_list_by, gains_from};
 ghost use Rattle.model.specs.market.Rules.{position};
-ghost use Rattle.model.specs.clauses.Lent.{regular_of, regular_in};
+ghost use Rattle.model.specs.clauses.Lent.{regular_of, regular_in, price_list_lent, price_list_out};
 ghost use Rattle.menu.specs.Accepted.{Listable, Gainable};
 
 use crate::{listing, rows};
@@ -22,8 +22,8 @@ pub fn list_accepted(
     bars: &mut [u32],
     prices: &mut [u32],
 )
-    requires { Listable (regular_of asks bays amounts tickets bids) i (price_list bars.old prices.old) }
-    ensures { price_list bars.new prices.new
+    requires { Listable (regular_of asks bays amounts tickets bids) i (price_list_lent bars prices) }
+    ensures { price_list_out bars prices
         ≡ price_list_by (position rule) (regular_in asks bays amounts tickets bids) i }
 {
     let mut totals = [0u32; MAX_GUESTS];

@@ -8,8 +8,7 @@ mod listing;
 mod rows;
 
 ghost use Rattle.model.specs.clauses.EntryPoints.{Lists, Gains};
-ghost use Rattle.model.specs.clauses.Lent.{tables_in};
-ghost use Rattle.model.specs.market.Menus.{price_list as priceListOf};
+ghost use Rattle.model.specs.clauses.Lent.{tables_in, price_list_in, price_list_out};
 ghost use Rattle.menu.specs.Accepted.{ListsUnder, GainsUnder};
 
 use model::answers::Verdict;
@@ -29,8 +28,8 @@ fn list_under(
     bars: &mut [u32],
     prices: &mut [u32],
 ) -> Verdict
-    ensures { ListsUnder rule (tables_in asks bays amounts tickets bids width) guest
-        (priceListOf bars.old prices.old) result (priceListOf bars.new prices.new) }
+    ensures { ListsUnder rule (tables_in asks bays amounts tickets bids width) guest (price_list_in bars prices) result
+        (price_list_out bars prices) }
 {
     match faults::listing_fault(
         asks,
@@ -76,8 +75,8 @@ pub fn price_list(
     bars: &mut [u32],
     prices: &mut [u32],
 ) -> Verdict
-    ensures { Lists rule (tables_in asks bays amounts tickets bids width) guest
-        (priceListOf bars.old prices.old) result (priceListOf bars.new prices.new) }
+    ensures { Lists rule (tables_in asks bays amounts tickets bids width) guest (price_list_in bars prices) result
+        (price_list_out bars prices) }
 {
     match NamedRule::named(rule) {
         NamedRule::Unknown => Verdict::Refused(Refusal::UnknownRule),
