@@ -6,7 +6,7 @@ use mathlib.Core.Path.{◌≡◌, refl, sym, ap, subst, ◌∙◌}
 use native.Mathlib.Omega.{arith}
 use lib.ListN.{length}
 use Rattle.model.specs.Numbers.{answer_of_trying, answer_of_verdict}
-use Rattle.model.specs.Verdicts.{accepted, first_fault}
+use Rattle.model.specs.Verdicts.{first_fault}
 use Rattle.model.specs.market.Market.{Tables, tables, regular}
 use Rattle.model.specs.market.Faults.{unknown_rule, market_faults}
 use Rattle.model.specs.market.Rules.{named, is_unknown, rule_in}

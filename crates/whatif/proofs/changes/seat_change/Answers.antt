@@ -2,8 +2,7 @@ use mathlib.Core.Path.{◌≡◌, refl}
 use native.Mathlib.Omega.{arith}
 use Prim.Native.Nat.{ℕ, zero, suc}
 use Rattle.model.specs.market.Changes.{seat_change}
-use Rattle.whatif.proofs.changes.seat_change.Statement.{statement}
-use Rattle.whatif.proofs.changes.seat_change.Tie as tie
+use Rattle.whatif.proofs.changes.seat_change.Goals as goal
 
 -- the four cases
 becomes_seated : (x y : ℕ) → x ≡ 0 → (y ≡ 0 → ⊥) → 1 ≡ seat_change x y
@@ -28,9 +27,14 @@ stays_unseated : (x y : ℕ) → x ≡ 0 → y ≡ 0 → 0 ≡ seat_change x y
 unfolding seat_change
 stays_unseated x y e f = rw (e, f) refl
 
-pub seat_change_spec : {M : Type 1} → statement M
-seat_change_spec =
-    tie.close (tie.spec (λ c. stays_unseated _ _ c.before.if1.true c.if2.true)
-    (λ c. becomes_seated _ _ c.before.if1.true c.if2.false)
-    (λ c. becomes_unseated _ _ c.before.if1.false c.if3.true)
-    (λ c. stays_seated _ _ c.before.if1.false c.if3.false))
+pub returns-then-after-eq0 : goal.returns-then-after-eq0
+returns-then-after-eq0 c = stays_unseated _ _ c.if-before-eq0.true c.if-after-eq0.true
+
+pub returns-else-after-eq0 : goal.returns-else-after-eq0
+returns-else-after-eq0 c = becomes_seated _ _ c.if-before-eq0.true c.if-after-eq0.false
+
+pub returns-then-after-eq0-2 : goal.returns-then-after-eq0-2
+returns-then-after-eq0-2 c = becomes_unseated _ _ c.if-before-eq0.false c.if-after-eq0-2.true
+
+pub returns-else-after-eq0-2 : goal.returns-else-after-eq0-2
+returns-else-after-eq0-2 c = stays_seated _ _ c.if-before-eq0.false c.if-after-eq0-2.false

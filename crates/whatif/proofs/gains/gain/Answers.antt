@@ -1,0 +1,19 @@
+use Prim.Native.Nat.{◌^◌, ◌<◌}
+use mathlib.Core.Path.{ap, ◌∙◌}
+use native.Mathlib.Omega.{arith}
+use lib.IntN.{sub_ℕ}
+use Rattle.whatif.specs.Gains.{gain_from}
+use Rattle.model.proofs.Differences.{difference_fits, difference_is}
+use Rattle.whatif.proofs.gains.gain.Goals as goal
+
+pub overflow_sub-result : goal.overflow_sub-result
+overflow_sub-result c =
+    let charge_low : c.args.charge < 2 ^ 48 = omega (arith, c.ranges.charge.fits) in
+    difference_fits _ _ c.obtained-worth.ensures.1 (charge_low)
+
+pub returns : goal.returns
+unfolding gain_from
+returns c =
+    let charge_low : c.args.charge < 2 ^ 48 = omega (arith, c.ranges.charge.fits) in
+    difference_is _ _ c.obtained-worth.ensures.1 (charge_low)
+    ∙ ap (λ x. sub_ℕ x c.args.charge) c.obtained-worth.ensures.0
