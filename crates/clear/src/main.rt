@@ -3,15 +3,16 @@
 // the shortest sheet that states the same market. With `--csv` before all of them it reads a comma-separated market.
 #![tactic(auto)]
 
-ghost use Rattle.std.specs.Prelude.{◌-◌, [], ◌∷◌, ◌≡◌, length, take};
+ghost use Rattle.std.specs.Prelude.{◌-◌, ◌≤◌, [], ◌∷◌, ◌≡◌, length, take};
 ghost use Rattle.model.specs.text.Asked.{◌spells◌, rule_spelt, rule_asked, by_rule, page_asked, asked};
 ghost use Rattle.clear.specs.Input.{Within};
 ghost use Rattle.clear.specs.Kinds.{page_of};
 
-use libc::{STDERR_FILENO, STDIN_FILENO, STDOUT_FILENO};
 use model::limits::MAX_PAGE;
 use model::page::{Asked, Layout, Page};
 use model::rule::{NamedRule, Rule};
+use std::env::{Env, FillError};
+use std::io::{Read, Write};
 
 // The bytes of the longest comma-separated market that is accepted, which is longer than the largest sheet: two lines
 // of 40 fields and 200 of 42, each of ten digits, with their commas and line ends.
@@ -24,21 +25,17 @@ enum Input {
     Failed,
 }
 
-// Reads standard input to its end, or until the buffer is full.
-fn read_input(buffer: &mut [u8]) -> Input
+// Reads to the end of the input, or until the buffer is full.
+fn read_input<R: Read>(input: &mut R, buffer: &mut [u8]) -> Input
     ensures { Within result (length buffer.old) }
 {
     let mut n = 0;
     while n < buffer.len() {
-        let got = libc::read(STDIN_FILENO, &mut buffer[n..]);
-        if got < 0 {
-            return Input::Failed;
+        match input.read(&mut buffer[n..]) {
+            Err(_) => return Input::Failed,
+            Ok(0) => return Input::Bytes(n),
+            Ok(more) => n += more,
         }
-        let more = io::count(got, &buffer[n..]);
-        if more == 0 {
-            return Input::Bytes(n);
-        }
-        n += more;
     }
     Input::Bytes(n)
 }
@@ -75,7 +72,7 @@ fn page_by(layout: Layout, kind: Kind, named: NamedRule) -> Asked
 
 // Whether an argument is a word.
 fn spells(given: &[u8], word: &[u8]) -> bool
-    ensures { result ≡ given.now spells (λ x. x.now) word.entry }
+    ensures { result ≡ given.now spells word.now }
 {
     check::same(given, word)
 }
@@ -163,49 +160,82 @@ fn after_name(count: usize) -> usize
     count - 1
 }
 
+// Puts an argument at the start of the buffer and gives its length. One that is not there, or does not fit, is none.
+fn argument<E: Env>(system: &E, place: usize, buffer: &mut [u8]) -> usize
+    ensures { result ≤ length buffer.new }
+{
+    match system.arg(place, buffer) {
+        Ok(n) => n,
+        Err(_) => 0,
+    }
+}
+
+// How many arguments there are, with the program's name.
+fn argument_count<E: Env>(system: &E) -> usize {
+    let mut buffer = [0u8; 7];
+    for place in 0..usize::MAX {
+        match system.arg(place, &mut buffer) {
+            Err(FillError::NotPresent) => return place,
+            Err(FillError::TooLong) | Ok(_) => {}
+        }
+    }
+    usize::MAX
+}
+
 // By the arguments that the program was started with. One that does not fit its buffer is no word, and given as none.
-fn read_arguments() -> Asked {
+fn read_arguments<E: Env>(system: &E) -> Asked {
     let mut first = [0u8; 7];
     let mut second = [0u8; 7];
     let mut third = [0u8; 7];
     let mut fourth = [0u8; 7];
-    let n = os::arg(1, &mut first);
-    let k = os::arg(2, &mut second);
-    let l = os::arg(3, &mut third);
-    let i = os::arg(4, &mut fourth);
-    let count = after_name(os::arg_count());
+    let n = argument(system, 1, &mut first);
+    let k = argument(system, 2, &mut second);
+    let l = argument(system, 3, &mut third);
+    let i = argument(system, 4, &mut fourth);
+    let count = after_name(argument_count(system));
     all_asked(count, &first[..n], &second[..k], &third[..l], &fourth[..i])
+}
+
+// Where standard error fails too, nobody is left to tell.
+fn complain<W: Write>(errors: &mut W, words: &[u8]) {
+    let _ = errors.write_all(words);
 }
 
 // Reads at most one byte more than the longest text has that is accepted, so that every fault is seen. That a page is
 // empty, which that of no guests is, is told too: a program that failed may write nothing.
-fn print(layout: Layout, asked: Page) {
+fn print<R: Read, W: Write, E: Write>(
+    input: &mut R,
+    output: &mut W,
+    errors: &mut E,
+    layout: Layout,
+    asked: Page,
+) {
     let mut bytes = [0u8; MAX_CSV + 1];
-    match read_input(&mut bytes) {
+    match read_input(input, &mut bytes) {
         Input::Failed => {
-            io::write_all(STDERR_FILENO, b"clear: cannot read standard input\n");
+            complain(errors, b"clear: cannot read standard input\n");
         }
         Input::Bytes(n) => {
             let mut out = [0u8; MAX_PAGE];
             let k = report::print_page(layout, asked, &bytes[..n], &mut out);
-            let is_written = io::write_all(STDOUT_FILENO, &out[..k]);
-            if !is_written {
-                io::write_all(STDERR_FILENO, b"clear: cannot write standard output\n");
+            if output.write_all(&out[..k]).is_err() {
+                complain(errors, b"clear: cannot write standard output\n");
             } else if k == 0 {
-                io::write_all(STDERR_FILENO, b"clear: no guests\n");
+                complain(errors, b"clear: no guests\n");
             }
         }
     }
 }
 
-// What the system reads and writes no contract can say. Where standard error fails too, nobody is left to tell.
-fn main() {
-    match read_arguments() {
+// What the system reads and writes no contract can say.
+fn main(rt: HostRuntime) {
+    let mut errors = rt.stderr();
+    match read_arguments(&rt) {
         Asked::Nothing => {
-            io::write_all(STDERR_FILENO, b"clear: no such argument\n");
+            complain(&mut errors, b"clear: no such argument\n");
         }
         Asked::For { layout, page } => {
-            print(layout, page);
+            print(&mut rt.stdin(), &mut rt.stdout(), &mut errors, layout, page);
         }
     }
 }

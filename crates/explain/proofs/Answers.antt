@@ -66,8 +66,8 @@ module _ (rule : Rule) (t : Tables) where
     station_is i l = element (length t.amounts) _ a.stations_are i l
 
     at_rule_cut : ExplainsAccepted rule t table stations charges reasons
-    unfolding codes guest_outcomes loss highest_code outcome outcome_by decision screened screen opens screened_at market
-        market_by
+    unfolding codes guest_outcomes loss highest_code outcome outcome_by decision screened screen opens screened_at
+        market market_by
     at_rule_cut = record {
       codes_are = s.codes_are
           ∙ (λ x. joined (length t.amounts) (λ i. list (length t.asks) (λ j. code_is rule t i j x)));
@@ -142,6 +142,9 @@ module _ (asks bays amounts tickets bids : List ℕ) (width codes outcomes : ℕ
 
   pub found_codes : codes ≡ length amounts * length asks
   found_codes = found.1
+
+  pub found_few : length amounts ≤ max_guests
+  found_few = found.0.shape.guests_most
 
 -- ---- what is told
 

@@ -9,7 +9,7 @@ use lib.ListN.{get_or, length}
 use Rattle.model.specs.Limits.{max_guests, max_stations, max_account, max_desks}
 use Rattle.model.specs.Counting.{◌<?◌, ◌=?◌, ◌or◌, only, any, list}
 use Rattle.model.specs.market.Market.{Tables}
-use Rattle.model.specs.market.Mechanism.{charged, sold, paid, margin}
+use Rattle.model.specs.market.Mechanism.{charged, sold, paid}
 use Rattle.model.specs.Verdicts.{Row, ◌gives◌, Verdict, accepted, refused, first_fault, updated}
 use Rattle.model.specs.book.PlainBook.{PlainBook, raised, entered, over_limit, book_size, no_desk, out_of_turn}
 use Rattle.model.specs.book.PlainBook.{posting_faults}

@@ -5,7 +5,7 @@ use mathlib.Core.List.{List}
 use mathlib.Core.Path.{◌≡◌, refl, sym, ap, ap₂, subst, ◌∙◌}
 use native.Mathlib.Numerals.{add-one}
 use lib.ListN.{get_or, length}
-use Rattle.model.specs.Counting.{◌=?◌, ◌and◌, only, sum, list}
+use Rattle.model.specs.Counting.{◌=?◌, only, sum, list}
 use Rattle.model.specs.Numbers.{answer_of_clearing, answer_of_marking, answer_of_verdict}
 use Rattle.model.specs.Verdicts.{accepted, first_fault}
 use Rattle.model.specs.declared.answers.Clearing.{Clearing}

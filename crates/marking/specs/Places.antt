@@ -41,5 +41,6 @@ pub record Barred (t : Tables) (c : ℕ) (bars bounds : List ℕ) : Type 0 where
   pub bounds_long : length bounds ≡ max_stations + 1
   pub places_are :
       (i j : ℕ) → i < length t.amounts → j < length t.asks
-      → place_by (bid_at t i j) (get_or t.amounts i 0) (get_or t.tickets i 0) c (get_or bars j 0) (get_or bounds (j + 1) 0)
+      → place_by (bid_at t i j) (get_or t.amounts i 0) (get_or t.tickets i 0) c (get_or bars j 0)
+      (get_or bounds (j + 1) 0)
       ≡ only (provisional (queue (screened_at t c) j) i) 1

@@ -5,7 +5,9 @@ ghost use Rattle.model.specs.Counting.{◌=?◌, ◌or◌};
 ghost use Rattle.model.specs.Numbers.{answer_of_verdict};
 ghost use Rattle.model.specs.Verdicts.{first_fault};
 ghost use Rattle.model.specs.market.Marking.{full_table_faults};
-ghost use Rattle.model.specs.clauses.Lent.{tables_in, full_results_in};
+ghost use Rattle.model.specs.clauses.Lent.{tables_in};
+ghost use Rattle.model.specs.market.Outcome.{results};
+ghost use Rattle.model.specs.market.Marking.{full_results};
 
 use checks::faults;
 use model::answers::Verdict;
@@ -45,7 +47,7 @@ pub fn marking_fault(
 ) -> Verdict
     ensures { answer_of_verdict result ≡ first_fault (full_table_faults
         (tables_in asks bays amounts tickets bids width)
-        (full_results_in stations charges sold paid places floors)) }
+        (full_results (results stations.now charges.now sold.now paid.now) places.now floors.now)) }
 {
     let n = amounts.len();
     let m = asks.len();

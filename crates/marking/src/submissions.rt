@@ -3,7 +3,7 @@ ghost use Rattle.std.specs.Prelude.{◌≡◌};
 ghost use Rattle.model.specs.Counting.{◌=?◌};
 ghost use Rattle.model.specs.market.Marking.{correct};
 ghost use Rattle.model.specs.claims.Meaning.{WithinLimits};
-ghost use Rattle.model.specs.clauses.Lent.{regular_of, regular_in, full_results_lent, submission_in};
+ghost use Rattle.model.specs.clauses.Lent.{regular_of, regular_in, full_results_of, full_results_lent, submission_in};
 ghost use Rattle.marking.specs.Accepted.{FullLengths};
 
 use crate::accepted::Figures;
@@ -51,7 +51,7 @@ fn compare_with_room(
 ) -> bool
     requires within_limits { WithinLimits (regular_of asks bays amounts tickets bids) }
     requires full_lengths { FullLengths (regular_of asks bays amounts tickets bids)
-        (full_results_lent stations charges sold paid places floors) }
+        (full_results_of stations charges sold paid places floors) }
     requires full_lengths_2 { FullLengths (regular_of asks bays amounts tickets bids)
         (full_results_lent own_stations own_charges own_sold own_paid own_places own_floors) }
     ensures { result ≡ correct rule (regular_in asks bays amounts tickets bids)
@@ -103,7 +103,7 @@ pub fn is_correct(
 ) -> bool
     requires within_limits { WithinLimits (regular_of asks bays amounts tickets bids) }
     requires full_lengths { FullLengths (regular_of asks bays amounts tickets bids)
-        (full_results_lent stations charges sold paid places floors) }
+        (full_results_of stations charges sold paid places floors) }
     ensures { result ≡ correct rule (regular_in asks bays amounts tickets bids)
         (submission_in stations charges sold paid places floors cut margin) }
 {

@@ -9,7 +9,7 @@ use lib.IntN.{ℤ}
 use lib.ListN.{get_or, length}
 use Rattle.model.specs.Counting.{list}
 use Rattle.model.specs.Numbers.{answer_of_verdict}
-use Rattle.model.specs.Verdicts.{accepted, first_fault}
+use Rattle.model.specs.Verdicts.{first_fault}
 use Rattle.model.specs.market.Market.{Tables, tables, regular, market_by, market, cut, opens, screen}
 use Rattle.model.specs.market.Faults.{Accepted, unknown_rule, verdict, market_faults}
 use Rattle.model.specs.market.Menus.{menu_of, PriceList, price_list, listed, price_list_by, gains_from, list_faults}
@@ -144,7 +144,8 @@ module _ (t : Tables) (guest : ℕ) (worths rows : List ℕ) (gains : ℕ) where
   gain_within : GainJudged verdicts.Accepted → GainingWithinLimits 1 t guest worths rows gains
   unfolding gaining_faults unknown_rule answer_of_verdict
   gain_within e =
-      (gaining_accepted_iff_within_limits 1 t guest worths rows gains).0 (fault_free _ _ (is_known 1 (inl refl)) (sym e))
+      (gaining_accepted_iff_within_limits 1 t guest worths rows gains).0
+      (fault_free _ _ (is_known 1 (inl refl)) (sym e))
 
   pub gained_guest_least : GainJudged verdicts.Accepted → 1 ≤ guest
   gained_guest_least e = (gain_within e).guest_least

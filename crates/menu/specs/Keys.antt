@@ -1,7 +1,8 @@
 -- Keys by which one maximum finds the best station of a row, with no product of bid and amount. Let a price be
 -- quotient times amount plus rest. Of two bids that reach their bars, total less price is the greater where bid less
 -- quotient is, and at an equal one where the rest is the smaller.
-use Rattle.std.specs.Prelude.{ℕ, ◌+◌, ◌*◌, ◌-◌, ◌/◌, ◌%◌, ◌≤◌, ◌<◌, min, Bool, List, [], ◌∷◌, ◌≡◌, ℤ, pos, get_or, length}
+use Rattle.std.specs.Prelude.{ℕ, ◌+◌, ◌*◌, ◌-◌, ◌/◌, ◌%◌, ◌≤◌, ◌<◌, min}
+use Rattle.std.specs.Prelude.{Bool, List, [], ◌∷◌, ◌≡◌, ℤ, pos, get_or, length}
 use Rattle.std.proofs.Math.IntN.{sub_ℕ}
 use Rattle.model.specs.Limits.{max_stations, max_price}
 use Rattle.model.specs.Counting.{◌<?◌, ◌≤?◌, ◌=?◌, ◌and◌, ◌or◌, only, greatest, count, list, joined}
@@ -92,7 +93,8 @@ pub record Rowed (rows leasts lifts : List ℕ) (table : List ℤ) (k : ℕ) : T
   pub leasts_low : (j : ℕ) → j < length leasts → get_or leasts j 0 ≤ max_price + 1
   pub lifts_low : (j : ℕ) → j < length leasts → get_or lifts j 0 ≤ max_lift
   pub reached :
-      (j bid : ℕ) → j < length leasts → bid ≤ max_price → 64 ≤ plain_key (get_or lifts j 0) bid → get_or leasts j 0 ≤ bid
+      (j bid : ℕ) → j < length leasts → bid ≤ max_price → 64 ≤ plain_key (get_or lifts j 0) bid
+      → get_or leasts j 0 ≤ bid
 
 -- the greatest key of row r, and the gain that its label leads to
 unfoldable pub top_key : (rows leasts lifts : List ℕ) (r : ℕ) → ℕ

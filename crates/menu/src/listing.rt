@@ -106,8 +106,9 @@ pub fn list_stations(
     prices: &mut [u32],
 )
     requires within_limits { WithinLimits (regular_of asks bays amounts tickets bids) }
-    requires cut_le_max_price { (cut.0 ≤ max_price) × (i < length amounts.now) × (length totals.old ≡ length amounts.now)
-        × (length bars.old ≡ length asks.now) × (length prices.old ≡ length asks.now) }
+    requires cut_le_max_price { (cut.0 ≤ max_price) × (i < length amounts.now)
+        × (length totals.old ≡ length amounts.now) × (length bars.old ≡ length asks.now)
+        × (length prices.old ≡ length asks.now) }
     ensures { let t = regular_in asks bays amounts tickets bids in
         (bars.new ≡ list (length t.asks) (bar_at t cut.0 i))
         × (prices.new ≡ list (length t.asks) (price_at t cut.0 i)) }

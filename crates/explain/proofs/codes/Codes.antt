@@ -10,7 +10,7 @@ use native.Mathlib.Omega.{arith}
 use lib.ListN.{get_or, length, set}
 use lib.Seq.{paste}
 use Rattle.model.specs.Limits.{max_guests, max_stations}
-use Rattle.model.specs.Counting.{◌<?◌, ◌≤?◌, ◌=?◌, ◌and◌, ◌or◌, only, greatest, list}
+use Rattle.model.specs.Counting.{◌<?◌, ◌≤?◌, ◌=?◌, ◌and◌, only, greatest, list}
 use Rattle.model.specs.Verdicts.{◌gives◌, first_fault, number_of}
 use Rattle.model.specs.market.Market.{Tables, bid_at, market_by, market, cut, opens, screen, queue, provisional}
 use Rattle.model.specs.market.Reasons.{conditions, code}

@@ -13,11 +13,11 @@ use Rattle.model.specs.declared.refusal.Refusal.{Refusal}
 use Rattle.model.specs.declared.refusal.Refusal.TheVariants.{CountsOutOfRange, UnknownRule}
 use Rattle.model.specs.Counting.{◌<?◌, ◌=?◌, ◌or◌, only, list}
 use Rattle.model.specs.Numbers.{number, answer_of_verdict}
-use Rattle.model.specs.Verdicts.{accepted, refused, first_fault}
+use Rattle.model.specs.Verdicts.{refused, first_fault}
 use Rattle.model.proofs.Verdicts.{fault_here}
 use Rattle.model.specs.market.Market.{Tables, market, market_by, screen, tables}
 use Rattle.model.specs.market.Mechanism.{charged, sold, paid}
-use Rattle.model.specs.market.Outcome.{Results, outcome_by, screened, decision, outcome, outcome_in, results}
+use Rattle.model.specs.market.Outcome.{Results, outcome_by, screened, decision, outcome, outcome_in}
 use Rattle.model.specs.market.Faults.{unknown_rule, counts, market_faults, verdict}
 use Rattle.model.specs.market.Rules.{named, is_unknown, rule_in, rule_of}
 use Rattle.model.specs.declared.rule.Rule.{Rule}

@@ -8,7 +8,7 @@ use native.Mathlib.Nat.{mul-le-mul_right}
 use native.Mathlib.Numerals.{add-one}
 use native.Mathlib.Omega.{arith}
 use lib.ListN.{get_or, length}
-use Rattle.model.specs.Counting.{◌<?◌, ◌and◌, ◌or◌, only, list, joined}
+use Rattle.model.specs.Counting.{◌<?◌, ◌and◌, only, list, joined}
 use Rattle.model.specs.market.Market.{Tables, bid_at, queue, provisional}
 use Rattle.model.specs.market.Marking.{place_table}
 use Rattle.model.specs.claims.Meaning.{WithinLimits}

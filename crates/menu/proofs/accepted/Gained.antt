@@ -70,7 +70,8 @@ module _ (rule : Rule) (t : Tables) (w : WithinLimits t) (i : ℕ) (li : i < len
     near = λ j lj h.
         let lj' : j < length t.asks = omega (arith, prices_long) in
         let low : max_price * amount < no_bar = omega (arith, w.amount_most i li) in
-        rw (bar_at_lem j lj', price_at_lem j lj') (near_if_reached (U.offered j) (U.bar j) (U.price j) (max_price * amount)
+        rw (bar_at_lem j lj', price_at_lem j lj')
+        (near_if_reached (U.offered j) (U.bar j) (U.price j) (max_price * amount)
         low (rw (bar_at_lem j lj') at h) (menu_near M i j));
   }
 

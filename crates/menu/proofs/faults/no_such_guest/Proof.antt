@@ -1,7 +1,0 @@
-use borrow.Author.Rules.{rules}
-use Rattle.model.specs.Counting.{◌<?◌, ◌=?◌, ◌or◌}
-use Rattle.menu.proofs.faults.no_such_guest.Statement.{statement}
-use Rattle.menu.proofs.faults.no_such_guest.Tie as tie
-
-pub no_such_guest_spec : {M : Type 1} → statement M
-no_such_guest_spec = tie.close (tie.spec (λ c. unfold ◌or◌ ◌<?◌ ◌=?◌ in search rules))
