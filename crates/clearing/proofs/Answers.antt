@@ -61,8 +61,8 @@ of_mechanism t c Efficient = of_efficient (screened_at t c)
 under_rule :
     (x : Mechanism) (rule : Rule) (t : Tables) → let S = screened_at t (cut (market rule t)) in
     outcome_by S (decided x S) ≡ outcome_in x rule t
-unfolding decided outcome_in outcome decision efficient_outcome efficient_decision screened screen opens screened_at market
-    market_by
+unfolding decided outcome_in outcome decision efficient_outcome efficient_decision screened screen opens screened_at
+    market market_by
 under_rule Truthful rule t = refl
 under_rule Efficient rule t = refl
 

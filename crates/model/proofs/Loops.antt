@@ -140,7 +140,8 @@ filled_more {f} {l₀} {l} {i} {v} h b e = record {
 -- two lists of n with the same elements are one
 pub is_list : (n : ℕ) (f : ℕ → ℕ) (l : List ℕ) → length l ≡ n → ((k : ℕ) → k < n → get_or l k 0 ≡ f k) → l ≡ list n f
 is_list n f l e h =
-    ext_get_or 0 l (list n f) (e ∙ sym (length_list n f)) (λ k a. h k (omega arith) ∙ sym (get_d_list n f k (omega arith)))
+    ext_get_or 0 l (list n f) (e ∙ sym (length_list n f))
+    (λ k a. h k (omega arith) ∙ sym (get_d_list n f k (omega arith)))
 
 pub long : (n : ℕ) (f : ℕ → ℕ) {l : List ℕ} → l ≡ list n f → length l ≡ n
 long n f e = ap length e ∙ length_list n f

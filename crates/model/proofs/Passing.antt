@@ -179,7 +179,8 @@ listed_first n f g j e = record {
     after i l s = let (k, h, q) = all.each i l s in at k h q
       where
         at :
-            (k : ℕ) → k < length (j ∷ passing n g) → get_or (j ∷ passing n g) k 0 ≡ i → (i ≡ j) ⊎ ((j < i) × (g i ≡ true))
+            (k : ℕ) → k < length (j ∷ passing n g) → get_or (j ∷ passing n g) k 0 ≡ i → (i ≡ j)
+            ⊎ ((j < i) × (g i ≡ true))
         at zero h q = inl (sym q)
         at (suc k) h q =
             inr (rw q at (all.rising 0 (suc k) (omega arith) h), rw q at (rest.passes k (le_of_suc-le-suc h)))

@@ -1,5 +1,6 @@
 -- Tests of numbers, and what is counted, summed or greatest over the indices below n.
-use Rattle.std.specs.Prelude.{ℕ, zero, suc, ◌+◌, max, Bool, true, false, List, [], ◌∷◌, ◌++◌, leb, ltb, eqb, get_or, length}
+use Rattle.std.specs.Prelude.{ℕ, zero, suc, ◌+◌, max, Bool, true, false, List, [], ◌∷◌, ◌++◌, leb, ltb, eqb, get_or}
+use Rattle.std.specs.Prelude.{length}
 
 infix 50 ◌<?◌ ◌≤?◌ ◌=?◌
 unfoldable pub ◌<?◌ : ℕ → ℕ → Bool

@@ -1,5 +1,6 @@
 -- The lists that serving guests keeps: seats, slots, last holders and bars. Document 02, request 4.
-use Rattle.std.specs.Prelude.{◌≡◌, ℕ, zero, suc, ◌+◌, ◌-◌, ◌*◌, ◌%◌, ◌^◌, ◌<◌, ◌≤◌, Bool, true, ◌⊎◌, List, length, ◌≢◌, slice_set}
+use Rattle.std.specs.Prelude.{◌≡◌, ℕ, zero, suc, ◌+◌, ◌-◌, ◌*◌, ◌%◌, ◌^◌, ◌<◌, ◌≤◌, Bool, true, ◌⊎◌, List, length, ◌≢◌}
+use Rattle.std.specs.Prelude.{slice_set}
 use denote.MutBor.{MutBor}
 use Rattle.model.specs.Counting.{◌<?◌, ◌≤?◌, ◌and◌, only}
 use Rattle.model.specs.clauses.Lent.{MutLent}

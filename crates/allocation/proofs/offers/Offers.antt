@@ -15,7 +15,8 @@ use Rattle.allocation.specs.Totals.{max_total}
 use Rattle.allocation.specs.Offers.{picked, won_by, gain_for, charge_at, gain_at, taken, Offerable, Offered}
 
 -- a gain is at most one more than the total
-pub gain_low : (w : Bool) (total charge : ℕ) {g : ℕ} → total ≤ max_total → g ≡ gain_for w total charge → g ≤ max_total + 1
+pub gain_low : (w : Bool) (total charge : ℕ) {g : ℕ} → total ≤ max_total → g ≡ gain_for w total charge
+    → g ≤ max_total + 1
 unfolding gain_for
 gain_low w total charge l e = rw e (only_le w _ _ (λ _. omega arith))
 

@@ -52,10 +52,12 @@ crowded l {b} {t} {a} s p =
       arith,
       s.least_few.least (t - 1) (omega arith),
       s.counted,
-      count_or (length l) (λ k. t - 1 <? get_or l k 0) (λ k. t <? get_or l k 0) (λ k. get_or l k 0 =? t) (λ k _ h. ⊎_elim
+      count_or (length l) (λ k. t - 1 <? get_or l k 0) (λ k. t <? get_or l k 0) (λ k. get_or l k 0 =? t)
+          (λ k _ h. ⊎_elim
           (λ (e : t ≡ get_or l k 0). inr (is_eq _ _ (sym e)))
           (λ (q : t < get_or l k 0). inl (is_lt _ _ q))
-          (eq-or-lt_of_le (let z : t - 1 < get_or l k 0 = lt_yes _ _ h in let y : t ≤ get_or l k 0 = omega arith in y))),
+          (eq-or-lt_of_le
+          (let z : t - 1 < get_or l k 0 = lt_yes _ _ h in let y : t ≤ get_or l k 0 = omega arith in y))),
     )
 
 -- ---- those at t with a ticket below x

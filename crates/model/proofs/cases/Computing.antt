@@ -20,7 +20,8 @@ use Rattle.model.specs.book.PlainBook.{raised, entered, over_limit, book_size, n
 use Rattle.model.specs.book.PlainBook.{posting_faults, empty_plain, answer, after, answers, final}
 use Rattle.model.specs.book.Book.{sold_of, paid_of, empty_book, plain}
 use Rattle.model.specs.sheet.Fields.{little_endian, map_width, has_bit}
-use Rattle.model.specs.sheet.Rows.{map_at, bids_at, next_at, row_at, ask_of, bays_of, amount_of, ticket_of, bid_by, bid_of}
+use Rattle.model.specs.sheet.Rows.{map_at, bids_at, next_at, row_at, ask_of, bays_of, amount_of, ticket_of, bid_by}
+use Rattle.model.specs.sheet.Rows.{bid_of}
 use Rattle.model.specs.sheet.Rows.{bid_faults, bids_faults, row_faults, rows_faults}
 use Rattle.model.specs.sheet.Content.{guests, stations, tables_of, sheet_faults, read_sheet}
 use Rattle.model.specs.sheet.Layout.{bytes_of, pack, station, stated, row, layout, bidden}
@@ -55,19 +56,19 @@ unfolding counting_computes median two_thirds position named is_unknown rule_in 
 clearing_computes = tt
 
 unfoldable pub efficient_computes : Unit {0}
-unfolding clearing_computes sooner insert insert_where insert_guest candidacies_below candidacies served put bay_left assign
-    first_of turn_away take_one take_all nobody efficient efficient_decision efficient_outcome
+unfolding clearing_computes sooner insert insert_where insert_guest candidacies_below candidacies served put bay_left
+    assign first_of turn_away take_one take_all nobody efficient efficient_decision efficient_outcome
 efficient_computes = tt
 
 unfoldable pub posting_computes : Unit {0}
-unfolding clearing_computes raised entered over_limit book_size no_desk out_of_turn posting_faults empty_plain answer after
-    answers final sold_of paid_of empty_book plain
+unfolding clearing_computes raised entered over_limit book_size no_desk out_of_turn posting_faults empty_plain answer
+    after answers final sold_of paid_of empty_book plain
 posting_computes = tt
 
 unfoldable pub reading_computes : Unit {0}
-unfolding counting_computes counts little_endian map_width has_bit map_at bids_at next_at row_at ask_of bays_of amount_of ticket_of
-    bid_by bid_of bid_faults bids_faults row_faults rows_faults guests stations tables_of sheet_faults read_sheet table_lengths
-    reading_faults
+unfolding counting_computes counts little_endian map_width has_bit map_at bids_at next_at row_at ask_of bays_of
+    amount_of ticket_of bid_by bid_of bid_faults bids_faults row_faults rows_faults guests stations tables_of
+    sheet_faults read_sheet table_lengths reading_faults
 reading_computes = tt
 
 unfoldable pub writing_computes : Unit {0}
@@ -76,19 +77,19 @@ unfolding counting_computes outside repeats counts lengths values market_faults 
 writing_computes = tt
 
 unfoldable pub placing_computes : Unit {0}
-unfolding counting_computes outside counts difference squared_distance walk bid_between guest_cell station_cell placed_bid
-    placed_bids place_lengths place_values placing_faults
+unfolding counting_computes outside counts difference squared_distance walk bid_between guest_cell station_cell
+    placed_bid placed_bids place_lengths place_values placing_faults
 placing_computes = tt
 
 unfoldable pub csv_computes : Unit {0}
-unfolding counting_computes number_of is_digit line_of field_of digits_of value_of after_cr starts_line first_fields csv_stations
-    fields_of is_bid is_narrow most_by most too_large too_many is_missing misplaced byte_faults end_faults faults_from csv_faults
-    reading_csv_faults table_lengths csv_guests ending values_from csv_values value guest_field csv_tables read_csv bid_at higher
-    digits decimal more_fields csv_line lines bid_text guest_fields laid_out text_of
+unfolding counting_computes number_of is_digit line_of field_of digits_of value_of after_cr starts_line first_fields
+    csv_stations fields_of is_bid is_narrow most_by most too_large too_many is_missing misplaced byte_faults end_faults
+    faults_from csv_faults reading_csv_faults table_lengths csv_guests ending values_from csv_values value guest_field
+    csv_tables read_csv bid_at higher digits decimal more_fields csv_line lines bid_text guest_fields laid_out text_of
 csv_computes = tt
 
 unfoldable pub printing_computes : Unit {0}
 unfolding clearing_computes reading_computes csv_computes writing_computes higher digits decimal field guest_line
-    station_line guest_lines station_lines text refusal_text market_text market_text_of sheet_page sheet_page_of page_of read_text
-    read_as printed
+    station_line guest_lines station_lines text refusal_text market_text market_text_of sheet_page sheet_page_of page_of
+    read_text read_as printed
 printing_computes = tt

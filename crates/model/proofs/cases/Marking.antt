@@ -8,8 +8,8 @@ use Rattle.model.specs.market.Marking.{same_submission, correct, full_lengths, f
 use Rattle.model.proofs.cases.Computing.{clearing_computes}
 
 unfoldable marking_computes : Unit {0}
-unfolding clearing_computes table_i pair case_e single tied six six_twice handed place_table floors_of full_results_of round_of
-    same same_results same_submission correct full_lengths full_table_faults marking_faults judged
+unfolding clearing_computes table_i pair case_e single tied six six_twice handed place_table floors_of full_results_of
+    round_of same same_results same_submission correct full_lengths full_table_faults marking_faults judged
 marking_computes = tt
 
 pub rounds_hold : RoundsHold

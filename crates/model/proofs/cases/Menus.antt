@@ -9,8 +9,8 @@ use Rattle.model.specs.cases.Menus.{alone, ListsHold, judged_list, judged_gains,
 use Rattle.model.proofs.cases.Computing.{clearing_computes}
 
 pub lists_hold : ListsHold
-unfolding clearing_computes table_i pair case_g alone first_out rivals loses_tie menu_of listed price_list_by station_from
-    charge_from gain_from row_in gains_from
+unfolding clearing_computes table_i pair case_g alone first_out rivals loses_tie menu_of listed price_list_by
+    station_from charge_from gain_from row_in gains_from
 lists_hold = record {
   list_1 = refl;
   gains_1 = refl;

@@ -9,8 +9,8 @@ use Rattle.model.specs.cases.OtherRows.{RowInstance, judged, TryingsJudged}
 use Rattle.model.proofs.cases.Computing.{clearing_computes}
 
 pub row_instance : RowInstance
-unfolding clearing_computes pair case_g overbid bid_table bids_with_row gain seat_change change changes changed changes_with
-    differ places_changed both_gains
+unfolding clearing_computes pair case_g overbid bid_table bids_with_row gain seat_change change changes changed
+    changes_with differ places_changed both_gains
 row_instance = record {
   tried_is = refl;
   gains_are = refl;

@@ -11,8 +11,9 @@ use Rattle.model.specs.text.MarketText.{reasons_page, reasons_page_of}
 use Rattle.model.proofs.cases.Computing.{clearing_computes, printing_computes}
 
 pub reasons_hold : ReasonsHold
-unfolding printing_computes table_i pair case_e six six_twice sheet_e reasons_e number_of conditions code codes highest_code
-    loss guest_outcomes reason_word win_line loss_line outcome_line outcome_lines reasons_text reasons_page reasons_page_of
+unfolding printing_computes table_i pair case_e six six_twice sheet_e reasons_e number_of conditions code codes
+    highest_code loss guest_outcomes reason_word win_line loss_line outcome_line outcome_lines reasons_text reasons_page
+    reasons_page_of
 reasons_hold = record {
   codes_1 = refl;
   outcomes_1 = refl;

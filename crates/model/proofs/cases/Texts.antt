@@ -9,7 +9,8 @@ use Rattle.model.specs.text.Asked.{◌spells◌, rule_spelt, rule_asked, by_rule
 use Rattle.model.proofs.cases.Computing.{printing_computes}
 
 pub texts_hold : TextsHold
-unfolding printing_computes pair case_e single bytes csv_e text_e text_nine text_nineteen text_twenty_two sheet_e sheet_e0
+unfolding printing_computes pair case_e single bytes csv_e text_e text_nine text_nineteen text_twenty_two sheet_e
+    sheet_e0
 texts_hold = record {
   case_e_lem = refl;
   sheet_e_lem = refl;

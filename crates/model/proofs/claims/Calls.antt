@@ -72,7 +72,8 @@ module _ {made : Rule → Tables → Outcome} (mechanism : Screened → Decision
       (w : ℕ → ℕ) (i : ℕ) → i < length t.amounts
       → guest_gain (screened (rule_of rule) t) D w i ≡ guest_gain_in t k.exit w i
   unfolding guest_gain guest_gain_in obtained screened screen market market_by
-  guest_gain_lem w i l = ap₂ sub_ℕ (ap (at (λ j. w j * get_or t.amounts i 0)) (sym (station_of_lem i l))) (sym (charge_of_lem i l))
+  guest_gain_lem w i l =
+      ap₂ sub_ℕ (ap (at (λ j. w j * get_or t.amounts i 0)) (sym (station_of_lem i l))) (sym (charge_of_lem i l))
 
   station_gain_lem :
       (cost j : ℕ) → j < length t.asks
@@ -116,7 +117,8 @@ station_truthful_calls_by mechanism made_by truth rule t t' k k' j l A =
     (is_accepted mechanism made_by rule t' k') l A)
 
 -- `clear` clears by document 01's mechanism, `clear_efficient` by the efficient one
-pub by_truthful : (rule : Rule) (t : Tables) → outcome rule t ≡ outcome_by (screened rule t) (truthful (screened rule t))
+pub by_truthful : (rule : Rule) (t : Tables)
+    → outcome rule t ≡ outcome_by (screened rule t) (truthful (screened rule t))
 unfolding outcome decision
 by_truthful rule t = refl
 

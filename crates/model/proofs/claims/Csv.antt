@@ -32,7 +32,8 @@ use Rattle.model.proofs.csv.Truth.{reads_exactly_what_text_states, read_fits}
 -- ---- the verdict of a call
 
 text_verdict :
-    (text : List ℕ) (l : LentTables) → RightSizes l → first_fault (reading_csv_faults l text) ≡ first_fault (csv_faults text)
+    (text : List ℕ) (l : LentTables) → RightSizes l
+    → first_fault (reading_csv_faults l text) ≡ first_fault (csv_faults text)
 unfolding reading_csv_faults table_lengths
 text_verdict text l z =
     fault_later 10 (csv_faults text)

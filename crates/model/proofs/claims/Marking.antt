@@ -217,7 +217,8 @@ module _ (rule : Rule) (t : Tables) (i j : ℕ) where
   -- the round's cut and floors give the charge at a station
   round_charge :
       j < length t.asks → charge_in t (round_of rule t) i j ≡ charge (screened rule t) (decision rule t) i j
-  unfolding charge_in round_of full_results_of charge decision truthful outcome outcome_by screened screen market market_by
+  unfolding charge_in round_of full_results_of charge decision truthful outcome outcome_by screened screen market
+      market_by
   round_charge lj = ap (max _) (floor_at rule t j lj)
 
   seated_open : (decision rule t).assigned i ≡ suc j → j < length t.asks

@@ -184,8 +184,12 @@ places_by_list rule t i j a li lj =
     record {
       by_bar = held;
       in_words = (
-        λ h. let c = candidate_held (screened_by rule t) i j h in
-            (candidate_open (market_by rule t) i j c, candidate_bid (market_by rule t) i j c, le_yes _ _ (sym held ∙ h)),
+        λ h. let c = candidate_held (screened_by rule t) i j h in (
+          candidate_open (market_by rule t) i j c,
+          candidate_bid (market_by rule t) i j c,
+          le_yes _ _
+              (sym held ∙ h),
+        ),
         λ (o, b, l). held ∙ is_le _ _ l,
       );
       at_price = charge_by_price rule t i a li (bid_at t) j lj most (λ k lk n. refl);

@@ -26,7 +26,11 @@ use Rattle.model.proofs.places.Walks.{walk_mono}
 pub nearer_never_lowers : NearerNeverLowers
 unfolding bid_between
 nearer_never_lowers price fall guest station guest' station' l =
-    omega (arith, mul-le-mul_left fall (walk_mono (squared_distance guest station) (squared_distance guest' station') l))
+    omega (
+      arith,
+      mul-le-mul_left fall
+          (walk_mono (squared_distance guest station) (squared_distance guest' station') l),
+    )
 
 -- ---- what an accepted call left
 

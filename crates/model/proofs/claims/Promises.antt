@@ -59,7 +59,8 @@ export_can_keep A L p entry out = (_, _, _, record { number_is = refl; left = re
 -- ---- 0 means accepted
 
 zero_no_fault :
-    (rows : List Row) → numbered_from_one rows ≡ true → number_of (first_fault rows) ≡ 0 → first_fault rows ≡ accepted tt
+    (rows : List Row) → numbered_from_one rows ≡ true → number_of (first_fault rows) ≡ 0
+    → first_fault rows ≡ accepted tt
 unfolding numbered_from_one first_fault number_of
 zero_no_fault [] h e = refl
 zero_no_fault ((true gives k) ∷ rows) h e = absurd (omega (arith, le_yes 1 k (first (1 ≤? k) _ h)))
@@ -99,11 +100,11 @@ places_numbered m past (b ∷ rest) = places_numbered m (b ∷ past) rest
 
 pub faults_numbered_from_one : FaultsNumberedFromOne
 unfolding numbered_from_one ◌≤?◌ ◌and◌ clearing clearing_fully marking reading reading_csv writing placing explaining
-    joining trying entering marking_faults full_table_faults full_lengths clearing_faults table_faults unknown_rule counts
-    lengths list_lengths values market_faults reading_faults table_lengths sheet_faults reading_csv_faults csv_faults
-    writing_faults placing_faults place_lengths place_values explaining_faults explained_faults explained_lengths
-    joining_faults pair_faults joined_lengths trying_faults try_faults listing listing_faults list_faults gaining gaining_faults
-    gain_faults posting_faults book_size no_desk out_of_turn
+    joining trying entering marking_faults full_table_faults full_lengths clearing_faults table_faults unknown_rule
+    counts lengths list_lengths values market_faults reading_faults table_lengths sheet_faults reading_csv_faults
+    csv_faults writing_faults placing_faults place_lengths place_values explaining_faults explained_faults
+    explained_lengths joining_faults pair_faults joined_lengths trying_faults try_faults listing listing_faults
+    list_faults gaining gaining_faults gain_faults posting_faults book_size no_desk out_of_turn
 faults_numbered_from_one = record {
   of_clearing = λ made rule t entry. refl;
   of_clearing_fully = λ rule t entry. refl;

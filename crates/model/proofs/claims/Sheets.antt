@@ -55,7 +55,8 @@ read_is_stated s entry exit answer n m y c e =
 -- ---- there are such calls
 
 pub zeros : LentTables
-zeros = lent_tables (replicate max_guests 0) (replicate max_guests 0) (replicate max_stations 0) (replicate max_stations 0)
+zeros = lent_tables (replicate max_guests 0) (replicate max_guests 0) (replicate max_stations 0)
+    (replicate max_stations 0)
     (replicate max_bids 0)
 
 pub zeros_sized : RightSizes zeros

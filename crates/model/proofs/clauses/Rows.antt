@@ -23,7 +23,8 @@ row_long xs m i l =
     rw (← row_in xs m (i + 1) (omega arith) l, e) (simp (length-take, length-drop) (omega arith))
 
 pub row_shows :
-    (xs : List ℕ) (m i j : ℕ) → (i + 1) * m ≤ length xs → j < m → get_or (row_of xs m (i + 1)) j 0 ≡ get_or xs (i * m + j) 0
+    (xs : List ℕ) (m i j : ℕ) → (i + 1) * m ≤ length xs → j < m
+    → get_or (row_of xs m (i + 1)) j 0 ≡ get_or xs (i * m + j) 0
 row_shows xs m i j l h =
     let e : i + 1 - 1 ≡ i = omega arith in
     rw (← row_in xs m (i + 1) (omega arith) l, e) (get_or-take m _ j 0 h ∙ get_or-drop (i * m) xs j 0)

@@ -35,7 +35,8 @@ narrow l k e = rw e refl
 
 most_most : (l k : ℕ) → most l k ≤ 4_294_967_295
 most_most l k = ⊎_elim
-    (λ (e : is_narrow l k ≡ true). omega (arith, narrow l k e)) (λ (e : is_narrow l k ≡ false). omega (arith, wide l k e))
+    (λ (e : is_narrow l k ≡ true). omega (arith, narrow l k e))
+    (λ (e : is_narrow l k ≡ false). omega (arith, wide l k e))
     (decide (is_narrow l k))
 
 pub ask_most : (j : ℕ) → most 0 j ≡ 4_294_967_295

@@ -69,7 +69,8 @@ numeral_few (suc k) (suc j) x h p = ⊎_elim
 
 -- one digit more
 value_snoc :
-    (x : List ℕ) (d : ℕ) → d < 10 → value_of (reverse_aux (x ++ ((48 + d) ∷ [])) []) ≡ 10 * value_of (reverse_aux x []) + d
+    (x : List ℕ) (d : ℕ) → d < 10
+    → value_of (reverse_aux (x ++ ((48 + d) ∷ [])) []) ≡ 10 * value_of (reverse_aux x []) + d
 unfolding value_of only
 value_snoc x d h = rw (reverse_aux-append x ((48 + d) ∷ []) [], digit_byte d h) (omega arith)
 

@@ -60,7 +60,8 @@ below k a h e = ⊎_elim
 
 -- a comma that may stand in the first line is not after the 40th ask
 more_asks :
-    (w : List ℕ) (k : ℕ) → too_many w comma ≡ false → after_cr w ≡ false → line_of w ≡ 0 → field_of w ≡ k → k < max_stations
+    (w : List ℕ) (k : ℕ) → too_many w comma ≡ false → after_cr w ≡ false → line_of w ≡ 0 → field_of w ≡ k
+    → k < max_stations
     → suc k < max_stations
 unfolding too_many
 more_asks w k e c l f h = ⊎_elim
@@ -76,7 +77,8 @@ module _ (m : ℕ) (some : 0 < m) (n : ℕ)
     (rec : (l k : ℕ) (w rest : List ℕ) → length rest ≤ n → Open m l k w rest → Parsed m l k w rest)
     (l k : ℕ) (w : List ℕ) where
   at_digit :
-      (b : ℕ) (rest : List ℕ) → length rest ≤ n → Open m l k w (b ∷ rest) → is_digit b ≡ true → Parsed m l k w (b ∷ rest)
+      (b : ℕ) (rest : List ℕ) → length rest ≤ n → Open m l k w (b ∷ rest) → is_digit b ≡ true
+      → Parsed m l k w (b ∷ rest)
   unfolding after_cr starts_line
   at_digit b rest h o e =
       let t = digit_tests b e in

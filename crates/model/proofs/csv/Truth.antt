@@ -84,7 +84,8 @@ module _ (a b : List (List ℕ)) (gs : List (List (List ℕ))) (ga : GoodFields 
   unfolding stated
   bids_long i = length_list (length t.asks) (bid_at t i) ∙ asks_long
 
-  row_at_lem : (i : ℕ) → i < n → (k : ℕ) → k < length (row gs i) → get_or (row gs i) k 0 ≡ get_or (guest_numbers t i) k 0
+  row_at_lem : (i : ℕ) → i < n → (k : ℕ) → k < length (row gs i)
+      → get_or (row gs i) k 0 ≡ get_or (guest_numbers t i) k 0
   unfolding guest_numbers stated
   row_at_lem i l zero h = sym (get_d_list n (λ i. get_or (row gs i) 0 0) i l)
   row_at_lem i l (suc zero) h = sym (get_d_list n (λ i. get_or (row gs i) 1 0) i l)
@@ -116,7 +117,8 @@ module _ (a b : List (List ℕ)) (gs : List (List (List ℕ))) (ga : GoodFields 
   field_at_lem :
       (l k : ℕ) → l < length (a ∷ b ∷ gs) → k < length (get_or (a ∷ b ∷ gs) l [])
       → GoodField l k (get_or (get_or (a ∷ b ∷ gs) l []) k [])
-  field_at_lem zero k h j = subst (λ q. GoodField 0 q (get_or a k [])) (let e : 0 + k ≡ k = omega arith in e) (ga.each k j)
+  field_at_lem zero k h j =
+      subst (λ q. GoodField 0 q (get_or a k [])) (let e : 0 + k ≡ k = omega arith in e) (ga.each k j)
   field_at_lem (suc i) k h j =
       let e : 1 + i ≡ suc i = omega arith in
       let f : 0 + k ≡ k = omega arith in

@@ -30,7 +30,8 @@ use Rattle.model.proofs.Verdicts.{fault_none, no_fault, no_faults, fault_second,
 
 -- counts within the limits
 pub counted :
-    (n m : ℕ) → (max_guests <? n or m =? 0 or max_stations <? m) ≡ false → (n ≤ max_guests) × (1 ≤ m) × (m ≤ max_stations)
+    (n m : ℕ) → (max_guests <? n or m =? 0 or max_stations <? m) ≡ false
+    → (n ≤ max_guests) × (1 ≤ m) × (m ≤ max_stations)
 counted n m e =
     let (a, most) = or_no _ _ e in
     let (guests, some) = or_no _ _ a in (lt_no _ _ guests, omega (arith, eq_no _ _ some), lt_no _ _ most)

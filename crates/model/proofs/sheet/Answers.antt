@@ -14,7 +14,8 @@ use Rattle.model.specs.declared.answers.Reading.{Reading}
 abbrev pub Checked : List ℕ → Reading → Type 0
 Checked s r = answer_of_reading r ≡ giving (first_fault (sheet_faults s)) (guests s, stations s)
 
-pub answer_fault : (s : List ℕ) (x : Refusal) → first_fault (sheet_faults s) ≡ refused (number x) → Checked s (Refused x)
+pub answer_fault : (s : List ℕ) (x : Refusal) → first_fault (sheet_faults s) ≡ refused (number x)
+    → Checked s (Refused x)
 unfolding answer_of_reading
 answer_fault s x e = sym (giving_refused _ _ e)
 

@@ -123,7 +123,8 @@ without_lowest (suc k) x p h = go (λ q. without_lowest k (x / 2) q (omega arith
         let half : (x - 1) / 2 ≡ x / 2 - 1 = omega arith in
         let low : min (x % 2) ((x - 1) % 2) ≡ 0 = omega arith in
         let there = set_power (x / 2) _ (lowest_set k (x / 2) (omega arith) (omega arith)) in
-        let twice : (x / 2 - 2 ^ count_trailing_zeros k (x / 2)) * 2 + 0 ≡ x - 2 ^ suc (count_trailing_zeros k (x / 2)) =
+        let twice : (x / 2 - 2 ^ count_trailing_zeros k (x / 2)) * 2 + 0
+        ≡ x - 2 ^ suc (count_trailing_zeros k (x / 2)) =
         omega (arith, there) in
         and_step x (x - 1) ∙ rw (half, low, rest (omega arith)) twice
     go rest (suc zero) e =

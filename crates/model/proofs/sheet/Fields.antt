@@ -53,7 +53,8 @@ pub number_four : (s : List ℕ) → ((i : ℕ) → get_or s i 0 < 256) → (p k
 number_four s h p k l = omega (arith, number_low s h p k, bytes_pow k, pow_mono {i = 8 * k} {j = 32} (omega arith))
 
 pub number_bytes :
-    (s : List ℕ) (p a b c d : ℕ) → a ≡ get_or s p 0 → b ≡ get_or s (p + 1) 0 → c ≡ get_or s (p + 2) 0 → d ≡ get_or s (p + 3) 0
+    (s : List ℕ) (p a b c d : ℕ) → a ≡ get_or s p 0 → b ≡ get_or s (p + 1) 0 → c ≡ get_or s (p + 2) 0
+    → d ≡ get_or s (p + 3) 0
     → a + 256 * b + 65536 * c + 16777216 * d ≡ little_endian s p 4
 unfolding little_endian
 number_bytes s p a b c d e f g h =

@@ -45,7 +45,8 @@ holds_then s p q xs ys h e g = holds_append s p xs ys h (rw e g)
 pub holds_next : (s : List ℕ) (p q : ℕ) (xs ys : List ℕ) → p + length xs ≡ q → Holds s p (xs ++ ys) → Holds s q ys
 holds_next s p q xs ys e h = rw e at (holds_right s p xs ys h)
 
-holds_at : (s : List ℕ) (p : ℕ) (xs : List ℕ) → Holds s p xs → (k : ℕ) → k < length xs → get_or s (p + k) 0 ≡ get_or xs k 0
+holds_at : (s : List ℕ) (p : ℕ) (xs : List ℕ) → Holds s p xs → (k : ℕ) → k < length xs
+    → get_or s (p + k) 0 ≡ get_or xs k 0
 holds_at s p [] h k l = absurd (not-suc-le-zero l)
 holds_at s p (x ∷ xs) h zero l = let e : p + 0 ≡ p = omega arith in rw e h.0
 holds_at s p (x ∷ xs) h (suc k) l =

@@ -264,7 +264,8 @@ rows_either s m n h = faults_either _ n h
 
 -- and each row is sound where they have none
 pub sound_at :
-    (s : List ℕ) (m n i p : ℕ) → first_fault (rows_faults s m n) ≡ accepted tt → i < n → p ≡ row_at s m i → RowSound s m p
+    (s : List ℕ) (m n i p : ℕ) → first_fault (rows_faults s m n) ≡ accepted tt → i < n → p ≡ row_at s m i
+    → RowSound s m p
 unfolding rows_faults
 sound_at s m n i p e l g = row_sound s m p (ap (λ q. first_fault (row_faults s m q)) g ∙ faults_each _ n i e l)
 

@@ -227,7 +227,8 @@ module _ (s : List ℕ) (t : Tables) (set : ℕ → ℕ → Bool) where
 
   -- and the layout has such fields
   module _ (g : Fitting t) (e : s ≡ layout t set) where
-    from_0 : Holds s 0 (bytes_of 2 (n t) ++ (bytes_of 2 (m t) ++ (joined (m t) (station t) ++ joined (n t) (row t set))))
+    from_0 : Holds s 0
+        (bytes_of 2 (n t) ++ (bytes_of 2 (m t) ++ (joined (m t) (station t) ++ joined (n t) (row t set))))
     unfolding layout
     from_0 = subst (λ y. Holds s 0 y) e (holds_self s)
 
@@ -246,7 +247,8 @@ module _ (s : List ℕ) (t : Tables) (set : ℕ → ℕ → Bool) where
 
     row_at_lem : (i : ℕ) → i < n t → Holds s (row_at s (m t) i) (row t set i)
     row_at_lem =
-        joined_each s (row_at s (m t)) (row t set) (n t) (λ i _ h. row_step i (row_map_lem t set s i (row_at s (m t) i) h))
+        joined_each s (row_at s (m t)) (row t set) (n t)
+        (λ i _ h. row_step i (row_map_lem t set s i (row_at s (m t) i) h))
         (holds_next s 4 (row_at s (m t) 0) (joined (m t) (station t)) _ stations_long from_4)
 
     map_at_lem : (i : ℕ) → i < n t → map_at s (m t) (row_at s (m t) i) ≡ pack (m t) (set i)

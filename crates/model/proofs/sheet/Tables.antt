@@ -61,7 +61,8 @@ module _ (s a k b c d : List ℕ) where
   abbrev entry : LentTables
   entry = lent_tables a k b c d
 
-  refused_by : (x : Refusal) → first_fault (reading_faults entry s) ≡ refused (number x) → Reads s entry (Refused x) entry
+  refused_by : (x : Refusal) → first_fault (reading_faults entry s) ≡ refused (number x)
+      → Reads s entry (Refused x) entry
   unfolding answer_of_reading reading
   refused_by x e = keeps_refused e
 

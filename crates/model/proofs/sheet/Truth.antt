@@ -48,12 +48,19 @@ rise : (s : List ℕ) (m n i : ℕ) → i ≤ n → row_at s m i ≤ row_at s m 
 rise s m zero i l = let e : i ≡ 0 = omega arith in rw e (omega arith)
 rise s m (suc n) i l = ⊎_elim
     (λ (e : i ≡ suc n). rw e (omega arith))
-    (λ (h : i < suc n). omega
-    (arith, rise s m n i (le_of_suc-le-suc h), row_suc s m n, next_more s m (row_at s m n), bids_at_lem m (row_at s m n)))
+    (λ (h : i < suc n). omega (
+      arith,
+      rise s m n i (le_of_suc-le-suc h),
+      row_suc s m n,
+      next_more s m (row_at s m n),
+      bids_at_lem m
+          (row_at s m n),
+    ))
     (eq-or-lt_of_le l)
 
 within :
-    (s : List ℕ) (m n : ℕ) → 4 + 6 * m ≤ length s → first_fault (rows_faults s m n) ≡ accepted tt → row_at s m n ≤ length s
+    (s : List ℕ) (m n : ℕ) → 4 + 6 * m ≤ length s → first_fault (rows_faults s m n) ≡ accepted tt
+    → row_at s m n ≤ length s
 within s m zero h e = omega (arith, first_row s m)
 within s m (suc n) h e = omega (arith, row_suc s m n, (sound_at s m (suc n) n (row_at s m n) e here refl).bids_in)
 

@@ -26,7 +26,8 @@ step_end x e = rw e (record { given = sym (passing_none 64 (has_bit 0) (λ i _. 
 
 -- as code makes it
 pub step_lowest :
-    (x j rest : ℕ) → 0 < x → x < 2 ^ 64 → j ≡ count_trailing_zeros 64 x → rest ≡ bit_and x (x - 1) → Steps x (Place j rest)
+    (x j rest : ℕ) → 0 < x → x < 2 ^ 64 → j ≡ count_trailing_zeros 64 x → rest ≡ bit_and x (x - 1)
+    → Steps x (Place j rest)
 unfolding places_of_step
 step_lowest x j rest p h e f =
     rw (e, f ∙ without_lowest 64 x p h) (record { given = first_listed 64 _ _ _ (lowest_first 64 x p h) })

@@ -49,7 +49,8 @@ abbrev pub ListingsJudged : Type 0
 ListingsJudged =
     (judged_list 1 case_g 1 2 2 ∷ judged_list 2 case_g 2 2 2 ∷ [] ≡ replicate 2 (accepted tt))
     × (judged_list 1 case_g 0 2 2 ∷ judged_list 1 case_g 3 2 2 ∷ [] ≡ replicate 2 (refused 24))
-    × (judged_list 1 case_g 1 1 2 ∷ judged_list 1 case_g 1 3 2 ∷ judged_list 1 case_g 1 2 1 ∷ judged_list 1 case_g 1 2 3 ∷ []
+    × (judged_list 1 case_g 1 1 2 ∷ judged_list 1 case_g 1 3 2 ∷ judged_list 1 case_g 1 2 1
+    ∷ judged_list 1 case_g 1 2 3 ∷ []
     ≡ replicate 4 (refused 10))
     × (judged_list 3 (single 1 1 0 1) 0 0 0 ∷ judged_list 1 (single 1 1 0 1) 0 0 0 ∷ judged_list 1 case_g 0 0 0 ∷ []
     ≡ refused 18 ∷ refused 8 ∷ refused 24 ∷ [])

@@ -80,7 +80,8 @@ abbrev pub CsvAskedHold : Type 0
 CsvAskedHold = map asked (
     (csv_word ∷ []) ∷ (csv_word ∷ quiet_word ∷ []) ∷ (csv_word ∷ why_word ∷ []) ∷ (csv_word ∷ write_word ∷ [])
     ∷ (csv_word ∷ rule_word ∷ two_word ∷ []) ∷ (csv_word ∷ quiet_word ∷ rule_word ∷ two_word ∷ [])
-    ∷ (csv_word ∷ why_word ∷ rule_word ∷ two_word ∷ []) ∷ (csv_word ∷ csv_word ∷ []) ∷ (quiet_word ∷ csv_word ∷ []) ∷ [])
+    ∷ (csv_word ∷ why_word ∷ rule_word ∷ two_word ∷ []) ∷ (csv_word ∷ csv_word ∷ [])
+    ∷ (quiet_word ∷ csv_word ∷ []) ∷ [])
     ≡ map on_csv (Clearing Median ∷ Efficient Median ∷ Reasons Median ∷ Sheet
     ∷ Clearing TwoThirds ∷ Efficient TwoThirds ∷ Reasons TwoThirds ∷ [])
     ++ (Nothing ∷ Nothing ∷ [])

@@ -128,7 +128,8 @@ pub record ListingWithinLimits (rule : ℕ) (t : Tables) (guest bars prices : �
 abbrev pub ListingAcceptedIffWithinLimits : Type 0
 ListingAcceptedIffWithinLimits =
     (rule : ℕ) (t : Tables) (guest bars prices : ℕ)
-    → (first_fault (listing_faults rule t guest bars prices) ≡ accepted tt) ↔ ListingWithinLimits rule t guest bars prices
+    → (first_fault (listing_faults rule t guest bars prices) ≡ accepted tt)
+    ↔ ListingWithinLimits rule t guest bars prices
 
 -- k rows that fit t, one after the other
 pub record RowsFit (t : Tables) (rows : List ℕ) (k : ℕ) : Type 0 where

@@ -71,7 +71,8 @@ ExampleIsPosted =
 
 abbrev pub ExampleEndsSo : Type 0
 ExampleEndsSo =
-    (vs : List Verdict) (B : Book) → PostedInTurn (empty_book 2 2) (posting 1 case_e 0 1 ∷ posting 1 case_e 0 1 ∷ []) vs B
+    (vs : List Verdict) (B : Book)
+    → PostedInTurn (empty_book 2 2) (posting 1 case_e 0 1 ∷ posting 1 case_e 0 1 ∷ []) vs B
     → (vs ≡ accepted tt ∷ refused 11 ∷ []) × (B ≡ book (24 ∷ 0 ∷ []) (account 3 18 ∷ account 0 0 ∷ []) 6 (first_desk 1))
 
 -- from two desks it is posted twice, and the accounts are the sums of both; a ninth desk is refused

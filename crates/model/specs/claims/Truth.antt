@@ -48,8 +48,8 @@ charge_at rule t i j = charge (screened_by rule t) (truthful (screened_by rule t
 abbrev pub GuestTruthfulBy : (mechanism : Screened → Decision) (rule : ℕ → ℕ) → Type 0
 GuestTruthfulBy mechanism rule =
     (t t' : Tables) (i : ℕ) → Accepted t → Accepted t' → i < length t.amounts → AlikeButForGuest t t' i
-    → guest_gain (screened_by rule t') (mechanism (screened_by rule t')) (bid_at t i) i ≤ℤ guest_gain (screened_by rule t)
-    (mechanism (screened_by rule t)) (bid_at t i) i
+    → guest_gain (screened_by rule t') (mechanism (screened_by rule t')) (bid_at t i) i
+    ≤ℤ guest_gain (screened_by rule t) (mechanism (screened_by rule t)) (bid_at t i) i
 
 -- where t carries station j's cost, j gains no more in t'
 abbrev pub StationTruthfulBy : (mechanism : Screened → Decision) (rule : ℕ → ℕ) → Type 0

@@ -1,5 +1,5 @@
--- What a contract's parameters lend, by their names: as a `requires` has them (`.._of`), and as an `ensures` has them at
--- entry (`.._in`) and at exit (`.._out`).
+-- What a contract's parameters lend, by their names: as a `requires` has them (`.._of`), and as an `ensures` has them
+-- at entry (`.._in`) and at exit (`.._out`).
 use Rattle.std.specs.Prelude.{ℕ, List}
 use Rattle.std.specs.Borrow.{Bor}
 use denote.MutBor.{MutBor}

@@ -1,5 +1,6 @@
 -- The sheet that states a market, said without reading: its bytes from the first to the last. Document 01, 'The sheet'.
-use Rattle.std.specs.Prelude.{ℕ, zero, suc, ◌+◌, ◌*◌, ◌/◌, ◌%◌, ◌^◌, ◌≤◌, ◌<◌, Bool, true, false, List, [], ◌∷◌, ◌++◌, ◌≡◌, length, get_or}
+use Rattle.std.specs.Prelude.{ℕ, zero, suc, ◌+◌, ◌*◌, ◌/◌, ◌%◌, ◌^◌, ◌≤◌, ◌<◌, Bool, true, false, List, [], ◌∷◌, ◌++◌}
+use Rattle.std.specs.Prelude.{◌≡◌, length, get_or}
 use Rattle.model.specs.Limits.{max_sheet}
 use Rattle.model.specs.Counting.{◌<?◌, only, joined}
 use Rattle.model.specs.market.Market.{Tables, bid_at}

@@ -45,7 +45,8 @@ unfoldable pub ◌spells◌ : (given word : List ℕ) → Bool
 
 -- the rule that a number names
 unfoldable pub rule_spelt : List ℕ → NamedRule
-rule_spelt number = cond (number spells one_word) (Known Median) (cond (number spells two_word) (Known TwoThirds) Unknown)
+rule_spelt number =
+    cond (number spells one_word) (Known Median) (cond (number spells two_word) (Known TwoThirds) Unknown)
 
 -- the rule that the arguments after the page's own ask for: rule 1 where there are none, else `--rule` and a number
 unfoldable pub rule_asked : List (List ℕ) → NamedRule

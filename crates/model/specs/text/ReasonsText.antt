@@ -29,7 +29,8 @@ unfoldable pub reason_word : ℕ → List ℕ
 reason_word k = cond (k =? 1) no_bid_word (cond (k =? 2) not_open_word (cond (k =? 3) below_cut_word outbid_word))
 
 unfoldable pub win_line : (guest station charge : ℕ) → List ℕ
-win_line guest station charge = field guest_word guest ++ field wins_word station ++ field charge_word charge ++ line_end
+win_line guest station charge =
+    field guest_word guest ++ field wins_word station ++ field charge_word charge ++ line_end
 
 unfoldable pub loss_line : (guest code : ℕ) → List ℕ
 loss_line guest code = field guest_word guest ++ loses_word ++ reason_word code ++ line_end

@@ -31,10 +31,12 @@ own_slot zero i p a b = not_eq _ _ (λ e. omega arith) ∙ sym (not_eq _ _ (λ e
 own_slot (suc s) i p a b = refl
 
 pub kwh_in_lem :
-    (stations amounts : List ℕ) (s : ℕ) → 0 < s → s ≤ max_stations → kwh_in stations amounts s ≡ kwh_at stations amounts s
+    (stations amounts : List ℕ) (s : ℕ) → 0 < s → s ≤ max_stations
+    → kwh_in stations amounts s ≡ kwh_at stations amounts s
 unfolding kwh_in kwh_at
 kwh_in_lem stations amounts s p l =
-    sum_cong (length amounts) _ _ (λ k _. ap (λ b. only b (get_or amounts k 0)) (own_slot (get_or stations k 0) k s p l))
+    sum_cong (length amounts) _ _
+    (λ k _. ap (λ b. only b (get_or amounts k 0)) (own_slot (get_or stations k 0) k s p l))
 
 -- the table after the first i guests
 pub record Tallying (stations amounts : List ℕ) (i : ℕ) (kwh : List ℕ) : Type 0 where
@@ -42,7 +44,8 @@ pub record Tallying (stations amounts : List ℕ) (i : ℕ) (kwh : List ℕ) : T
   pub long : length kwh ≡ slots
   pub is :
       (p : ℕ) → p < slots
-      → Folded sum (length amounts) (λ k. only (slot_of (get_or stations k 0) k =? p) (get_or amounts k 0)) (get_or kwh p 0) i
+      → Folded sum (length amounts) (λ k. only (slot_of (get_or stations k 0) k =? p) (get_or amounts k 0))
+      (get_or kwh p 0) i
 
 pub tallied_none : {stations amounts kwh : List ℕ} → kwh ≡ list slots (λ _. 0) → Tallying stations amounts 0 kwh
 tallied_none {kwh = kwh} e =
@@ -92,4 +95,5 @@ sells stations amounts {cut} {m} {kwh} t l h = record {
 }
   where
     here : (j : ℕ) → j < m → get_or kwh (j + 1) 0 ≡ kwh_at stations amounts (j + 1)
-    here j lj = element slots _ t (j + 1) (omega arith) ∙ kwh_in_lem stations amounts (j + 1) (omega arith) (omega arith)
+    here j lj = element slots _ t (j + 1) (omega arith)
+        ∙ kwh_in_lem stations amounts (j + 1) (omega arith) (omega arith)

@@ -1,5 +1,6 @@
 -- Laws of the critical totals: what rows of bids make of them, and what is left where stations are closed.
-use Rattle.std.proofs.Common.{◌≡◌, ℕ, zero, suc, ◌+◌, ◌<◌, ◌≤◌, max, Bool, true, false, List, length, set, sym, refl, ap, ◌∙◌, le_antisymm, add-one, arith}
+use Rattle.std.proofs.Common.{◌≡◌, ℕ, zero, suc, ◌+◌, ◌<◌, ◌≤◌, max, Bool, true, false, List, length, set, sym, refl}
+use Rattle.std.proofs.Common.{ap, ◌∙◌, le_antisymm, add-one, arith}
 use Rattle.model.specs.Limits.{max_stations}
 use Rattle.model.specs.Counting.{◌<?◌, only, greatest, list}
 use Rattle.model.specs.clauses.Rows.{row_of}

@@ -1,5 +1,6 @@
 -- Laws of ranks, as numbers.
-use Rattle.std.proofs.Common.{◌≡◌, ℕ, zero, suc, ◌+◌, ◌-◌, ◌*◌, ◌/◌, ◌^◌, ◌<◌, ◌≤◌, Bool, true, List, sym, refl, ap, ◌∙◌, ⊎_elim, mul-le-mul_right, le_antisymm, arith}
+use Rattle.std.proofs.Common.{◌≡◌, ℕ, zero, suc, ◌+◌, ◌-◌, ◌*◌, ◌/◌, ◌^◌, ◌<◌, ◌≤◌, Bool, true, List, sym, refl, ap}
+use Rattle.std.proofs.Common.{◌∙◌, ⊎_elim, mul-le-mul_right, le_antisymm, arith}
 use Rattle.model.specs.Limits.{max_stations, max_price, max_amount}
 use Rattle.model.specs.Counting.{◌<?◌, ◌≤?◌, ◌=?◌, ◌and◌, ◌or◌, only}
 use Rattle.model.proofs.Tests.{both, first, second, same_test, or_left, or_right, or_cases, only_yes, only_no, only_le}

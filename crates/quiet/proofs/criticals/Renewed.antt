@@ -1,5 +1,6 @@
 -- Laws of lists of stations' numbers that are renewed.
-use Rattle.std.proofs.Common.{◌≡◌, ℕ, zero, suc, ◌+◌, ◌<◌, ◌≤◌, List, length, set, sym, refl, ◌∙◌, ⊎_elim, le_refl, le_antisymm, add-one, arith, length-set, get_or-set_other, get_or-set_same}
+use Rattle.std.proofs.Common.{◌≡◌, ℕ, zero, suc, ◌+◌, ◌<◌, ◌≤◌, List, length, set, sym, refl, ◌∙◌, ⊎_elim, le_refl}
+use Rattle.std.proofs.Common.{le_antisymm, add-one, arith, length-set, get_or-set_other, get_or-set_same}
 use Rattle.model.specs.Counting.{◌<?◌, only, list}
 use Rattle.model.specs.market.Mechanism.{at}
 use Rattle.model.proofs.Tests.{only_yes, only_no, is_lt, not_lt, eq_or_ne, lt_or_le}

@@ -1,5 +1,6 @@
 -- A bid's rank is not below its row's least exactly where its candidacy was turned away.
-use Rattle.std.proofs.Common.{◌≡◌, ℕ, zero, suc, ◌+◌, ◌*◌, ◌<◌, ◌≤◌, Bool, true, false, List, length, sym, refl, ap, ◌∙◌, ap₂, ⊎_elim, le_refl, arith}
+use Rattle.std.proofs.Common.{◌≡◌, ℕ, zero, suc, ◌+◌, ◌*◌, ◌<◌, ◌≤◌, Bool, true, false, List, length, sym, refl, ap}
+use Rattle.std.proofs.Common.{◌∙◌, ap₂, ⊎_elim, le_refl, arith}
 use Rattle.model.specs.Counting.{◌<?◌, ◌≤?◌, ◌=?◌, ◌and◌, ◌or◌, only}
 use Rattle.model.specs.clauses.Rows.{row_of}
 use Rattle.model.specs.market.Market.{Tables, Screened}

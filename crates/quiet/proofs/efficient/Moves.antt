@@ -1,5 +1,6 @@
 -- A move keeps what is known of those served, fewer hopes are left after it, and the end is stable.
-use Rattle.std.proofs.Common.{◌≡◌, ℕ, suc, ◌<◌, ◌≤◌, true, false, not, ◌⊎◌, sym, refl, ap, ◌∙◌, inl, inr, ⊎_elim, le_trans, le_refl, arith}
+use Rattle.std.proofs.Common.{◌≡◌, ℕ, suc, ◌<◌, ◌≤◌, true, false, not, ◌⊎◌, sym, refl, ap, ◌∙◌, inl, inr, ⊎_elim}
+use Rattle.std.proofs.Common.{le_trans, le_refl, arith}
 use borrow.Author.Tests.{not-true}
 use Rattle.model.specs.Counting.{◌<?◌, ◌and◌}
 use Rattle.model.specs.market.Market.{Screened}

@@ -1,5 +1,7 @@
 -- The order of candidacies at one station is that of its queue, and counts of holders when a seat changes.
-use Rattle.std.proofs.Common.{◌≡◌, ℕ, zero, suc, ◌+◌, ◌<◌, Bool, true, false, List, length, set, sym, refl, ap, ◌∙◌, ⊎_elim, le_refl, le_of_suc-le-suc, not-suc-le-zero, eq-or-lt_of_le, arith, get_or-set_other, get_or-set_same}
+use Rattle.std.proofs.Common.{◌≡◌, ℕ, zero, suc, ◌+◌, ◌<◌, Bool, true, false, List, length, set, sym, refl, ap, ◌∙◌}
+use Rattle.std.proofs.Common.{⊎_elim, le_refl, le_of_suc-le-suc, not-suc-le-zero, eq-or-lt_of_le, arith}
+use Rattle.std.proofs.Common.{get_or-set_other, get_or-set_same}
 use Rattle.model.specs.Counting.{◌<?◌, ◌=?◌, ◌and◌, ◌or◌, only, count, sum}
 use Rattle.model.specs.market.Market.{Screened, queue, before}
 use Rattle.model.specs.market.Stable.{sooner}

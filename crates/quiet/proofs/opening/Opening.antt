@@ -1,5 +1,7 @@
 -- The open stations, found one after the other.
-use Rattle.std.proofs.Common.{◌≡◌, ℕ, ◌+◌, ◌<◌, ◌≤◌, Bool, true, false, ◌⊎◌, List, length, take, set, sym, refl, ◌∙◌, inl, inr, ⊎_elim, arith, length-set, length-take-le, get_or-set_other, get_or-take, get_or-set_same}
+use Rattle.std.proofs.Common.{◌≡◌, ℕ, ◌+◌, ◌<◌, ◌≤◌, Bool, true, false, ◌⊎◌, List, length, take, set, sym, refl, ◌∙◌}
+use Rattle.std.proofs.Common.{inl, inr, ⊎_elim, arith, length-set, length-take-le, get_or-set_other, get_or-take}
+use Rattle.std.proofs.Common.{get_or-set_same}
 use Rattle.model.specs.Counting.{◌<?◌}
 use Rattle.model.proofs.Tests.{lt_or_le, lt_yes, lt_no}
 use Rattle.quiet.specs.Efficient.{of}

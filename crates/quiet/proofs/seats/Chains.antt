@@ -1,5 +1,6 @@
 -- Chains of holders, as a guest is put into a slot: at the head, or in the place of another.
-use Rattle.std.proofs.Common.{◌≡◌, ℕ, zero, suc, ◌+◌, ◌-◌, ◌<◌, ◌≤◌, List, length, set, sym, refl, ap, ◌∙◌, ⊎_elim, arith, length-set, get_or-set_other, get_or-set_same}
+use Rattle.std.proofs.Common.{◌≡◌, ℕ, zero, suc, ◌+◌, ◌-◌, ◌<◌, ◌≤◌, List, length, set, sym, refl, ap, ◌∙◌, ⊎_elim}
+use Rattle.std.proofs.Common.{arith, length-set, get_or-set_other, get_or-set_same}
 use Rattle.model.proofs.Tests.{eq_or_ne, lt_or_le, is_lt, not_lt, only_yes, only_no}
 use Rattle.quiet.specs.Efficient.{of}
 use Rattle.quiet.specs.Seating.{link, Chain, At, Relinked}

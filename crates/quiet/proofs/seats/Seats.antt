@@ -1,5 +1,6 @@
 -- A guest takes its seat: what is known of the lists holds on.
-use Rattle.std.proofs.Common.{◌≡◌, ℕ, suc, ◌+◌, ◌<◌, ◌≤◌, true, List, length, set, sym, refl, ap, ◌∙◌, ap₂, ⊎_elim, le_trans, add-one, arith, length-set, get_or-set_other, get_or-set_same}
+use Rattle.std.proofs.Common.{◌≡◌, ℕ, suc, ◌+◌, ◌<◌, ◌≤◌, true, List, length, set, sym, refl, ap, ◌∙◌, ap₂, ⊎_elim}
+use Rattle.std.proofs.Common.{le_trans, add-one, arith, length-set, get_or-set_other, get_or-set_same}
 use Rattle.model.specs.Limits.{max_bays}
 use Rattle.model.specs.Counting.{◌<?◌, ◌≤?◌, only}
 use Rattle.model.specs.market.Market.{Tables, Screened, bid_at}

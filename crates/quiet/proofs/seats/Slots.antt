@@ -1,5 +1,6 @@
 -- Laws of holders in slots and chains: which of them is last, and what a guest put into a slot changes.
-use Rattle.std.proofs.Common.{◌≡◌, ℕ, zero, suc, ◌+◌, ◌-◌, ◌<◌, ◌≤◌, true, cond, ◌⊎◌, List, length, get_or, sym, refl, ap, ◌∙◌, inl, inr, ⊎_elim, arith}
+use Rattle.std.proofs.Common.{◌≡◌, ℕ, zero, suc, ◌+◌, ◌-◌, ◌<◌, ◌≤◌, true, cond, ◌⊎◌, List, length, get_or, sym, refl}
+use Rattle.std.proofs.Common.{ap, ◌∙◌, inl, inr, ⊎_elim, arith}
 use Rattle.model.specs.Counting.{◌=?◌, ◌and◌}
 use Rattle.model.specs.market.Market.{Screened}
 use Rattle.model.specs.market.Stable.{sooner}

@@ -1,5 +1,6 @@
 -- Laws of the loops over guests: a turn of each, and how many turns are left.
-use Rattle.std.proofs.Common.{◌≡◌, ℕ, zero, suc, ◌+◌, ◌-◌, ◌*◌, ◌<◌, ◌≤◌, List, length, set, sym, refl, ap, ◌∙◌, inl, inr, ⊎_elim, add-one, arith, length-set, get_or-set_other, get_or-set_same}
+use Rattle.std.proofs.Common.{◌≡◌, ℕ, zero, suc, ◌+◌, ◌-◌, ◌*◌, ◌<◌, ◌≤◌, List, length, set, sym, refl, ap, ◌∙◌, inl}
+use Rattle.std.proofs.Common.{inr, ⊎_elim, add-one, arith, length-set, get_or-set_other, get_or-set_same}
 use Rattle.model.specs.Counting.{◌<?◌, only}
 use Rattle.model.specs.market.Market.{Tables, Screened}
 use Rattle.allocation.specs.Screens.{screened_at}

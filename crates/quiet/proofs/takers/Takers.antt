@@ -1,5 +1,6 @@
 -- Laws of bars and choices: who passes a bar is taken, and the greatest choice is the best.
-use Rattle.std.proofs.Common.{◌≡◌, ℕ, zero, suc, ◌+◌, ◌-◌, ◌*◌, ◌/◌, ◌%◌, ◌^◌, ◌<◌, ◌≤◌, max, true, false, List, length, sym, refl, ap, ◌∙◌, ap₂, inl, inr, ⊎_elim, le_refl, mul-le-mul, arith}
+use Rattle.std.proofs.Common.{◌≡◌, ℕ, zero, suc, ◌+◌, ◌-◌, ◌*◌, ◌/◌, ◌%◌, ◌^◌, ◌<◌, ◌≤◌, max, true, false, List, length}
+use Rattle.std.proofs.Common.{sym, refl, ap, ◌∙◌, ap₂, inl, inr, ⊎_elim, le_refl, mul-le-mul, arith}
 use Rattle.model.specs.Limits.{max_price, max_amount}
 use Rattle.model.specs.Counting.{◌<?◌, ◌≤?◌, ◌and◌, only}
 use Rattle.model.specs.clauses.Rows.{row_of}

@@ -17,25 +17,30 @@ returns-then-bids-width c = row_past _ _ _ c.if-width-eq0.false c.if-bids-width.
 
 pub overflow_mul-start : goal.overflow_mul-start
 overflow_mul-start c =
-    let lies : Inside (length c.args.bids.now) c.args.width c.args.guest = inside _ _ _ c.if-guest-eq0.false c.if-width-eq0.false (omega arith) in
+    let lies : Inside (length c.args.bids.now) c.args.width c.args.guest =
+    inside _ _ _ c.if-guest-eq0.false c.if-width-eq0.false (omega arith) in
     let h = lies in record { fits = omega arith }
 
 pub overflow_add-end : goal.overflow_add-end
 overflow_add-end c =
-    let lies : Inside (length c.args.bids.now) c.args.width c.args.guest = inside _ _ _ c.if-guest-eq0.false c.if-width-eq0.false (omega arith) in
+    let lies : Inside (length c.args.bids.now) c.args.width c.args.guest =
+    inside _ _ _ c.if-guest-eq0.false c.if-width-eq0.false (omega arith) in
     let h = lies in record { fits = omega arith }
 
 pub offset_bounds-bids-start : goal.offset_bounds-bids-start
 offset_bounds-bids-start c =
-    let lies : Inside (length c.args.bids.now) c.args.width c.args.guest = inside _ _ _ c.if-guest-eq0.false c.if-width-eq0.false (omega arith) in
+    let lies : Inside (length c.args.bids.now) c.args.width c.args.guest =
+    inside _ _ _ c.if-guest-eq0.false c.if-width-eq0.false (omega arith) in
     let h = (lies).start in search rules
 
 pub slice_bounds-result-end-2 : goal.slice_bounds-result-end-2
 slice_bounds-result-end-2 c =
-    let lies : Inside (length c.args.bids.now) c.args.width c.args.guest = inside _ _ _ c.if-guest-eq0.false c.if-width-eq0.false (omega arith) in
+    let lies : Inside (length c.args.bids.now) c.args.width c.args.guest =
+    inside _ _ _ c.if-guest-eq0.false c.if-width-eq0.false (omega arith) in
     omega (arith, (lies).end)
 
 pub returns : goal.returns
 returns c =
-    let lies : Inside (length c.args.bids.now) c.args.width c.args.guest = inside _ _ _ c.if-guest-eq0.false c.if-width-eq0.false (omega arith) in
+    let lies : Inside (length c.args.bids.now) c.args.width c.args.guest =
+    inside _ _ _ c.if-guest-eq0.false c.if-width-eq0.false (omega arith) in
     rw add-sub_cancel_left (row_in _ _ _ (positive _ c.if-guest-eq0.false) (lies).whole)

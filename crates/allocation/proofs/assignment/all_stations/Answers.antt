@@ -10,7 +10,13 @@ loop-j-init c =
 
 pub station-requires : goal.station-requires
 station-requires c =
-    record { at_cut = c.requires.at_cut; rising_value = c.requires.rising_value.0; j_in_bounds = (c.loop-j-test.true, c.loop-j.invariant.0.long); after_in = c.loop-j.invariant.0.turned.after; bounded_in = c.loop-j.invariant.1 }
+    record {
+      at_cut = c.requires.at_cut;
+      rising_value = c.requires.rising_value.0;
+      j_in_bounds = (c.loop-j-test.true, c.loop-j.invariant.0.long);
+      after_in = c.loop-j.invariant.0.turned.after;
+      bounded_in = c.loop-j.invariant.1;
+    }
 
 pub loop-j-preserved : goal.loop-j-preserved
 loop-j-preserved c =

@@ -5,7 +5,12 @@ use Rattle.allocation.proofs.assignment.assign.Goals as goal
 
 pub all_stations-requires : goal.all_stations-requires
 all_stations-requires c =
-    record { at_cut = c.requires.at_cut; rising_value = c.requires.rising_value; after_in = c.requires.after_in; bounded_in = c.requires.bounded_in }
+    record {
+      at_cut = c.requires.at_cut;
+      rising_value = c.requires.rising_value;
+      after_in = c.requires.after_in;
+      bounded_in = c.requires.bounded_in;
+    }
 
 pub charge_guests-requires : goal.charge_guests-requires
 charge_guests-requires c =

@@ -18,7 +18,14 @@ slice_bounds-assign-end-3 c =
 
 pub assign-requires : goal.assign-requires
 assign-requires c =
-    let most = c.requires.at_cut.within.shape.guests_most in record { at_cut = c.requires.at_cut; rising_value = (c.rising-rising.ensures, sym (zeros_long max_guests _ most)); after_in = after_none most c.requires.criticals_value.0; bounded_in = bounded_none c.requires.criticals_value.1; stations_len = c.requires.stations_len }
+    let most = c.requires.at_cut.within.shape.guests_most in
+    record {
+      at_cut = c.requires.at_cut;
+      rising_value = (c.rising-rising.ensures, sym (zeros_long max_guests _ most));
+      after_in = after_none most c.requires.criticals_value.0;
+      bounded_in = bounded_none c.requires.criticals_value.1;
+      stations_len = c.requires.stations_len;
+    }
 
 pub returns : goal.returns
 returns c =

@@ -46,25 +46,31 @@ gain_for-gain-requires c = (
 
 pub pick-requires : goal.pick-requires
 pick-requires c =
-    let gain_inside : c.gain_for-gain.result.0 ≤ max_total + 1 = gain_low _ _ _ (omega (arith, c.wide-total.ensures, c.requires.totals_low _ c.loop-i-test.true))
+    let gain_inside : c.gain_for-gain.result.0 ≤ max_total + 1 =
+    gain_low _ _ _ (omega (arith, c.wide-total.ensures, c.requires.totals_low _ c.loop-i-test.true))
     c.gain_for-gain.ensures in
-    let best_inside : c.wide-old.result.0 ≤ max_total + 1 = omega (arith, c.wide-old.ensures, gain_left c.requires c.loop-i.invariant c.loop-i-test.true) in
+    let best_inside : c.wide-old.result.0 ≤ max_total + 1 =
+    omega (arith, c.wide-old.ensures, gain_left c.requires c.loop-i.invariant c.loop-i-test.true) in
     (best_inside, gain_inside)
 
 pub larger_small-requires : goal.larger_small-requires
 larger_small-requires c =
-    let gain_inside : c.gain_for-gain.result.0 ≤ max_total + 1 = gain_low _ _ _ (omega (arith, c.wide-total.ensures, c.requires.totals_low _ c.loop-i-test.true))
+    let gain_inside : c.gain_for-gain.result.0 ≤ max_total + 1 =
+    gain_low _ _ _ (omega (arith, c.wide-total.ensures, c.requires.totals_low _ c.loop-i-test.true))
     c.gain_for-gain.ensures in
-    let best_inside : c.wide-old.result.0 ≤ max_total + 1 = omega (arith, c.wide-old.ensures, gain_left c.requires c.loop-i.invariant c.loop-i-test.true) in (
+    let best_inside : c.wide-old.result.0 ≤ max_total + 1 =
+    omega (arith, c.wide-old.ensures, gain_left c.requires c.loop-i.invariant c.loop-i-test.true) in (
       omega (arith, best_inside),
       omega (arith, gain_inside),
     )
 
 pub narrow-requires : goal.narrow-requires
 narrow-requires c =
-    let gain_inside : c.gain_for-gain.result.0 ≤ max_total + 1 = gain_low _ _ _ (omega (arith, c.wide-total.ensures, c.requires.totals_low _ c.loop-i-test.true))
+    let gain_inside : c.gain_for-gain.result.0 ≤ max_total + 1 =
+    gain_low _ _ _ (omega (arith, c.wide-total.ensures, c.requires.totals_low _ c.loop-i-test.true))
     c.gain_for-gain.ensures in
-    let best_inside : c.wide-old.result.0 ≤ max_total + 1 = omega (arith, c.wide-old.ensures, gain_left c.requires c.loop-i.invariant c.loop-i-test.true) in
+    let best_inside : c.wide-old.result.0 ≤ max_total + 1 =
+    omega (arith, c.wide-old.ensures, gain_left c.requires c.loop-i.invariant c.loop-i-test.true) in
     omega (arith, c.larger_small.ensures, best_inside, gain_inside)
 
 pub loop-i-preserved : goal.loop-i-preserved

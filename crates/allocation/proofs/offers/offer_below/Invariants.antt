@@ -5,7 +5,8 @@ use Rattle.allocation.proofs.offers.offer_below.Given as goal
 
 abbrev pub invariant-loop-i : goal.invariant-loop-i
 invariant-loop-i l =
-    Offering l.totals l.tickets l.least l.critical.0 l.bound l.station l.initial.chosen l.initial.gains l.i l.chosen l.gains
+    Offering l.totals l.tickets l.least l.critical.0 l.bound l.station l.initial.chosen l.initial.gains l.i l.chosen
+    l.gains
 
 abbrev pub decreases-loop-i : goal.decreases-loop-i
 decreases-loop-i l = length l.totals - l.i

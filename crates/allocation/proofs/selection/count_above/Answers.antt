@@ -25,7 +25,10 @@ loop-i-preserved c =
     let is = ap (λ x. c.args.t.0 <? x) (sym c.wide.ensures)
     ∙ sym c.below_small.ensures in
     count_turn c.loop-i.invariant c.loop-i-test.true
-    (elim c.if-below_small.branch [ then-below_small w ↦ inl ((is ∙ w.if-below_small.true, w.n-is)) | else-below_small w ↦ inr ((is ∙ w.if-below_small.false, w.n-is)) ])
+    (elim c.if-below_small.branch [
+      | then-below_small w ↦ inl ((is ∙ w.if-below_small.true, w.n-is))
+      | else-below_small w ↦ inr ((is ∙ w.if-below_small.false, w.n-is))
+    ])
 
 pub returns : goal.returns
 unfolding above

@@ -96,7 +96,10 @@ count_above-requires c =
 pub returns : goal.returns
 returns c =
     record {
-      least_few = record
-          { few = c.loop-low.invariant.2; least = λ u l. c.loop-low.invariant.3 u (omega (arith, c.loop-low-test.false)) };
+      least_few = record {
+        few = c.loop-low.invariant.2;
+        least =
+            λ u l. c.loop-low.invariant.3 u (omega (arith, c.loop-low-test.false));
+      };
       counted = c.count_above.ensures;
     }

@@ -14,7 +14,10 @@ pub loop-i-preserved : goal.loop-i-preserved
 loop-i-preserved c =
     let is = sym c.tied_below.ensures in
     count_turn c.loop-i.invariant c.loop-i-test.true
-    (elim c.if-tied_below.branch [ then-tied_below w ↦ inl ((is ∙ w.if-tied_below.true, w.n-is)) | else-tied_below w ↦ inr ((is ∙ w.if-tied_below.false, w.n-is)) ])
+    (elim c.if-tied_below.branch [
+      | then-tied_below w ↦ inl ((is ∙ w.if-tied_below.true, w.n-is))
+      | else-tied_below w ↦ inr ((is ∙ w.if-tied_below.false, w.n-is))
+    ])
 
 pub returns : goal.returns
 unfolding ties_below

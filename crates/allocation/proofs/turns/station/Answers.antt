@@ -21,17 +21,23 @@ overflow_cast-b c =
 pub critical_total-critical-requires : goal.critical_total-critical-requires
 critical_total-critical-requires c =
     let g = c.gather-top.ensures in
-    let few : length c.gather-top.new.totals ≤ max_guests = omega (arith, long _ _ g.totals_are, c.requires.at_cut.within.shape.guests_most) in
-    let opened : get_or c.args.asks.now c.args.j 0 < c.args.cut.0 = lt_yes _ _ (sym c.below.ensures ∙ c.if-below.true) in
-    let low : Totals c.gather-top.new.totals = all_low (regular _ _ _ _ _) _ _ c.requires.at_cut _ c.requires.j_in_bounds.0 opened _ g.totals_are in
+    let few : length c.gather-top.new.totals ≤ max_guests =
+    omega (arith, long _ _ g.totals_are, c.requires.at_cut.within.shape.guests_most) in
+    let opened : get_or c.args.asks.now c.args.j 0 < c.args.cut.0 =
+    lt_yes _ _ (sym c.below.ensures ∙ c.if-below.true) in
+    let low : Totals c.gather-top.new.totals =
+    all_low (regular _ _ _ _ _) _ _ c.requires.at_cut _ c.requires.j_in_bounds.0 opened _ g.totals_are in
     record { totals_len_bound = (few, none_above g); totals = (low, top_low g low) }
 
 pub tie_bound-bound-requires : goal.tie_bound-bound-requires
 tie_bound-bound-requires c =
     let g = c.gather-top.ensures in
-    let few : length c.gather-top.new.totals ≤ max_guests = omega (arith, long _ _ g.totals_are, c.requires.at_cut.within.shape.guests_most) in
-    let opened : get_or c.args.asks.now c.args.j 0 < c.args.cut.0 = lt_yes _ _ (sym c.below.ensures ∙ c.if-below.true) in
-    let low : Totals c.gather-top.new.totals = all_low (regular _ _ _ _ _) _ _ c.requires.at_cut _ c.requires.j_in_bounds.0 opened _ g.totals_are in
+    let few : length c.gather-top.new.totals ≤ max_guests =
+    omega (arith, long _ _ g.totals_are, c.requires.at_cut.within.shape.guests_most) in
+    let opened : get_or c.args.asks.now c.args.j 0 < c.args.cut.0 =
+    lt_yes _ _ (sym c.below.ensures ∙ c.if-below.true) in
+    let low : Totals c.gather-top.new.totals =
+    all_low (regular _ _ _ _ _) _ _ c.requires.at_cut _ c.requires.j_in_bounds.0 opened _ g.totals_are in
     let within = c.requires.at_cut.within in
     let critical = c.critical_total-critical.ensures in
     record {
@@ -46,19 +52,23 @@ tie_bound-bound-requires c =
 
 pub overflow_add-s : goal.overflow_add-s
 overflow_add-s c =
-    let numbered : c.args.j < max_stations = omega (arith, c.requires.j_in_bounds.0, c.requires.at_cut.within.shape.stations_most) in
+    let numbered : c.args.j < max_stations =
+    omega (arith, c.requires.j_in_bounds.0, c.requires.at_cut.within.shape.stations_most) in
     omega (arith, numbered)
 
 pub narrow-requires : goal.narrow-requires
 narrow-requires c =
     let g = c.gather-top.ensures in
-    let opened : get_or c.args.asks.now c.args.j 0 < c.args.cut.0 = lt_yes _ _ (sym c.below.ensures ∙ c.if-below.true) in
-    let low : Totals c.gather-top.new.totals = all_low (regular _ _ _ _ _) _ _ c.requires.at_cut _ c.requires.j_in_bounds.0 opened _ g.totals_are in
+    let opened : get_or c.args.asks.now c.args.j 0 < c.args.cut.0 =
+    lt_yes _ _ (sym c.below.ensures ∙ c.if-below.true) in
+    let low : Totals c.gather-top.new.totals =
+    all_low (regular _ _ _ _ _) _ _ c.requires.at_cut _ c.requires.j_in_bounds.0 opened _ g.totals_are in
     omega (arith, selected_low c.critical_total-critical.ensures (none_above g), top_low g low)
 
 pub offset_bounds-criticals-s : goal.offset_bounds-criticals-s
 offset_bounds-criticals-s c =
-    let numbered : c.args.j < max_stations = omega (arith, c.requires.j_in_bounds.0, c.requires.at_cut.within.shape.stations_most) in
+    let numbered : c.args.j < max_stations =
+    omega (arith, c.requires.j_in_bounds.0, c.requires.at_cut.within.shape.stations_most) in
     omega (arith, numbered)
 
 pub bounds-criticals-s : goal.bounds-criticals-s
@@ -72,7 +82,8 @@ bounds-criticals-s c =
 
 pub offset_bounds-bounds-s : goal.offset_bounds-bounds-s
 offset_bounds-bounds-s c =
-    let numbered : c.args.j < max_stations = omega (arith, c.requires.j_in_bounds.0, c.requires.at_cut.within.shape.stations_most) in
+    let numbered : c.args.j < max_stations =
+    omega (arith, c.requires.j_in_bounds.0, c.requires.at_cut.within.shape.stations_most) in
     omega (arith, numbered)
 
 pub bounds-bounds-s : goal.bounds-bounds-s
@@ -86,14 +97,17 @@ bounds-bounds-s c =
 
 pub overflow_cast-s : goal.overflow_cast-s
 overflow_cast-s c =
-    let numbered : c.args.j < max_stations = omega (arith, c.requires.j_in_bounds.0, c.requires.at_cut.within.shape.stations_most) in
+    let numbered : c.args.j < max_stations =
+    omega (arith, c.requires.j_in_bounds.0, c.requires.at_cut.within.shape.stations_most) in
     omega (arith, numbered)
 
 pub offer-requires : goal.offer-requires
 offer-requires c =
     let g = c.gather-top.ensures in
-    let opened : get_or c.args.asks.now c.args.j 0 < c.args.cut.0 = lt_yes _ _ (sym c.below.ensures ∙ c.if-below.true) in
-    let low : Totals c.gather-top.new.totals = all_low (regular _ _ _ _ _) _ _ c.requires.at_cut _ c.requires.j_in_bounds.0 opened _ g.totals_are in
+    let opened : get_or c.args.asks.now c.args.j 0 < c.args.cut.0 =
+    lt_yes _ _ (sym c.below.ensures ∙ c.if-below.true) in
+    let low : Totals c.gather-top.new.totals =
+    all_low (regular _ _ _ _ _) _ _ c.requires.at_cut _ c.requires.j_in_bounds.0 opened _ g.totals_are in
     offerable (regular _ _ _ _ _) _ _ c.requires.at_cut c.requires.j_in_bounds.0 g.totals_are low
     (critical_low g low c.critical_total-critical.ensures)
     c.tie_bound-bound.ensures c.requires.after_in
@@ -102,8 +116,10 @@ pub returns-then-below : goal.returns-then-below
 unfolding turn_totals gathered_if
 returns-then-below c =
     let stored : c.narrow.result ≡ c.critical_total-critical.result.total.0 = c.narrow.ensures in
-    let numbered : c.args.j < max_stations = omega (arith, c.requires.j_in_bounds.0, c.requires.at_cut.within.shape.stations_most) in
-    let opened : get_or c.args.asks.now c.args.j 0 < c.args.cut.0 = lt_yes _ _ (sym c.below.ensures ∙ c.if-below.true) in
+    let numbered : c.args.j < max_stations =
+    omega (arith, c.requires.j_in_bounds.0, c.requires.at_cut.within.shape.stations_most) in
+    let opened : get_or c.args.asks.now c.args.j 0 < c.args.cut.0 =
+    lt_yes _ _ (sym c.below.ensures ∙ c.if-below.true) in
     let g = c.gather-top.ensures in
     let critical = c.critical_total-critical.ensures in (
       rw (stored) (after_open_turn (regular _ _ _ _ _) _ _ c.requires.at_cut _

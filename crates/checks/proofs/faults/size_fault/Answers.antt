@@ -7,7 +7,8 @@ use Rattle.checks.proofs.faults.size_fault.Goals as goal
 
 pub returns-then-counts_out_of_range : goal.returns-then-counts_out_of_range
 unfolding counts answer_of_verdict
-returns-then-counts_out_of_range c = sym (fault_here _ (sym c.counts_out_of_range.ensures ∙ c.if-counts_out_of_range.true))
+returns-then-counts_out_of_range c =
+    sym (fault_here _ (sym c.counts_out_of_range.ensures ∙ c.if-counts_out_of_range.true))
 
 pub lengths_differ-requires : goal.lengths_differ-requires
 lengths_differ-requires c =

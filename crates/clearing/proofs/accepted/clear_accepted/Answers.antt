@@ -14,4 +14,8 @@ slice_bounds-clear_with_room-end c =
 
 pub clear_with_room-requires : goal.clear_with_room-requires
 clear_with_room-requires c =
-    record { within_limits = c.requires.within_limits; right_lengths = c.requires.right_lengths; least_len = sym (zeros_long max_guests _ c.requires.within_limits.shape.guests_most) }
+    record {
+      within_limits = c.requires.within_limits;
+      right_lengths = c.requires.right_lengths;
+      least_len = sym (zeros_long max_guests _ c.requires.within_limits.shape.guests_most);
+    }

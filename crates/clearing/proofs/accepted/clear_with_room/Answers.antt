@@ -10,16 +10,23 @@ use Rattle.clearing.proofs.accepted.clear_with_room.Goals as goal
 
 pub least_charges-requires : goal.least_charges-requires
 least_charges-requires c =
-    record { least_len = (c.requires.least_len, cut_low _ (regular _ _ _ _ _) _ c.requires.within_limits c.cut-cut.ensures); by_index = c.requires.within_limits.amount_most }
+    record {
+      least_len = (c.requires.least_len, cut_low _ (regular _ _ _ _ _) _ c.requires.within_limits c.cut-cut.ensures);
+      by_index = c.requires.within_limits.amount_most;
+    }
 
 pub assign_by-requires : goal.assign_by-requires
 assign_by-requires c =
-    record { at_cut = at_cut _ (regular _ _ _ _ _) c.requires.within_limits c.cut-cut.ensures c.least_charges.ensures; stations_len = (c.requires.right_lengths.stations_long, c.requires.right_lengths.charges_long) }
+    record {
+      at_cut = at_cut _ (regular _ _ _ _ _) c.requires.within_limits c.cut-cut.ensures c.least_charges.ensures;
+      stations_len = (c.requires.right_lengths.stations_long, c.requires.right_lengths.charges_long);
+    }
 
 pub sell-requires : goal.sell-requires
 sell-requires c =
     let done = c.assign_by.ensures in record {
-      stations_len = (stations_count (regular _ _ _ _ _) _ (of_mechanism _ _ _) done, c.requires.within_limits.shape.guests_most);
+      stations_len =
+          (stations_count (regular _ _ _ _ _) _ (of_mechanism _ _ _) done, c.requires.within_limits.shape.guests_most);
       by_index = c.requires.within_limits.amount_most;
       by_index_2 = stations_low (regular _ _ _ _ _) _ (of_mechanism _ _ _) done c.requires.within_limits;
       sold_len_bound = (

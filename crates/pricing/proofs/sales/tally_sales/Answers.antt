@@ -27,7 +27,8 @@ offset_bounds-kwh-s c = omega (arith, c.slot-s.ensures.0)
 
 pub bounds-kwh-s : goal.bounds-kwh-s
 bounds-kwh-s c =
-    let slot_inside : c.slot-s.result < length c.loop-i.kwh = omega (arith, c.slot-s.ensures.0, c.loop-i.invariant.long) in
+    let slot_inside : c.slot-s.result < length c.loop-i.kwh =
+    omega (arith, c.slot-s.ensures.0, c.loop-i.invariant.long) in
     slot_inside
 
 pub overflow_add-kwh : goal.overflow_add-kwh
@@ -45,7 +46,8 @@ offset_bounds-kwh-s-in-loop-i c = omega (arith, c.slot-s.ensures.0)
 
 pub bounds-kwh-s-in-loop-i : goal.bounds-kwh-s-in-loop-i
 bounds-kwh-s-in-loop-i c =
-    let slot_inside : c.slot-s.result < length c.loop-i.kwh = omega (arith, c.slot-s.ensures.0, c.loop-i.invariant.long) in
+    let slot_inside : c.slot-s.result < length c.loop-i.kwh =
+    omega (arith, c.slot-s.ensures.0, c.loop-i.invariant.long) in
     slot_inside
 
 pub loop-i-preserved : goal.loop-i-preserved

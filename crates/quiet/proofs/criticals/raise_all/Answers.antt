@@ -5,12 +5,18 @@ use Rattle.quiet.proofs.criticals.raise_all.Goals as goal
 
 pub loop-i-init : goal.loop-i-init
 loop-i-init c =
-    let rows = c.requires.rows in let (few, zeros) = c.requires.m_le_max_stations in (omega arith, passed_none _ _ _ rows zeros few)
+    let rows = c.requires.rows in
+    let (few, zeros) = c.requires.m_le_max_stations in (omega arith, passed_none _ _ _ rows zeros few)
 
 pub raise-requires : goal.raise-requires
 raise-requires c =
-    let rows = c.requires.rows in let (few, zeros) = c.requires.m_le_max_stations in let (within, renewed) = c.loop-i.invariant in
-    record { rows = rows; i_in_bounds = c.loop-i-test.true; room = passed_room _ _ _ rows _ renewed within (omega (arith, few, long _ _ zeros)) }
+    let rows = c.requires.rows in
+    let (few, zeros) = c.requires.m_le_max_stations in let (within, renewed) = c.loop-i.invariant in
+    record {
+      rows = rows;
+      i_in_bounds = c.loop-i-test.true;
+      room = passed_room _ _ _ rows _ renewed within (omega (arith, few, long _ _ zeros));
+    }
 
 pub loop-i-preserved : goal.loop-i-preserved
 loop-i-preserved c =

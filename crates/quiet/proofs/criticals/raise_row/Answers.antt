@@ -10,13 +10,17 @@ raised-requires c =
     let top_low : c.wide-top.result.0 ≤ max_total = let room = c.requires.room in
     rw (c.wide-top.ensures, renewed_next c.loop-j.invariant.1) (room.low _ c.loop-j-test.true) in
     let row = c.requires.row in let limits = c.requires.amount_le_max_amount in let lj = c.loop-j-test.true in
-    record { bid_le_max_price = (row.bid_most _ lj, omega (arith, row.few), limits.0); least_bound = (limits.1, top_low) }
+    record {
+      bid_le_max_price = (row.bid_most _ lj, omega (arith, row.few), limits.0);
+      least_bound = (limits.1, top_low);
+    }
 
 pub narrow-requires : goal.narrow-requires
 narrow-requires c =
     let top_low : c.wide-top.result.0 ≤ max_total = let room = c.requires.room in
     rw (c.wide-top.ensures, renewed_next c.loop-j.invariant.1) (room.low _ c.loop-j-test.true) in
-    let row = c.requires.row in let limits = c.requires.amount_le_max_amount in let total_low = total_from_low c.args.least.0 _ c.loop-j.j _
+    let row = c.requires.row in
+    let limits = c.requires.amount_le_max_amount in let total_low = total_from_low c.args.least.0 _ c.loop-j.j _
     (row.bid_most _ c.loop-j-test.true) limits.0 in
     omega (arith, c.raised.ensures, top_low, total_low)
 

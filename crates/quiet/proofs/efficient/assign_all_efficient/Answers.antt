@@ -9,7 +9,11 @@ slice_bounds-assign_with_room-end c =
 pub assign_with_room-requires : goal.assign_with_room-requires
 assign_with_room-requires c =
     let most = c.requires.at_cut.within.shape.guests_most in
-    record { at_cut = c.requires.at_cut; chosen_value = (zeros_are max_guests _ most, zeros _); stations_len = c.requires.stations_len }
+    record {
+      at_cut = c.requires.at_cut;
+      chosen_value = (zeros_are max_guests _ most, zeros _);
+      stations_len = c.requires.stations_len;
+    }
 
 pub returns : goal.returns
 returns c =

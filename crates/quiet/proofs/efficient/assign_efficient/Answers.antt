@@ -51,11 +51,20 @@ slice_bounds-serve_all-end-11 c =
 pub serve_all-requires : goal.serve_all-requires
 serve_all-requires c =
     let within = c.requires.priced.within in
-    let room = line_of_zeros max_guests _ within.shape.guests_most in record { priced = (c.requires.priced, c.open_stations-k.ensures.0); called = none_called (regular _ _ _ _ _) within c.requires.chosen_value.0 _; buckets_len = (refl, room, room) }
+    let room = line_of_zeros max_guests _ within.shape.guests_most in
+    record {
+      priced = (c.requires.priced, c.open_stations-k.ensures.0);
+      called = none_called (regular _ _ _ _ _) within c.requires.chosen_value.0 _;
+      buckets_len = (refl, room, room);
+    }
 
 pub all_criticals-requires : goal.all_criticals-requires
 all_criticals-requires c =
-    record { priced = c.requires.priced; seats = seats_known (regular _ _ _ _ _) c.serve_all.ensures.0; criticals_value = c.requires.chosen_value.1 }
+    record {
+      priced = c.requires.priced;
+      seats = seats_known (regular _ _ _ _ _) c.serve_all.ensures.0;
+      criticals_value = c.requires.chosen_value.1;
+    }
 
 pub returns : goal.returns
 returns c =

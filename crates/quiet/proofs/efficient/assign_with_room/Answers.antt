@@ -7,7 +7,10 @@ use Rattle.quiet.proofs.efficient.assign_with_room.Goals as goal
 
 pub assign_efficient-requires : goal.assign_efficient-requires
 assign_efficient-requires c =
-    record { priced = record { within = c.requires.at_cut.within; cut_low = c.requires.at_cut.cut_low }; chosen_value = c.requires.chosen_value }
+    record {
+      priced = record { within = c.requires.at_cut.within; cut_low = c.requires.at_cut.cut_low };
+      chosen_value = c.requires.chosen_value;
+    }
 
 pub charge_guests-requires : goal.charge_guests-requires
 charge_guests-requires c =

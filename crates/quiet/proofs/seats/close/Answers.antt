@@ -9,7 +9,10 @@ overflow_cast-lasts c =
 
 pub priority_at-last-requires : goal.priority_at-last-requires
 priority_at-last-requires c =
-    record { listed = c.requires.listed.0; i_in_bounds = (last_of_guest c.last_holder-holder.ensures, c.requires.listed.1) }
+    record {
+      listed = c.requires.listed.0;
+      i_in_bounds = (last_of_guest c.last_holder-holder.ensures, c.requires.listed.1);
+    }
 
 pub overflow_add-bars : goal.overflow_add-bars
 overflow_add-bars c =

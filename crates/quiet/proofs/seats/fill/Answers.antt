@@ -17,7 +17,8 @@ pub overflow_add-held : goal.overflow_add-held
 overflow_add-held c =
     let here : c.args.j < length c.args.asks.now = let (s-is, best_is) = c.requires.s_value in
     station (regular _ _ _ _ _) c.requires.within_limits c.requires.held_in c.requires.waits s-is best_is in
-    let few : of c.args.held.now c.args.j < max_bays = omega (arith, c.requires.j_bound, c.requires.within_limits.bays_most _ (here)) in
+    let few : of c.args.held.now c.args.j < max_bays =
+    omega (arith, c.requires.j_bound, c.requires.within_limits.bays_most _ (here)) in
     omega (arith, few)
 
 pub bounds-held-j-2 : goal.bounds-held-j-2
@@ -57,7 +58,8 @@ pub overflow_add-h : goal.overflow_add-h
 overflow_add-h c =
     let here : c.args.j < length c.args.asks.now = let (s-is, best_is) = c.requires.s_value in
     station (regular _ _ _ _ _) c.requires.within_limits c.requires.held_in c.requires.waits s-is best_is in
-    let few : of c.args.held.now c.args.j < max_bays = omega (arith, c.requires.j_bound, c.requires.within_limits.bays_most _ (here)) in
+    let few : of c.args.held.now c.args.j < max_bays =
+    omega (arith, c.requires.j_bound, c.requires.within_limits.bays_most _ (here)) in
     omega (arith, few)
 
 pub bounds-bays-j : goal.bounds-bays-j
@@ -70,14 +72,16 @@ pub overflow_add-all : goal.overflow_add-all
 overflow_add-all c =
     let here : c.args.j < length c.args.asks.now = let (s-is, best_is) = c.requires.s_value in
     station (regular _ _ _ _ _) c.requires.within_limits c.requires.held_in c.requires.waits s-is best_is in
-    let few : of c.args.held.now c.args.j < max_bays = omega (arith, c.requires.j_bound, c.requires.within_limits.bays_most _ (here)) in
+    let few : of c.args.held.now c.args.j < max_bays =
+    omega (arith, c.requires.j_bound, c.requires.within_limits.bays_most _ (here)) in
     omega (arith, few)
 
 pub overflow_cast-all : goal.overflow_cast-all
 overflow_cast-all c =
     let here : c.args.j < length c.args.asks.now = let (s-is, best_is) = c.requires.s_value in
     station (regular _ _ _ _ _) c.requires.within_limits c.requires.held_in c.requires.waits s-is best_is in
-    let few : of c.args.held.now c.args.j < max_bays = omega (arith, c.requires.j_bound, c.requires.within_limits.bays_most _ (here)) in
+    let few : of c.args.held.now c.args.j < max_bays =
+    omega (arith, c.requires.j_bound, c.requires.within_limits.bays_most _ (here)) in
     omega (arith, few)
 
 pub close-requires : goal.close-requires

@@ -29,7 +29,10 @@ overflow_cast-i-in-loop-left c =
 pub later-holder-requires : goal.later-holder-requires
 later-holder-requires c =
     let so_far = c.loop-left.invariant in
-    record { listed = c.requires.listed.0; j_lt_m = (c.requires.listed.1, last_guest so_far, next_guest so_far c.loop-left-test.true) }
+    record {
+      listed = c.requires.listed.0;
+      j_lt_m = (c.requires.listed.1, last_guest so_far, next_guest so_far c.loop-left-test.true);
+    }
 
 pub loop-left-smaller : goal.loop-left-smaller
 loop-left-smaller c = omega (arith, c.loop-left-test.true)

@@ -14,20 +14,26 @@ bounds-lasts-j c =
 
 pub overflow_cast-y : goal.overflow_cast-y
 overflow_cast-y c =
-    let last_here : of c.args.lasts.now c.args.j < length c.args.amounts.now = let (s-is, best_is) = c.requires.s_value in
-    last_guest (regular _ _ _ _ _) c.requires.within_limits c.requires.held_in c.requires.waits s-is best_is c.requires.j_bound in
+    let last_here : of c.args.lasts.now c.args.j < length c.args.amounts.now = let (s-is, best_is) =
+    c.requires.s_value in
+    last_guest (regular _ _ _ _ _) c.requires.within_limits c.requires.held_in c.requires.waits s-is best_is
+    c.requires.j_bound in
     omega (arith, last_here, c.requires.within_limits.shape.guests_most)
 
 pub offset_bounds-chosen-y : goal.offset_bounds-chosen-y
 offset_bounds-chosen-y c =
-    let last_here : of c.args.lasts.now c.args.j < length c.args.amounts.now = let (s-is, best_is) = c.requires.s_value in
-    last_guest (regular _ _ _ _ _) c.requires.within_limits c.requires.held_in c.requires.waits s-is best_is c.requires.j_bound in
+    let last_here : of c.args.lasts.now c.args.j < length c.args.amounts.now = let (s-is, best_is) =
+    c.requires.s_value in
+    last_guest (regular _ _ _ _ _) c.requires.within_limits c.requires.held_in c.requires.waits s-is best_is
+    c.requires.j_bound in
     omega (arith, last_here, c.requires.within_limits.shape.guests_most)
 
 pub bounds-chosen-y : goal.bounds-chosen-y
 bounds-chosen-y c =
-    let last_here : of c.args.lasts.now c.args.j < length c.args.amounts.now = let (s-is, best_is) = c.requires.s_value in
-    last_guest (regular _ _ _ _ _) c.requires.within_limits c.requires.held_in c.requires.waits s-is best_is c.requires.j_bound in
+    let last_here : of c.args.lasts.now c.args.j < length c.args.amounts.now = let (s-is, best_is) =
+    c.requires.s_value in
+    last_guest (regular _ _ _ _ _) c.requires.within_limits c.requires.held_in c.requires.waits s-is best_is
+    c.requires.j_bound in
     omega (arith, last_here, c.requires.held_in.chosen_long)
 
 pub bounds-chosen-x : goal.bounds-chosen-x
@@ -49,10 +55,14 @@ pub relink-requires : goal.relink-requires
 relink-requires c =
     let here : c.args.j < length c.args.asks.now = let (s-is, best_is) = c.requires.s_value in
     station (regular _ _ _ _ _) c.requires.within_limits c.requires.held_in c.requires.waits s-is best_is in
-    let last_here : of c.args.lasts.now c.args.j < length c.args.amounts.now = let (s-is, best_is) = c.requires.s_value in
-    last_guest (regular _ _ _ _ _) c.requires.within_limits c.requires.held_in c.requires.waits s-is best_is c.requires.j_bound in
-    let before_here : of c.args.befores.now c.args.j ≤ length c.args.amounts.now = let (s-is, best_is) = c.requires.s_value in
-    before_low (regular _ _ _ _ _) c.requires.within_limits c.requires.held_in c.requires.waits s-is best_is c.requires.j_bound in
+    let last_here : of c.args.lasts.now c.args.j < length c.args.amounts.now = let (s-is, best_is) =
+    c.requires.s_value in
+    last_guest (regular _ _ _ _ _) c.requires.within_limits c.requires.held_in c.requires.waits s-is best_is
+    c.requires.j_bound in
+    let before_here : of c.args.befores.now c.args.j ≤ length c.args.amounts.now = let (s-is, best_is) =
+    c.requires.s_value in
+    before_low (regular _ _ _ _ _) c.requires.within_limits c.requires.held_in c.requires.waits s-is best_is
+    c.requires.j_bound in
     let held_in = c.requires.held_in in (
       omega (arith, here, held_in.firsts_long),
       omega (arith, c.requires.waits.0, held_in.nexts_long),
@@ -87,7 +97,8 @@ close-requires c =
     let shape = c.requires.within_limits.shape in
     let linked = linked_swapped (regular _ _ _ _ _) c.requires.within_limits held_in c.requires.waits s-is best_is full
     c.relink.ensures in
-    let (firsts_long, nexts_long) = swapped_lengths (regular _ _ _ _ _) c.requires.within_limits held_in c.requires.waits
+    let (firsts_long, nexts_long) =
+    swapped_lengths (regular _ _ _ _ _) c.requires.within_limits held_in c.requires.waits
     s-is best_is full c.relink.ensures in record {
       listed = (
         listed (regular _ _ _ _ _) c.requires.within_limits,
@@ -102,8 +113,10 @@ close-requires c =
 
 pub overflow_add-result : goal.overflow_add-result
 overflow_add-result c =
-    let last_here : of c.args.lasts.now c.args.j < length c.args.amounts.now = let (s-is, best_is) = c.requires.s_value in
-    last_guest (regular _ _ _ _ _) c.requires.within_limits c.requires.held_in c.requires.waits s-is best_is c.requires.j_bound in
+    let last_here : of c.args.lasts.now c.args.j < length c.args.amounts.now = let (s-is, best_is) =
+    c.requires.s_value in
+    last_guest (regular _ _ _ _ _) c.requires.within_limits c.requires.held_in c.requires.waits s-is best_is
+    c.requires.j_bound in
     omega (arith, last_here, c.requires.within_limits.shape.guests_most)
 
 pub returns : goal.returns

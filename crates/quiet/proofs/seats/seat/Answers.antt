@@ -17,8 +17,20 @@ bounds-bays-j c =
 
 pub fill-requires : goal.fill-requires
 fill-requires c =
-    record { within_limits = c.requires.within_limits; held_in = c.requires.held_in; waits = c.requires.waits; s_value = c.requires.s_value; j_bound = c.if-held-j.true }
+    record {
+      within_limits = c.requires.within_limits;
+      held_in = c.requires.held_in;
+      waits = c.requires.waits;
+      s_value = c.requires.s_value;
+      j_bound = c.if-held-j.true;
+    }
 
 pub replace-requires : goal.replace-requires
 replace-requires c =
-    record { within_limits = c.requires.within_limits; held_in = c.requires.held_in; waits = c.requires.waits; s_value = c.requires.s_value; j_bound = c.if-held-j.false }
+    record {
+      within_limits = c.requires.within_limits;
+      held_in = c.requires.held_in;
+      waits = c.requires.waits;
+      s_value = c.requires.s_value;
+      j_bound = c.if-held-j.false;
+    }

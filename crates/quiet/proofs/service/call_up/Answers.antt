@@ -13,11 +13,19 @@ bounds-called-x-then-called-x-eq0 c =
 
 pub serve-requires : goal.serve-requires
 serve-requires c =
-    let priced = c.requires.priced in let calling = c.requires.called in let lx = c.requires.x_in_bounds in record { priced = priced; held_in = calling.held_in; waits = call_waits (regular _ _ _ _ _) calling lx c.if-called-x-eq0.true }
+    let priced = c.requires.priced in
+    let calling = c.requires.called in
+    let lx = c.requires.x_in_bounds in
+    record {
+      priced = priced;
+      held_in = calling.held_in;
+      waits = call_waits (regular _ _ _ _ _) calling lx c.if-called-x-eq0.true;
+    }
 
 pub returns-then-called-x-eq0 : goal.returns-then-called-x-eq0
 returns-then-called-x-eq0 c =
-    let calling = c.requires.called in let lx = c.requires.x_in_bounds in call_served (regular _ _ _ _ _) calling lx c.serve.ensures
+    let calling = c.requires.called in
+    let lx = c.requires.x_in_bounds in call_served (regular _ _ _ _ _) calling lx c.serve.ensures
 
 pub returns-else-called-x-eq0 : goal.returns-else-called-x-eq0
 returns-else-called-x-eq0 c =

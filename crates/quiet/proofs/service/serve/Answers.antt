@@ -14,7 +14,11 @@ loop-hand-init c =
 
 pub serve_guest-hand-requires : goal.serve_guest-hand-requires
 serve_guest-hand-requires c =
-    record { priced = c.requires.priced; held_in = c.loop-hand.invariant.held_in; waits = in_hand_waits (regular _ _ _ _ _) c.loop-hand.invariant c.loop-hand-test.true }
+    record {
+      priced = c.requires.priced;
+      held_in = c.loop-hand.invariant.held_in;
+      waits = in_hand_waits (regular _ _ _ _ _) c.loop-hand.invariant c.loop-hand-test.true;
+    }
 
 pub loop-hand-smaller : goal.loop-hand-smaller
 loop-hand-smaller c =

@@ -19,7 +19,13 @@ turn-x-requires c =
 
 pub call_up-requires : goal.call_up-requires
 call_up-requires c =
-    let priced = c.requires.priced in let line = c.requires.guest_line in record { priced = priced; called = c.loop-r.invariant.calling; x_in_bounds = omega (arith, c.turn-x.ensures.0, line.long) }
+    let priced = c.requires.priced in
+    let line = c.requires.guest_line in
+    record {
+      priced = priced;
+      called = c.loop-r.invariant.calling;
+      x_in_bounds = omega (arith, c.turn-x.ensures.0, line.long);
+    }
 
 pub overflow_add-r : goal.overflow_add-r
 overflow_add-r c =

@@ -34,13 +34,15 @@ loop-q-init c =
 pub offset_bounds-row-j : goal.offset_bounds-row-j
 offset_bounds-row-j c =
     let station : ℕ = of c.args.opened.now c.loop-q.q in
-    let is_station : (station < length c.args.asks.now) × (of c.args.asks.now (station) < c.args.cut.0) = c.requires.opened.stations c.loop-q.q c.loop-q-test.true in
+    let is_station : (station < length c.args.asks.now) × (of c.args.asks.now (station) < c.args.cut.0) =
+    c.requires.opened.stations c.loop-q.q c.loop-q-test.true in
     omega (arith, (is_station).0)
 
 pub bounds-row-j : goal.bounds-row-j
 bounds-row-j c =
     let station : ℕ = of c.args.opened.now c.loop-q.q in
-    let is_station : (station < length c.args.asks.now) × (of c.args.asks.now (station) < c.args.cut.0) = c.requires.opened.stations c.loop-q.q c.loop-q-test.true in
+    let is_station : (station < length c.args.asks.now) × (of c.args.asks.now (station) < c.args.cut.0) =
+    c.requires.opened.stations c.loop-q.q c.loop-q-test.true in
     let inside : station < length c.row_through_view-row.result.now = omega (
       arith,
       in_row (regular _ _ _ _ _) c.requires.priced c.requires.x_in_bounds c.row_through_view-row.ensures,
@@ -51,19 +53,22 @@ bounds-row-j c =
 pub offset_bounds-bars-j : goal.offset_bounds-bars-j
 offset_bounds-bars-j c =
     let station : ℕ = of c.args.opened.now c.loop-q.q in
-    let is_station : (station < length c.args.asks.now) × (of c.args.asks.now (station) < c.args.cut.0) = c.requires.opened.stations c.loop-q.q c.loop-q-test.true in
+    let is_station : (station < length c.args.asks.now) × (of c.args.asks.now (station) < c.args.cut.0) =
+    c.requires.opened.stations c.loop-q.q c.loop-q-test.true in
     omega (arith, (is_station).0)
 
 pub bounds-bars-j : goal.bounds-bars-j
 bounds-bars-j c =
     let station : ℕ = of c.args.opened.now c.loop-q.q in
-    let is_station : (station < length c.args.asks.now) × (of c.args.asks.now (station) < c.args.cut.0) = c.requires.opened.stations c.loop-q.q c.loop-q-test.true in
+    let is_station : (station < length c.args.asks.now) × (of c.args.asks.now (station) < c.args.cut.0) =
+    c.requires.opened.stations c.loop-q.q c.loop-q-test.true in
     omega (arith, (is_station).0, c.requires.bars.long)
 
 pub better-top-requires : goal.better-top-requires
 better-top-requires c =
     let station : ℕ = of c.args.opened.now c.loop-q.q in
-    let is_station : (station < length c.args.asks.now) × (of c.args.asks.now (station) < c.args.cut.0) = c.requires.opened.stations c.loop-q.q c.loop-q-test.true in
+    let is_station : (station < length c.args.asks.now) × (of c.args.asks.now (station) < c.args.cut.0) =
+    c.requires.opened.stations c.loop-q.q c.loop-q-test.true in
     let (here, _) = is_station in (
       total_low (regular _ _ _ _ _) c.requires.priced c.requires.x_in_bounds c.row_through_view-row.ensures here refl,
       omega arith,
