@@ -363,7 +363,8 @@ fi
 # copies with other sources: stale files are not run, and a build that cannot be is told in a line
 copy=$work/copy
 mkdir "$copy"
-cp -r clear scripts crates crates.txt examples "$copy"
+cp -r clear scripts crates.txt examples "$copy"
+tar -c --exclude='crates/*/out' crates | tar -x -C "$copy"
 mkdir -p "$copy/prebuilt"
 cp -r "$(scripts/current)" "$copy/prebuilt/x86_64-linux"
 expect 0 "$case_e" '' "PATH=/usr/bin:/bin $copy/clear $copy/examples/case_e.sheet"

@@ -12,7 +12,7 @@ strict='-Wall -Wextra -Wpedantic -Wconversion -Werror'
 
 # the header alone: clang is the machine's, or the kit's with gcc's headers
 if ! clang=$(command -v clang); then
-    clang="$(dirname -- "$(dirname -- "$(rt doc)")")/on/$(uname -m)/toolchain/bin/clang"
+    clang="$(dirname -- "$(rt doc)")/toolchain/bin/clang"
     clang="$clang -isystem $(gcc -print-file-name=include)"
 fi
 for compiler in gcc "$clang"; do

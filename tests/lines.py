@@ -25,7 +25,7 @@ def too_wide(text):
     return [n for n, line in enumerate(text.split('\n'), 1) if len(line) > WIDTH]
 
 
-for path in sorted(glob.glob('crates/*/**/*', recursive=True)):
+for path in sorted(path for part in ('src', 'specs', 'proofs') for path in glob.glob(f'crates/*/{part}/**', recursive=True)):
     if path.endswith(('.rt', '.antt')):
         text = open(path, encoding='utf8').read()
         wide = too_wide(text)

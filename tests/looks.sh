@@ -1,5 +1,6 @@
 #!/usr/bin/env bash
-# What is cheap to look at, before any proof: the tools, the layout of the text, the lists that must agree.
+# What is cheap to look at, before any proof: the tools, the layout of the text, the lists that must agree. How `rt fmt`
+# lays out the crates is looked at by rt ci.
 set -euo pipefail
 cd -- "$(dirname -- "$(readlink -f -- "$0")")/.."
 
@@ -15,9 +16,8 @@ done
 # a crate that is not listed would not be proved
 for folder in crates/*/; do
     name=$(basename "$folder")
-    grep -Eq "^[[:space:]]*${name}[[:space:]]*:" crates.txt || { echo "crates/$name is not listed in crates.txt" >&2; exit 1; }
+    grep -Eq "^[[:space:]]*${name}([[:space:]]+staticlib)?[[:space:]]*:" crates.txt || { echo "crates/$name is not listed in crates.txt" >&2; exit 1; }
 done
-rt fmt --check
 scripts/refusals --check
 scripts/exports --check
 tools/man.py --check

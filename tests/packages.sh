@@ -8,7 +8,7 @@ cd -- "$(dirname -- "$(readlink -f -- "$0")")/.."
 
 packages=$PWD/target/packages
 cross=/usr/aarch64-linux-gnu
-tools="$(dirname -- "$(dirname -- "$(rt doc)")")/on/$(uname -m)/toolchain/bin"
+tools="$(dirname -- "$(rt doc)")/toolchain/bin"
 work=$(mktemp -d)
 trap 'rm -rf "$work"' EXIT
 version=$(sed -n 's/^#define BAY_MARKET_VERSION "\(.*\)"$/\1/p' include/bay_market.h)

@@ -144,7 +144,7 @@ def house():
     for line in (ROOT / 'crates.txt').read_text(encoding='utf8').split('\n'):
         if line and not line.startswith('#'):
             name, used = line.split(':')
-            uses[name] = used.split()
+            uses[name.removesuffix(' staticlib')] = used.split()
     drawing = re.search(r'^```\n(.*?)^```$', text, re.M | re.S).group(1).split('\n')
     place = [(word, number) for number, line in enumerate(drawing) for word in line[:70].split() if word in uses]
     if sorted(word for word, _ in place) != sorted(uses):

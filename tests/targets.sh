@@ -12,7 +12,7 @@ calls=${TARGETS_CALLS-60000}
 seed=${TARGETS_SEED-1}
 made=$PWD/target/targets
 soname=$(scripts/soname)
-tools="$(dirname -- "$(dirname -- "$(rt doc)")")/on/$(uname -m)/toolchain/bin"
+tools="$(dirname -- "$(rt doc)")/toolchain/bin"
 cross=/usr/aarch64-linux-gnu
 work=$(mktemp -d)
 trap 'rm -rf "$work"' EXIT

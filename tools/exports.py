@@ -40,6 +40,8 @@ KINDS = (('lent', r'&mut \[(\w+)\]'), ('slice', r'&\[(\w+)\]'), ('out', r'&mut (
 GROUPS = {'MARKET': 'tables', 'RESULT': 'results', 'TOLD': 'explanation', 'PLACES': 'places'}
 # names that Rust takes only as r#NAME
 KEYWORDS = ('try',)
+# what makes a function one that C calls by its own name
+EXPORTED = r'#\[unsafe\(no_mangle\)\]\s*pub extern "C" fn'
 BEGIN, END = 'scripts/exports writes what follows', 'end of what scripts/exports writes'
 
 Parameter = collections.namedtuple('Parameter', 'name kind type')
@@ -67,7 +69,9 @@ def functions():
     out = []
     for path in sorted(glob.glob(SOURCES)):
         text = without_comments(open(path, encoding='utf8').read())
-        for name, given, answer in re.findall(r'pub extern "C" fn (\w+)\(([^)]*)\)\s*->\s*(\w+)', text):
+        if len(re.findall(r'extern "C" fn', text)) != len(re.findall(EXPORTED, text)):
+            raise Unknown(f'{path}: a function for C is not marked #[unsafe(no_mangle)]')
+        for name, given, answer in re.findall(rf'{EXPORTED} (\w+)\(([^)]*)\)\s*->\s*(\w+)', text):
             if path == exports_version.SOURCE:
                 continue
             if answer != 'u8' or not name.startswith(PREFIX):
@@ -85,7 +89,7 @@ def structs():
     out = {}
     for path in glob.glob(STRUCTS):
         text = without_comments(open(path, encoding='utf8').read())
-        for name, fields in re.findall(r'#\[repr\(C\)\]\s*pub struct (\w+) \{([^}]*)\}', text):
+        for name, fields in re.findall(r'#\[repr\(C\)\]\s*(?:#\[[^\]]*\]\s*)*pub struct (\w+) \{([^}]*)\}', text):
             out[name] = re.findall(r'pub (\w+): (\w+)', fields)
     return out
 

@@ -17,7 +17,7 @@ class NoVersion(Exception):
 def read():
     """The three numbers, and the names that the source exports."""
     text = open(SOURCE, encoding='utf8').read()
-    contract = r'ensures \{ λ r\. ⌜ r ≡ numbered (\d+) (\d+) (\d+) ⌝ \}'
+    contract = r'ensures \{ result ≡ numbered (\d+) (\d+) (\d+) \}'
     told = re.search(rf'fn bay_market_version\(\) -> u32\s+{contract}', text)
     if not told:
         raise NoVersion(f'{SOURCE}: the contract of bay_market_version names no version')

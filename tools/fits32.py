@@ -1,10 +1,11 @@
 #!/usr/bin/env python3
 """fits32.py MODULE.ll: whether a module that was made for 64-bit pointers means the same where they have 32 bits.
 
-It does where nothing sees a pointer's size: no pointer becomes a number or a number a pointer, pointers are not
-compared, no constant and no parameter's type has one inside, addresses are made by byte offsets, a local of type ptr is
-only loaded and stored whole, and no byte of memory is a pointer here and a number there (moved whole by memmove it may
-be). Memory is followed through calls, moves and stored pointers; places that may be the same are taken for the same.
+It does where nothing sees a pointer's size: no pointer becomes a number or a number a pointer, pointers are compared
+with null alone, no constant and no parameter's type has one inside, addresses are made by byte offsets, a local of type
+ptr is only loaded and stored whole, a pair of values has its second one at the same offset either way, and no byte of
+memory is a pointer here and a number there (moved whole by memmove, or filled with zeros, it may be). Memory is
+followed through calls, their results, moves and stored pointers; places that may be the same are taken for the same.
 What is not known here is refused. Exit status 0: it fits; 1: it does not, and the first faults are printed."""
 import re
 import sys
@@ -69,17 +70,31 @@ def value(words):
     return words.split()[-1]
 
 
+def kinds_of(words):
+    """The kinds in a type, or in what stands before a function's name: one, or those of a pair."""
+    pair = re.search(r'\{ (ptr|i\d+), (ptr|i\d+) \}', words)
+    return list(pair.groups()) if pair else re.findall(r'\b(?:ptr|i\d+)\b', words)[-1:]
+
+
+def second(kinds, pointer):
+    """The offset of a pair's second value, where a pointer has so many bytes."""
+    sizes = [pointer if kind == 'ptr' else NUMBERS[kind] for kind in kinds]
+    return -(-sizes[0] // sizes[1]) * sizes[1]
+
+
 class Module:
     def __init__(self, text):
         self.faults, self.pieces, self.instructions = [], [], 0
-        bodies = re.findall(r'^define [^\n]*?(@"[^"]*"|@[\w.]+)\(([^\n]*)\) #\d+ \{\n(.*?)^\}', text, re.M | re.S)
+        bodies = re.findall(r'^define ([^\n]*?)(@"[^"]*"|@[\w.]+)\(([^\n]*)\) #\d+ \{\n(.*?)^\}', text, re.M | re.S)
         if len(bodies) != len(re.findall(r'^define ', text, re.M)):
             self.faults.append('a function is not of the form that is known')
         for line in re.findall(r'^@.*', text, re.M):
             if re.search(r'\bptr\b', line):
                 self.faults.append(f'a constant holds a pointer: {line}')
-        self.functions = {name: self.parameters(name, split(given)) for name, given, _ in bodies}
-        for name, given, body in bodies:
+        self.functions = {name: self.parameters(name, split(given)) for _, name, given, _ in bodies}
+        self.results = {name: [self.new() if kind == 'ptr' else None for kind in kinds_of(made)]
+                        for made, name, _, _ in bodies}
+        for _, name, given, body in bodies:
             Body(self, name, split(given)).read(body)
 
     def new(self):
@@ -125,14 +140,19 @@ class Body:
         places = zip(parameters, module.functions[name])
         self.places = {value(words): place for words, place in places if place is not None}
         self.slots = set()  # locals of type ptr, which are smaller where pointers are
+        self.pairs = {}  # where the pointers of a pair lead
         self.forms = [(re.compile(pattern), act) for pattern, act in (
             (r'alloca (\[\d+ x i8\]|i\d+|ptr), align \d+', self.alloca),
             (r'load (ptr|i\d+), ptr (\S+), align \d+', self.load),
+            (r'load (\{ \w+, \w+ \}), ptr (\S+), align \d+', self.load_pair),
+            (r'extractvalue (\{ \w+, \w+ \}) (\S+), ([01])', self.part),
+            (r'ret (ptr|\{ \w+, \w+ \}) (\S+)', self.give),
+            (r'icmp (?:eq|ne) ptr (\S+), null', self.look),
             (r'store (ptr|i\d+) (\S+), ptr (\S+), align \d+', self.store),
             (r'getelementptr (?:inbounds )?(?:nuw )?i8, ptr (\S+), i64 (\S+)', self.offset),
             (r'call void @llvm\.memmove\.p0\.p0\.i64\(ptr (\S+), ptr (\S+), i64 \S+, i1 false\)', self.move),
-            (r'call void @llvm\.memset\.p0\.i64\(ptr (\S+), i8 \S+, i64 \S+, i1 false\)', self.fill),
-            (r'call (?:void|i\d+) (@"[^"]*"|@[\w.]+)\((.*)\)', self.call))]
+            (r'call void @llvm\.memset\.p0\.i64\(ptr (\S+), i8 (\S+), i64 \S+, i1 false\)', self.fill),
+            (r'call (?:void|ptr|i\d+|\{ \w+, \w+ \}) (@"[^"]*"|@[\w.]+)\((.*)\)', self.call))]
 
     def read(self, body):
         for line in body.splitlines():
@@ -159,6 +179,9 @@ class Body:
             return self.module.new()
         if name.startswith('@'):
             return self.places.setdefault(name, self.module.new())
+        if name not in self.places:
+            self.fault(f'{name}, a pointer, is made in a way that is not known')
+            self.places[name] = self.module.new()
         return self.places[name]
 
     def alloca(self, made, kind):
@@ -178,6 +201,30 @@ class Body:
         if kind == 'ptr':
             self.places[made] = leads_to(place)
 
+    def load_pair(self, made, pair, source):
+        kinds = kinds_of(pair)
+        offset = second(kinds, POINTER)
+        if offset != second(kinds, POINTER // 2):
+            self.fault(f'{pair} has its second value elsewhere')
+        piece, start = self.place(source)
+        self.pairs[made] = []
+        for kind, place in zip(kinds, ((piece, start), (piece, start + offset))):
+            use(place, 'ptr' if kind == 'ptr' else NUMBERS[kind])
+            self.pairs[made].append(leads_to(place) if kind == 'ptr' else None)
+
+    def part(self, made, pair, source, number):
+        if kinds_of(pair)[int(number)] == 'ptr':
+            self.places[made] = self.pairs[source][int(number)]
+
+    def give(self, _, made, given):
+        places = [self.place(given)] if made == 'ptr' else self.pairs[given]
+        for result, place in zip(self.module.results[self.name], places, strict=True):
+            if result is not None:
+                unify(result, place)
+
+    def look(self, _, given):
+        self.place(given)
+
     def store(self, _, kind, given, target):
         place = self.access(kind, target)
         if kind == 'ptr':
@@ -194,16 +241,23 @@ class Body:
     def move(self, _, to, source):
         unify(self.place(to), self.place(source))
 
-    def fill(self, _, to):
-        use(self.place(to), 1)
-        find(self.place(to))[0].computed = True
+    def fill(self, _, to, byte):
+        place = self.place(to)
+        if byte != '0':
+            use(place, 1)
+            find(place)[0].computed = True
 
-    def call(self, _, name, given):
+    def call(self, made, name, given):
         called = self.module.functions.get(name)
         if called is None:
             if re.search(r'\bptr\b', given):
                 self.fault(f'{name} is called with a pointer')
             return
+        results = self.module.results[name]
+        if len(results) == 2:
+            self.pairs[made] = results
+        elif results and results[0] is not None:
+            self.places[made] = results[0]
         for parameter, words in zip(called, split(given), strict=True):
             if (parameter is None) == words.startswith('ptr'):
                 self.fault(f'{name} is called with {words}')

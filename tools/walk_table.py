@@ -4,18 +4,19 @@ where the file is not what it would write."""
 import math
 import pathlib
 import sys
+import textwrap
 
 MAX_SQUARED_DISTANCE = 1922
 PATH = pathlib.Path(__file__).resolve().parent.parent / "crates/grid/src/walk_table.rt"
 
 HEAD = """\
 // The walks, generated: tools/walk_table.py.
+ghost use Rattle.std.specs.Prelude.{◌+◌, ◌≡◌};
+ghost use Rattle.model.specs.Limits.{max_squared_distance};
+ghost use Rattle.model.specs.Counting.{list};
+ghost use Rattle.model.specs.places.Bids.{walk};
+
 use model::limits::MAX_SQUARED_DISTANCE;
-ghost use Prim.Native.Nat.{_+_};
-ghost use mathlib.Core.Path.{_≡_};
-ghost use Rattle·model.specs.Limits.{maxSquaredDistance};
-ghost use Rattle·model.specs.Counting.{list};
-ghost use Rattle·model.specs.places.Bids.{walk};
 
 // At q: the greatest whole d with d times d at most 100 times q.
 const WALKS: [u16; MAX_SQUARED_DISTANCE + 1] = [
@@ -25,7 +26,7 @@ TAIL = """\
 
 // The walk for each squared distance, in tenths of a cell.
 pub fn walks() -> [u16; MAX_SQUARED_DISTANCE + 1]
-    ensures { λ r. ⌜ r ≡ list (maxSquaredDistance + 1) walk ⌝ }
+    ensures { result ≡ list (max_squared_distance + 1) walk }
 {
     WALKS
 }
@@ -33,12 +34,13 @@ pub fn walks() -> [u16; MAX_SQUARED_DISTANCE + 1]
 
 
 def table():
-    for q in range(MAX_SQUARED_DISTANCE + 1):
-        yield f"    {math.isqrt(100 * q)},\n"
+    """The numbers as `rt fmt` lays them out: lines of at most 100 columns."""
+    numbers = (f"{math.isqrt(100 * q)}," for q in range(MAX_SQUARED_DISTANCE + 1))
+    return textwrap.fill(" ".join(numbers), 100, initial_indent="    ", subsequent_indent="    ") + "\n"
 
 
 def main():
-    text = HEAD + "".join(table()) + TAIL
+    text = HEAD + table() + TAIL
     if sys.argv[1:] == ["--check"]:
         if PATH.read_text() != text:
             sys.exit(f"{PATH} is not as generated: run tools/walk_table.py")

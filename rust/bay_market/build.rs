@@ -18,11 +18,12 @@ fn current(machine: &str) -> PathBuf {
     if !script.is_file() {
         fail("set BAY_MARKET_LIB_DIR to the folder with libbay_market.a, as PREFIX/lib after `scripts/install PREFIX`");
     }
-    for source in ["crates", "crates.txt", "prebuilt", "target/dist/SOURCES.sha256", "target/targets"] {
-        let source = root.join(source);
-        if source.exists() {
-            println!("cargo::rerun-if-changed={}", source.display());
-        }
+    // beside a crate's sources stands out/, which every check writes
+    let crates = fs::read_dir(root.join("crates")).into_iter().flatten().flatten().map(|entry| entry.path());
+    let sources = crates.flat_map(|folder| ["src", "specs", "proofs"].map(|part| folder.join(part)));
+    let others = ["crates.txt", "prebuilt", "target/dist/SOURCES.sha256", "target/targets"].map(|name| root.join(name));
+    for source in sources.chain(others).filter(|path| path.exists()) {
+        println!("cargo::rerun-if-changed={}", source.display());
     }
     let root = root.canonicalize().unwrap_or(root);
     match Command::new(&script).arg(machine).output() {

@@ -15,6 +15,15 @@ start:
   ret i32 %r1
 }
 
+define internal { ptr, i64 } @pair(ptr %a0) #0 {
+start:
+  %r0 = alloca [16 x i8], align 8
+  call void @llvm.memset.p0.i64(ptr %r0, i8 0, i64 16, i1 false)
+  store ptr %a0, ptr %r0, align 8
+  %r1 = load { ptr, i64 }, ptr %r0, align 8
+  ret { ptr, i64 } %r1
+}
+
 define i32 @outer(ptr %a0) #0 {
 start:
   %r0 = alloca [16 x i8], align 8
@@ -27,7 +36,10 @@ start:
   %r4 = load ptr, ptr %r2, align 8
   store ptr %r4, ptr %r1, align 8
   %r5 = load ptr, ptr %r1, align 8
-  %r6 = call i32 @inner(ptr %r5, i64 4)
+  %r7 = call { ptr, i64 } @pair(ptr %r5)
+  %r8 = extractvalue { ptr, i64 } %r7, 0
+  %r9 = icmp eq ptr %r8, null
+  %r6 = call i32 @inner(ptr %r8, i64 4)
   ret i32 %r6
 }
 '''
@@ -35,13 +47,19 @@ LAST = '  ret i32 %r6\n'
 FAULTS = {
     'a pointer as a number': '  %x = ptrtoint ptr %a0 to i64\n',
     'a number as a pointer': '  %x = inttoptr i64 4 to ptr\n',
-    'pointers compared': '  %x = icmp eq ptr %a0, null\n',
+    'pointers compared': '  %x = icmp eq ptr %a0, %r0\n',
+    'a pointer from a pair over a number': '  store ptr %r8, ptr %r3, align 8\n',
+    'a pointer in the table that inner reads through a pair': '  store ptr %r0, ptr %r8, align 8\n',
+    'a pair of pointers': '  %x = load { ptr, ptr }, ptr %r2, align 8\n',
+    'a pair with a number that would be nearer': '  %x = load { ptr, i32 }, ptr %r2, align 8\n',
+    'a pair of numbers over a pointer': '  %x = load { i32, i32 }, ptr %r2, align 8\n',
+    'a pointer that is made otherwise': '  %y = call ptr @made(i64 4)\n  store i64 4, ptr %y, align 8\n',
     'an address by elements': '  %x = getelementptr inbounds nuw ptr, ptr %r0, i64 1\n',
     'half of a pointer read': '  %x = load i32, ptr %r2, align 4\n',
     'the other half, after a move': '  %y = getelementptr i8, ptr %r2, i64 4\n  %x = load i8, ptr %y, align 1\n',
     'a pointer over a number': '  store ptr %a0, ptr %r3, align 8\n',
     'a pointer in the table that inner reads': '  store ptr %r0, ptr %a0, align 8\n',
-    'memory with a pointer filled': '  call void @llvm.memset.p0.i64(ptr %r0, i8 0, i64 16, i1 false)\n',
+    'memory with a pointer filled': '  call void @llvm.memset.p0.i64(ptr %r0, i8 1, i64 16, i1 false)\n',
     'a computed offset among pointers': '  %x = getelementptr i8, ptr %r0, i64 %n\n',
     'a local of type ptr moved': '  call void @llvm.memmove.p0.p0.i64(ptr %r1, ptr %r0, i64 8, i1 false)\n',
     'a local of type ptr as a number': '  %x = load i64, ptr %r1, align 8\n',
