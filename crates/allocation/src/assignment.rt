@@ -106,7 +106,8 @@ pub fn assign_with_bars(
     charges: &mut [u32],
 )
     requires at_cut { AtCut (regular_of asks bays amounts tickets bids) cut.0 least.now }
-    requires criticals_value { (criticals.old ≡ list (max_stations + 1) (λ _. 0)) × (length bounds.old ≡ max_stations + 1) }
+    requires criticals_value { (criticals.old ≡ list (max_stations + 1) (λ _. 0))
+        × (length bounds.old ≡ max_stations + 1) }
     requires stations_len { (length stations.old ≡ length amounts.now) × (length charges.old ≡ length amounts.now) }
     ensures { let t = regular_in asks bays amounts tickets bids in
         let S = screened_at t cut.0 in

@@ -65,7 +65,8 @@ fn clear_with_room(
     paid: &mut [u64],
 ) -> Clearing
     requires within_limits { WithinLimits (regular_of asks bays amounts tickets bids) }
-    requires right_lengths { RightLengths (regular_of asks bays amounts tickets bids) (results_of stations charges sold paid) }
+    requires right_lengths { RightLengths (regular_of asks bays amounts tickets bids)
+        (results_of stations charges sold paid) }
     requires least_len { length least.old ≡ length amounts.now }
     ensures { let t = regular_in asks bays amounts tickets bids in
         ClearsAccepted (outcome_in mechanism rule t) result (results_out stations charges sold paid)
@@ -97,7 +98,8 @@ pub fn clear_accepted(
     paid: &mut [u64],
 ) -> Clearing
     requires within_limits { WithinLimits (regular_of asks bays amounts tickets bids) }
-    requires right_lengths { RightLengths (regular_of asks bays amounts tickets bids) (results_of stations charges sold paid) }
+    requires right_lengths { RightLengths (regular_of asks bays amounts tickets bids)
+        (results_of stations charges sold paid) }
     ensures { ClearsAccepted (outcome_in mechanism rule (regular_in asks bays amounts tickets bids)) result
         (results_out stations charges sold paid) }
 {

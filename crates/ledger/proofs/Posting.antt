@@ -126,7 +126,8 @@ same_adding rule t d n = refl
 
 -- nothing is added past its stations
 none_past :
-    (m k : ℕ) (f : ℕ → ℕ) → m ≤ k → only (k <? max_stations) (get_or (list max_stations (λ j. only (j <? m) (f j))) k 0) ≡ 0
+    (m k : ℕ) (f : ℕ → ℕ) → m ≤ k
+    → only (k <? max_stations) (get_or (list max_stations (λ j. only (j <? m) (f j))) k 0) ≡ 0
 none_past m k f h = ⊎_elim
     (λ (l : k < max_stations).
     only_yes _ _ (is_lt k max_stations l) ∙ get_d_list max_stations _ k l ∙ only_no _ _ (not_lt k m h))

@@ -28,7 +28,8 @@ use Rattle.ledger.specs.Settling.{followed, no_room, ruled, refusal, Settled}
 
 -- where no account exceeds, each sum is within the limit, so within 64 bits
 pub within :
-    (xs adds : List ℕ) → exceeding xs adds ≡ false → (k : ℕ) → k < length xs → get_or xs k 0 + get_or adds k 0 ≤ max_account
+    (xs adds : List ℕ) → exceeding xs adds ≡ false → (k : ℕ) → k < length xs
+    → get_or xs k 0 + get_or adds k 0 ≤ max_account
 unfolding exceeding
 within xs adds e k l = lt_no _ _ (some_no (length xs) _ e k l)
 

@@ -8,7 +8,8 @@ use Rattle.model.specs.text.Decimal.{field}
 use Rattle.sheet.specs.Wrote.{Wrote}
 use Rattle.report.proofs.text.Fields.{length_field}
 use Rattle.sheet.proofs.Wrote.{wrote_then}
-use Rattle.model.specs.text.Lines.{guest_word, at_station_word, charge_word, station_word, sold_word, paid_word, line_end}
+use Rattle.model.specs.text.Lines.{guest_word, at_station_word, charge_word, station_word, sold_word, paid_word}
+use Rattle.model.specs.text.Lines.{line_end}
 use Rattle.model.specs.text.Lines.{guest_line, station_line, guest_lines, station_lines}
 
 -- three fields and the line's end

@@ -8,7 +8,10 @@ lay_out-requires c =
     let told = c.explained-e.ensures in
     let args = c.args in
     let lists = outcome_table args.stations.now args.charges.now args.reasons.now in
-    record { guests_le_max_guests = room _ _ _ lists _ same _ _ told; by_index = charges_low _ _ _ lists _ same _ _ told }
+    record {
+      guests_le_max_guests = room _ _ _ lists _ same _ _ told;
+      by_index = charges_low _ _ _ lists _ same _ _ told;
+    }
 
 pub returns : goal.returns
 returns c =

@@ -24,10 +24,12 @@ returns-then-desk_out_of_range c =
 
 pub bounds-last-at : goal.bounds-last-at
 bounds-last-at c =
-    let right_size : (length c.args.guests.now ≤ max_guests) × (length c.args.last.now ≡ max_desks) = let args = c.args in
+    let right_size : (length c.args.guests.now ≤ max_guests) × (length c.args.last.now ≡ max_desks) = let args =
+    c.args in
     sized args.r.guests args.r.stations _ args.stations _ _
     c.book_size_differs.ensures c.if-book_size_differs.false in
-    let desk_fits : c.args.desk < length c.args.last.now = desk_in c.args.desk _ _ c.desk_out_of_range.ensures c.if-desk_out_of_range.false
+    let desk_fits : c.args.desk < length c.args.last.now =
+    desk_in c.args.desk _ _ c.desk_out_of_range.ensures c.if-desk_out_of_range.false
     (right_size).1 in
     desk_fits
 
@@ -42,7 +44,8 @@ returns-then-round_out_of_turn c =
 
 pub any_exceeds-guests_full-requires : goal.any_exceeds-guests_full-requires
 any_exceeds-guests_full-requires c =
-    let right_size : (length c.args.guests.now ≤ max_guests) × (length c.args.last.now ≡ max_desks) = let args = c.args in
+    let right_size : (length c.args.guests.now ≤ max_guests) × (length c.args.last.now ≡ max_desks) = let args =
+    c.args in
     sized args.r.guests args.r.stations _ args.stations _ _
     c.book_size_differs.ensures c.if-book_size_differs.false in
     (right_size).0
@@ -60,7 +63,8 @@ returns-then-full-guests_full c =
 
 pub add-requires : goal.add-requires
 add-requires c =
-    let right_size : (length c.args.guests.now ≤ max_guests) × (length c.args.last.now ≡ max_desks) = let args = c.args in
+    let right_size : (length c.args.guests.now ≤ max_guests) × (length c.args.last.now ≡ max_desks) = let args =
+    c.args in
     sized args.r.guests args.r.stations _ args.stations _ _
     c.book_size_differs.ensures c.if-book_size_differs.false in (
       (right_size).0,
@@ -80,10 +84,12 @@ plus-requires c =
 
 pub bounds-last-at-in-Accepted : goal.bounds-last-at-in-Accepted
 bounds-last-at-in-Accepted c =
-    let right_size : (length c.args.guests.now ≤ max_guests) × (length c.args.last.now ≡ max_desks) = let args = c.args in
+    let right_size : (length c.args.guests.now ≤ max_guests) × (length c.args.last.now ≡ max_desks) = let args =
+    c.args in
     sized args.r.guests args.r.stations _ args.stations _ _
     c.book_size_differs.ensures c.if-book_size_differs.false in
-    let desk_fits : c.args.desk < length c.args.last.now = desk_in c.args.desk _ _ c.desk_out_of_range.ensures c.if-desk_out_of_range.false
+    let desk_fits : c.args.desk < length c.args.last.now =
+    desk_in c.args.desk _ _ c.desk_out_of_range.ensures c.if-desk_out_of_range.false
     (right_size).1 in
     desk_fits
 

@@ -8,7 +8,8 @@ pub returns-then-station_exceeds : goal.returns-then-station_exceeds
 returns-then-station_exceeds c = credited_not _ _ _ c.station_exceeds.ensures c.if-station_exceeds.true
 
 pub returns-then-j-ge-MAX_STATIONS : goal.returns-then-j-ge-MAX_STATIONS
-returns-then-j-ge-MAX_STATIONS c = credited_past _ _ _ c.station_exceeds.ensures c.if-station_exceeds.false c.if-j-ge-MAX_STATIONS.true
+returns-then-j-ge-MAX_STATIONS c =
+    credited_past _ _ _ c.station_exceeds.ensures c.if-station_exceeds.false c.if-j-ge-MAX_STATIONS.true
 
 pub overflow_add-result : goal.overflow_add-result
 overflow_add-result c =

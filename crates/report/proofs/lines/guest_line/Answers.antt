@@ -7,20 +7,26 @@ use Rattle.report.proofs.lines.guest_line.Goals as goal
 
 pub put_field-q-requires : goal.put_field-q-requires
 put_field-q-requires c =
-    let guest_end : c.put_field-p.result < 2 ^ 32 + 30 = omega (arith, field_end _ _ c.put_field-p.ensures, c.requires) in
+    let guest_end : c.put_field-p.result < 2 ^ 32 + 30 =
+    omega (arith, field_end _ _ c.put_field-p.ensures, c.requires) in
     omega (arith, guest_end)
 
 pub put_field-r-requires : goal.put_field-r-requires
 put_field-r-requires c =
-    let guest_end : c.put_field-p.result < 2 ^ 32 + 30 = omega (arith, field_end _ _ c.put_field-p.ensures, c.requires) in
-    let station_end : c.put_field-q.result < 2 ^ 32 + 60 = omega (arith, field_end _ _ c.put_field-q.ensures, guest_end) in
+    let guest_end : c.put_field-p.result < 2 ^ 32 + 30 =
+    omega (arith, field_end _ _ c.put_field-p.ensures, c.requires) in
+    let station_end : c.put_field-q.result < 2 ^ 32 + 60 =
+    omega (arith, field_end _ _ c.put_field-q.ensures, guest_end) in
     omega (arith, station_end)
 
 pub put-requires : goal.put-requires
 put-requires c =
-    let guest_end : c.put_field-p.result < 2 ^ 32 + 30 = omega (arith, field_end _ _ c.put_field-p.ensures, c.requires) in
-    let station_end : c.put_field-q.result < 2 ^ 32 + 60 = omega (arith, field_end _ _ c.put_field-q.ensures, guest_end) in
-    let charge_end : c.put_field-r.result < 2 ^ 32 + 90 = omega (arith, field_end _ _ c.put_field-r.ensures, station_end) in
+    let guest_end : c.put_field-p.result < 2 ^ 32 + 30 =
+    omega (arith, field_end _ _ c.put_field-p.ensures, c.requires) in
+    let station_end : c.put_field-q.result < 2 ^ 32 + 60 =
+    omega (arith, field_end _ _ c.put_field-q.ensures, guest_end) in
+    let charge_end : c.put_field-r.result < 2 ^ 32 + 90 =
+    omega (arith, field_end _ _ c.put_field-r.ensures, station_end) in
     omega (arith, charge_end)
 
 pub returns : goal.returns

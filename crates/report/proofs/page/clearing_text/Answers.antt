@@ -18,21 +18,26 @@ guest_lines-c-requires c =
 pub station_lines-d-requires : goal.station_lines-d-requires
 station_lines-d-requires c =
     let cut_end : c.put-b.result ≤ 40 = omega (arith, c.put-b.ensures.next, field_end _ _ c.put_field-a.ensures) in
-    let guests_end : c.guest_lines-c.result ≤ 40 + 84 * max_guests = omega (arith, guest_lines_end _ _ _ c.guest_lines-c.ensures, cut_end, c.requires.0) in
+    let guests_end : c.guest_lines-c.result ≤ 40 + 84 * max_guests =
+    omega (arith, guest_lines_end _ _ _ c.guest_lines-c.ensures, cut_end, c.requires.0) in
     (omega (arith, guests_end), c.requires.2, c.requires.3)
 
 pub put_field-e-requires : goal.put_field-e-requires
 put_field-e-requires c =
     let cut_end : c.put-b.result ≤ 40 = omega (arith, c.put-b.ensures.next, field_end _ _ c.put_field-a.ensures) in
-    let guests_end : c.guest_lines-c.result ≤ 40 + 84 * max_guests = omega (arith, guest_lines_end _ _ _ c.guest_lines-c.ensures, cut_end, c.requires.0) in
-    let stations_end : c.station_lines-d.result ≤ 40 + 84 * max_guests + 81 * max_stations = omega (arith, station_lines_end _ _ _ c.station_lines-d.ensures, guests_end, c.requires.2) in
+    let guests_end : c.guest_lines-c.result ≤ 40 + 84 * max_guests =
+    omega (arith, guest_lines_end _ _ _ c.guest_lines-c.ensures, cut_end, c.requires.0) in
+    let stations_end : c.station_lines-d.result ≤ 40 + 84 * max_guests + 81 * max_stations =
+    omega (arith, station_lines_end _ _ _ c.station_lines-d.ensures, guests_end, c.requires.2) in
     omega (arith, stations_end)
 
 pub put-requires : goal.put-requires
 put-requires c =
     let cut_end : c.put-b.result ≤ 40 = omega (arith, c.put-b.ensures.next, field_end _ _ c.put_field-a.ensures) in
-    let guests_end : c.guest_lines-c.result ≤ 40 + 84 * max_guests = omega (arith, guest_lines_end _ _ _ c.guest_lines-c.ensures, cut_end, c.requires.0) in
-    let stations_end : c.station_lines-d.result ≤ 40 + 84 * max_guests + 81 * max_stations = omega (arith, station_lines_end _ _ _ c.station_lines-d.ensures, guests_end, c.requires.2) in
+    let guests_end : c.guest_lines-c.result ≤ 40 + 84 * max_guests =
+    omega (arith, guest_lines_end _ _ _ c.guest_lines-c.ensures, cut_end, c.requires.0) in
+    let stations_end : c.station_lines-d.result ≤ 40 + 84 * max_guests + 81 * max_stations =
+    omega (arith, station_lines_end _ _ _ c.station_lines-d.ensures, guests_end, c.requires.2) in
     omega (arith, field_end _ _ c.put_field-e.ensures, stations_end)
 
 pub returns : goal.returns

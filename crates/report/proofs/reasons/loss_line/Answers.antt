@@ -8,20 +8,24 @@ use Rattle.report.proofs.reasons.loss_line.Goals as goal
 
 pub put_word-q-requires : goal.put_word-q-requires
 put_word-q-requires c =
-    let guest_end : c.put_field-p.result < 2 ^ 32 + 30 = omega (arith, field_end _ _ c.put_field-p.ensures, c.requires) in
+    let guest_end : c.put_field-p.result < 2 ^ 32 + 30 =
+    omega (arith, field_end _ _ c.put_field-p.ensures, c.requires) in
     omega (arith, guest_end)
 
 pub put_reason-r-requires : goal.put_reason-r-requires
 put_reason-r-requires c =
-    let guest_end : c.put_field-p.result < 2 ^ 32 + 30 = omega (arith, field_end _ _ c.put_field-p.ensures, c.requires) in
+    let guest_end : c.put_field-p.result < 2 ^ 32 + 30 =
+    omega (arith, field_end _ _ c.put_field-p.ensures, c.requires) in
     let loses_end : c.put_word-q.result < 2 ^ 32 + 40 = omega (arith, c.put_word-q.ensures.next, guest_end) in
     omega (arith, loses_end)
 
 pub put-requires : goal.put-requires
 put-requires c =
-    let guest_end : c.put_field-p.result < 2 ^ 32 + 30 = omega (arith, field_end _ _ c.put_field-p.ensures, c.requires) in
+    let guest_end : c.put_field-p.result < 2 ^ 32 + 30 =
+    omega (arith, field_end _ _ c.put_field-p.ensures, c.requires) in
     let loses_end : c.put_word-q.result < 2 ^ 32 + 40 = omega (arith, c.put_word-q.ensures.next, guest_end) in
-    let reason_end : c.put_reason-r.result < 2 ^ 32 + 60 = omega (arith, c.put_reason-r.ensures.next, reason_word_lem c.args.reason, loses_end) in
+    let reason_end : c.put_reason-r.result < 2 ^ 32 + 60 =
+    omega (arith, c.put_reason-r.ensures.next, reason_word_lem c.args.reason, loses_end) in
     omega (arith, reason_end)
 
 pub returns : goal.returns
