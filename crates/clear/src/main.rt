@@ -161,7 +161,7 @@ fn after_name(count: usize) -> usize
 }
 
 // Puts an argument at the start of the buffer and gives its length. One that is not there, or does not fit, is none.
-fn argument<E: Env>(system: &E, place: usize, buffer: &mut [u8]) -> usize
+fn argument(system: &HostRuntime, place: usize, buffer: &mut [u8]) -> usize
     ensures { result ≤ length buffer.new }
 {
     match system.arg(place, buffer) {
@@ -171,7 +171,7 @@ fn argument<E: Env>(system: &E, place: usize, buffer: &mut [u8]) -> usize
 }
 
 // How many arguments there are, with the program's name.
-fn argument_count<E: Env>(system: &E) -> usize {
+fn argument_count(system: &HostRuntime) -> usize {
     let mut buffer = [0u8; 7];
     for place in 0..usize::MAX {
         match system.arg(place, &mut buffer) {
@@ -183,7 +183,7 @@ fn argument_count<E: Env>(system: &E) -> usize {
 }
 
 // By the arguments that the program was started with. One that does not fit its buffer is no word, and given as none.
-fn read_arguments<E: Env>(system: &E) -> Asked {
+fn read_arguments(system: &HostRuntime) -> Asked {
     let mut first = [0u8; 7];
     let mut second = [0u8; 7];
     let mut third = [0u8; 7];
