@@ -4,7 +4,7 @@
 set -euo pipefail
 out=$(readlink -f -- "$1")
 cd -- "$(dirname -- "$(readlink -f -- "$0")")/../.."
-clang="$(dirname -- "$(dirname -- "$(rt doc)")")/on/$(uname -m)/toolchain/bin/clang"
+clang="$(dirname -- "$(rt doc)")/toolchain/bin/clang"
 work=$(mktemp -d)
 trap 'rm -rf "$work"' EXIT
 
