@@ -22,9 +22,7 @@ scripts/refusals --check
 scripts/exports --check
 tools/man.py --check
 tests/lines.py
-# the proofs that are generated are as their descriptions have them
-tools/walks/walks.py --check
-# and so is the table of walks
+# the table of walks is as its generator has it
 tools/walk_table.py --check
 cargo fmt --all --check --manifest-path rust/Cargo.toml
 if command -v shellcheck >/dev/null; then
