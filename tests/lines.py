@@ -1,13 +1,24 @@
 #!/usr/bin/env python3
 """Looks at the text of the crates: no line over 120 columns in src/, specs/ and proofs/ but in a file that a generator
-made; at most 135 must-fail edits, each of them once in docs/EDITS.md; no line over 120 columns in python/. Prints what
-is believed, file by file, with its lines (comments and blanks aside)."""
+made, no chain of more than four `.before` there but in a function that only names the way back; at most 135 must-fail
+edits, each of them once in docs/EDITS.md; no line over 120 columns in python/. Prints what is believed, file by file,
+with its lines (comments and blanks aside)."""
 import glob
 import re
 import sys
 
-WIDTH, EDITS = 120, 135
+WIDTH, CHAIN, EDITS = 120, 4, 135
 owed = []
+
+
+def chains(text):
+    """The declarations with a longer chain that are more than that chain."""
+    starts = [m.start() for m in re.finditer(r'^(?=\S)', text, re.M)] + [len(text)]
+    for declaration in (text[a:b] for a, b in zip(starts, starts[1:])):
+        longest = max((m.group().count('.before') for m in re.finditer(r'\.before(\s*\.before)*', declaration)), default=0)
+        way_back = re.fullmatch(r'(\S+)\s+(\S+)\s*=\s*\2(\s*\.before)+\s*', declaration)
+        if longest > CHAIN and not way_back:
+            yield declaration.split()[0]
 
 
 def too_wide(text):
@@ -22,6 +33,7 @@ for path in sorted(path for part in ('src', 'specs', 'proofs') for path in glob.
             continue
         if wide:
             owed.append(f'{path}: over {WIDTH} columns in lines {wide}')
+        owed += [f'{path}: more than {CHAIN} steps back in one go in {name}' for name in chains(text)]
 for path in sorted(glob.glob('python/**/*.py', recursive=True)):
     wide = too_wide(open(path, encoding='utf8').read())
     if wide:
