@@ -129,7 +129,9 @@ def swarm():
             tell(os.getpid())
             time.sleep(1000)
     while True:
-        with open(sys.argv[2], encoding='ascii') as file:
+        # it may be that none has told yet, and no file is there
+        with open(sys.argv[2], 'a+', encoding='ascii') as file:
+            file.seek(0)
             if file.read().count('\n') >= int(sys.argv[3]):
                 break
         time.sleep(0.01)
