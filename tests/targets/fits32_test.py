@@ -1,11 +1,13 @@
 #!/usr/bin/env python3
-"""tools/fits32.py on small modules: one that fits, and others, each with a line more, that do not."""
+"""tools/fits32.py on small modules: one that fits, and others, each with a line more, that do not; and on what
+tools/plain32.py makes of modules that do not fit."""
 import pathlib
 import subprocess
 import sys
 import tempfile
 
 TOOL = pathlib.Path(__file__).resolve().parents[2] / 'tools/fits32.py'
+PLAIN = TOOL.with_name('plain32.py')
 FITS = '''@table = constant [2 x i8] c"ab"
 
 define internal i32 @inner(ptr %a0, i64 %a1) #0 {
@@ -39,7 +41,17 @@ start:
   %r7 = call { ptr, i64 } @pair(ptr %r5)
   %r8 = extractvalue { ptr, i64 } %r7, 0
   %r9 = icmp eq ptr %r8, null
-  %r6 = call i32 @inner(ptr %r8, i64 4)
+  %s0 = ptrtoaddr ptr %a0 to i32
+  %s1 = zext i32 %s0 to i64
+  %s2 = ptrtoaddr ptr %r8 to i32
+  %s3 = zext i32 %s2 to i64
+  %s4 = sub i64 %s1, %s3
+  %s5 = icmp ult i64 %s4, 16
+  %s6 = icmp ult i64 %s1, %s3
+  %s7 = insertvalue { i8, ptr } poison, i8 4, 0
+  %s8 = insertvalue { i8, ptr } %s7, ptr %r8, 1
+  %s9 = extractvalue { i8, ptr } %s8, 1
+  %r6 = call i32 @inner(ptr %s9, i64 4)
   ret i32 %r6
 }
 '''
@@ -66,14 +78,81 @@ FAULTS = {
     'a pointer for a function that is not known': '  %x = call i64 @strlen(ptr %a0)\n',
     'an instruction that is not known': '  %x = freeze i64 4\n',
     'a choice of pointers': '  %x = select i1 true, ptr %r0, ptr %r2\n',
+    'a pair with its pointer nearer': '  %x = load { i8, ptr }, ptr %r2, align 8\n',
+    'a pair stored': '  store { i8, ptr } %s8, ptr %r2, align 8\n',
+    'a number for the pointer of a pair': '  %x = insertvalue { i8, ptr } %s7, i64 4, 1\n',
+    'a pointer out of a made pair over a number': '  store ptr %s9, ptr %r3, align 8\n',
+    'a pointer in the table that inner reads through a made pair': '  store ptr %r0, ptr %s9, align 8\n',
+    'a local of type ptr handed on': '  %x = call i32 @inner(ptr %r1, i64 4)\n',
+    'a part of a pointer moved':
+        '  call void @llvm.memmove.p0.p0.i64(ptr %r2, ptr %r0, i64 4, i1 false)\n',
+    'a pointer moved over a number': '  call void @llvm.memmove.p0.p0.i64(ptr %r3, ptr %r0, i64 8, i1 false)\n',
+    'a pointer moved into the table that inner reads':
+        '  call void @llvm.memmove.p0.p0.i64(ptr %a0, ptr %r0, i64 8, i1 false)\n',
+    'so many bytes as are computed, with pointers':
+        '  call void @llvm.memmove.p0.p0.i64(ptr %r2, ptr %r0, i64 %s, i1 false)\n',
+    'an address of 64 bits': '  %x = ptrtoaddr ptr %a0 to i64\n',
+    'an address in memory': '  store i64 %s1, ptr %r3, align 8\n',
+    'half an address in memory': '  store i32 %s0, ptr %r3, align 8\n',
+    'an address extended by its sign': '  %x = sext i32 %s0 to i64\n',
+    'an address as an offset': '  %x = getelementptr i8, ptr %r3, i64 %s1\n',
+    'a difference as an offset': '  %x = getelementptr i8, ptr %r3, i64 %s4\n',
+    'a difference in memory': '  store i64 %s4, ptr %r3, align 8\n',
+    'a difference handed on': '  %x = call i32 @inner(ptr %a0, i64 %s4)\n',
+    'a number added to an address': '  %x = add i64 %s1, 4\n',
+    'a number taken from an address': '  %x = sub i64 %s1, 4\n',
+    'an address compared with a number': '  %x = icmp ult i64 %s1, 4\n',
+    'an address compared with a difference': '  %x = icmp ult i64 %s1, %s4\n',
+    'a difference compared with its sign': '  %x = icmp slt i64 %s4, 0\n',
+    'a choice of addresses': '  %x = select i1 true, i64 %s1, i64 %s3\n',
+    'an address cut': '  %x = trunc i64 %s1 to i8\n',
+    'an address that is used before': '  %x = add i64 %t, 4\n  %t = ptrtoaddr ptr %a0 to i32\n',
+    'an address of another name': '  %"t" = ptrtoaddr ptr %a0 to i32\n',
+}
+# what does not fit as it is, and fits once it is plain
+WIDE = {
+    'a pair with its pointer nearer': """  %t0 = alloca [16 x i8], align 8
+  store i64 1, ptr %t0, align 8
+  %t1 = getelementptr i8, ptr %t0, i64 8
+  store ptr %a0, ptr %t1, align 8
+  %t2 = load { i8, ptr }, ptr %t0, align 8
+  %t3 = extractvalue { i8, ptr } %t2, 1
+  %t4 = call i32 @inner(ptr %t3, i64 4)
+""",
+    'a local of type ptr handed on': """  %t0 = alloca ptr, align 8
+  store ptr %a0, ptr %t0, align 8
+  %t1 = call { ptr, i64 } @pair(ptr %t0)
+""",
+    'the addresses of 64 bits': """  %t0 = ptrtoaddr ptr %a0 to i64
+  %t1 = ptrtoaddr ptr %r0 to i64
+  %t2 = sub i64 %t0, %t1
+  %t3 = icmp ult i64 %t2, 16
+""",
+}
+# and with a line more it does not
+WIDER = {
+    'a pair with its pointer nearer': '  store ptr %t3, ptr %t0, align 8\n',
+    'a local of type ptr handed on': '  store i32 4, ptr %t0, align 4\n',
+    'the addresses of 64 bits': '  store i64 %t2, ptr %r3, align 8\n',
 }
 
 
-def fits(text):
+def said(tool, text):
     with tempfile.NamedTemporaryFile('w', suffix='.ll') as file:
         file.write(text)
         file.flush()
-        return subprocess.run([TOOL, file.name], capture_output=True, check=False).returncode == 0
+        return subprocess.run([tool, file.name], capture_output=True, check=False, text=True)
+
+
+def fits(text):
+    run = said(TOOL, text)
+    if run.returncode != 0 and not run.stdout.endswith(' faults\n'):
+        sys.exit(f'fits32.py: {run.stderr}')
+    return run.returncode == 0
+
+
+def plain(text):
+    return said(PLAIN, text).stdout
 
 
 if not fits(FITS):
@@ -83,4 +162,16 @@ for what, line in FAULTS.items():
         sys.exit(f'not refused: {what}')
 if fits(FITS + '@pointers = constant [1 x ptr] [ptr @table]\n'):
     sys.exit('not refused: a constant with a pointer')
-print(f'fits32.py: {len(FAULTS) + 1} modules refused, as they should be')
+if fits(FITS + '@number = global [4 x i8] zeroinitializer\n'):
+    sys.exit('not refused: a global that is no constant')
+if not fits(plain(FITS)):
+    sys.exit('what fits is refused when it is plain')
+for what, lines in WIDE.items():
+    wide = FITS.replace(LAST, lines + LAST)
+    if fits(wide):
+        sys.exit(f'not refused: {what}')
+    if not fits(plain(wide)):
+        sys.exit(f'refused when it is plain: {what}')
+    if fits(plain(wide.replace(LAST, WIDER[what] + LAST))):
+        sys.exit(f'not refused when it is plain: {what}, {WIDER[what]}')
+print(f'fits32.py: {len(FAULTS) + 2 + 2 * len(WIDE)} modules refused, as they should be')

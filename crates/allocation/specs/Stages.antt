@@ -5,14 +5,12 @@ use Rattle.model.specs.Counting.{◌<?◌, only, list}
 use Rattle.model.specs.market.Market.{Tables, Screened, queue, provisional, critical}
 use Rattle.model.specs.market.Mechanism.{at, best, surplus}
 use Rattle.allocation.specs.Screens.{screened_at}
-use Rattle.model.specs.claims.Meaning.{WithinLimits}
 use Rattle.allocation.specs.Offers.{won_by}
 use Rattle.allocation.specs.Totals.{max_total, total_at}
 use Rattle.pricing.specs.Charges.{least_at}
 
--- a market within the limits with a cut and the least charges
+-- a cut within the limits, and a market's least charges at it
 pub record AtCut (t : Tables) (c : ℕ) (least : List ℕ) : Type 0 where
-  pub within : WithinLimits t
   pub cut_low : c ≤ max_price
   pub least_are : least ≡ list (length t.amounts) (least_at t.amounts c)
 

@@ -13,7 +13,7 @@ fn credited(total: Mills, ticket: u32, bound: u32) -> Mills
     ensures { result.0 ≡ total.0 + only (ticket <? bound) 1 }
 {
     if ticket < bound {
-        total.plus(Mills(1))
+        total + Mills(1)
     } else {
         total
     }
@@ -25,5 +25,5 @@ pub fn holds(total: Mills, critical: Mills, ticket: u32, bound: u32) -> bool
     requires { (total.0 ≤ max_total) × (critical.0 ≤ max_total + 1) }
     ensures { result ≡ won_by total.0 critical.0 ticket bound }
 {
-    signed::below_small(critical, credited(total, ticket, bound))
+    signed::below(critical, credited(total, ticket, bound))
 }

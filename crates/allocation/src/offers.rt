@@ -7,25 +7,34 @@ ghost use Rattle.allocation.specs.Offers.{picked, won_by, gain_for, Offerable, O
 use crate::signed;
 use model::money::Mills;
 
-// The total that a guest must be above: the critical total, or one less for whoever wins its tie.
-fn bar(critical: Mills, ticket: u32, bound: u32) -> Mills
-    requires { critical.0 ≡ 0 → bound ≡ 0 }
-    ensures { result.0 ≡ critical.0 - only (ticket <? bound) 1 }
-{
-    if ticket < bound {
-        critical.less(Mills(1))
-    } else {
-        critical
-    }
+// What a station's places are won by: its critical total, and the bound of its ties.
+#[derive(Clone, Copy)]
+pub struct Bar {
+    pub critical: Mills,
+    pub bound: u32,
 }
 
-// Whether a guest of this total and ticket wins a place: above the critical total, or at it and below the bound.
-fn wins(total: Mills, critical: Mills, ticket: u32, bound: u32) -> bool
-    requires bound_value { critical.0 ≡ 0 → bound ≡ 0 }
-    requires total_le_max_total { (total.0 ≤ max_total) × (critical.0 ≤ max_total) }
-    ensures { result ≡ won_by total.0 critical.0 ticket bound }
-{
-    signed::below_small(bar(critical, ticket, bound), total)
+impl Bar {
+    // The total that a guest must be above: the critical total, or one less for whoever wins its tie.
+    fn to_exceed(self, ticket: u32) -> Mills
+        requires { self.critical.0 ≡ 0 → self.bound ≡ 0 }
+        ensures { result.0 ≡ self.critical.0 - only (ticket <? self.bound) 1 }
+    {
+        if ticket < self.bound {
+            self.critical - Mills(1)
+        } else {
+            self.critical
+        }
+    }
+
+    // Whether a guest of this total and ticket wins a place: above the critical total, or at it and below the bound.
+    fn is_won(self, total: Mills, ticket: u32) -> bool
+        requires bound_value { self.critical.0 ≡ 0 → self.bound ≡ 0 }
+        requires total_le_max_total { (total.0 ≤ max_total) × (self.critical.0 ≤ max_total) }
+        ensures { result ≡ won_by total.0 self.critical.0 ticket self.bound }
+    {
+        signed::below(self.to_exceed(ticket), total)
+    }
 }
 
 // One more than total less charge where a place is won, so that 0 is no place.
@@ -34,7 +43,7 @@ fn gain_for(won: bool, total: Mills, charge: Mills) -> Mills
     ensures { result.0 ≡ gain_for won total.0 charge.0 }
 {
     if won {
-        total.less(charge).plus(Mills(1))
+        total - charge + Mills(1)
     } else {
         Mills(0)
     }
@@ -44,7 +53,14 @@ fn pick(old: Mills, new: Mills, a: u32, b: u32) -> u32
     requires { (old.0 ≤ max_total + 1) × (new.0 ≤ max_total + 1) }
     ensures { result ≡ picked (old.0 <? new.0) a b }
 {
-    if signed::below_small(old, new) { a } else { b }
+    if signed::below(old, new) { a } else { b }
+}
+
+// Guests' choices so far: the number of the station of each one's best offer, 0 for none, and one more than its gain.
+#[derive(Drop)]
+pub struct Choices<'a> {
+    pub chosen: &'a mut [u32],
+    pub gains: &'a mut [u32],
 }
 
 // One station's offers to every guest: where an offer gains more than the best so far, it is chosen. What it requires
@@ -53,26 +69,24 @@ fn offer_below(
     totals: &[u32],
     tickets: &[u32],
     least: &[u32],
-    critical: Mills,
-    bound: u32,
+    bar: Bar,
     station: u32,
-    chosen: &mut [u32],
-    gains: &mut [u32],
+    choices: &mut Choices<'_>,
 )
-    requires { Offerable totals.now tickets.now least.now critical.0 bound chosen.old
-        gains.old }
-    ensures { Offered totals.now tickets.now least.now critical.0 bound
-        station chosen.old gains.old chosen.new gains.new }
+    requires { Offerable totals.now tickets.now least.now bar.critical.0 bar.bound choices.old.chosen.now
+        choices.old.gains.now }
+    ensures { Offered totals.now tickets.now least.now bar.critical.0 bar.bound
+        station choices.old.chosen.now choices.old.gains.now choices.new.chosen.now choices.new.gains.now }
 {
-    let mut i = 0;
-    while i < totals.len() {
-        let total = Mills::wide(totals[i]);
-        let charge = signed::larger_small(Mills::wide(least[i]), critical);
-        let gain = gain_for(wins(total, critical, tickets[i], bound), total, charge);
-        let old = Mills::wide(gains[i]);
+    let chosen = &mut *choices.chosen;
+    let gains = &mut *choices.gains;
+    for (i, total) in totals.iter().enumerate() {
+        let total = Mills::from(*total);
+        let charge = signed::larger(Mills::from(least[i]), bar.critical);
+        let gain = gain_for(bar.is_won(total, tickets[i]), total, charge);
+        let old = Mills::from(gains[i]);
         chosen[i] = pick(old, gain, station, chosen[i]);
-        gains[i] = signed::larger_small(old, gain).narrow();
-        i += 1;
+        gains[i] = signed::larger(old, gain).narrow();
     }
 }
 
@@ -81,22 +95,25 @@ pub fn offer(
     totals: &[u32],
     tickets: &[u32],
     least: &[u32],
-    critical: Mills,
-    bound: u32,
+    bar: Bar,
     station: u32,
-    chosen: &mut [u32],
-    gains: &mut [u32],
+    choices: &mut Choices<'_>,
 )
-    requires { Offerable totals.now tickets.now least.now critical.0 bound chosen.old
-        gains.old }
-    ensures { Offered totals.now tickets.now least.now critical.0 bound
-        station chosen.old gains.old chosen.new gains.new }
+    requires { Offerable totals.now tickets.now least.now bar.critical.0 bar.bound choices.old.chosen.now
+        choices.old.gains.now }
+    ensures { Offered totals.now tickets.now least.now bar.critical.0 bar.bound
+        station choices.old.chosen.now choices.old.gains.now choices.new.chosen.now choices.new.gains.now }
 {
-    if bound == 0 {
-        offer_below(totals, tickets, least, critical, 0, station, chosen, gains);
-    } else {
+    if bar.bound == 0 {
         offer_below(
-            totals, tickets, least, critical, bound, station, chosen, gains,
+            totals,
+            tickets,
+            least,
+            Bar { bound: 0, ..bar },
+            station,
+            choices,
         );
+    } else {
+        offer_below(totals, tickets, least, bar, station, choices);
     }
 }

@@ -13,12 +13,10 @@ fn count_above(xs: &[u32], t: Mills) -> u32
     ensures { result ≡ above xs.now t.0 }
 {
     let mut n: u32 = 0;
-    let mut i = 0;
-    while i < xs.len() {
-        if signed::below_small(t, Mills::wide(xs[i])) {
+    for x in xs {
+        if signed::below(t, Mills::from(*x)) {
             n += 1;
         }
-        i += 1;
     }
     n
 }
@@ -27,11 +25,7 @@ fn capped(x: Mills, t: Mills) -> Mills
     requires { (x.0 ≤ max_total) × (t.0 ≤ max_total) }
     ensures { result.0 ≡ only (x.0 ≤? t.0) x.0 }
 {
-    if signed::below_small(t, x) {
-        Mills(0)
-    } else {
-        x
-    }
+    if signed::below(t, x) { Mills(0) } else { x }
 }
 
 // The greatest element that is at most t, 0 for none.
@@ -40,10 +34,8 @@ fn largest_at_most(xs: &[u32], t: Mills) -> Mills
     ensures { result.0 ≡ greatest_up_to xs.now t.0 }
 {
     let mut r = Mills(0);
-    let mut i = 0;
-    while i < xs.len() {
-        r = signed::larger_small(r, capped(Mills::wide(xs[i]), t));
-        i += 1;
+    for x in xs {
+        r = signed::larger(r, capped(Mills::from(*x), t));
     }
     r
 }
@@ -78,7 +70,7 @@ pub fn critical_total(totals: &[u32], top: Mills, b: u32) -> Critical
             above: candidates,
         };
     }
-    let last = top.less(Mills(1));
+    let last = top - Mills(1);
     let near = count_above(totals, last);
     if b < near {
         return Critical {
@@ -94,7 +86,7 @@ pub fn critical_total(totals: &[u32], top: Mills, b: u32) -> Critical
     }
     let mut low = Mills(0);
     let mut high = top;
-    while low.0 < high.0 {
+    while low < high {
         let mid = middle(low, high);
         let c = count_above(totals, mid);
         if c == b {
@@ -106,7 +98,7 @@ pub fn critical_total(totals: &[u32], top: Mills, b: u32) -> Critical
         if c < b {
             high = mid;
         } else {
-            low = mid.plus(Mills(1));
+            low = mid + Mills(1);
         }
     }
     Critical {

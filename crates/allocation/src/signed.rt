@@ -1,33 +1,55 @@
 // Comparison of numbers below 2^31, as signed ones in 32 bits: the processor compares four of them at once.
-ghost use Rattle.std.specs.Prelude.{◌^◌, ◌<◌, max, ◌≡◌};
+ghost use Rattle.std.specs.Prelude.{ℕ, ◌^◌, ◌<◌, max, pos, ◌≡◌};
 ghost use Rattle.model.specs.Counting.{◌<?◌};
 
 use model::money::Mills;
 
-pub fn below(x: u32, y: u32) -> bool
-    requires { (x < 2 ^ 31) × (y < 2 ^ 31) }
-    ensures { result ≡ x <? y }
-{
-    (x as i32) < (y as i32)
+pub trait Small: Copy {
+    ghost number: { Self → ℕ };
+
+    fn signed(self) -> i32
+        requires { number self < 2 ^ 31 }
+        ensures { result ≡ pos (number self) };
+
+    fn from_signed(x: i32) -> Self
+        requires { (n : ℕ) × (x ≡ pos n) }
+        ensures { x ≡ pos (number result) };
 }
 
-pub fn larger(x: u32, y: u32) -> u32
-    requires { (x < 2 ^ 31) × (y < 2 ^ 31) }
-    ensures { result ≡ max x y }
-{
-    if below(x, y) { y } else { x }
+impl Small for u32 {
+    ghost number = { λ x. x };
+
+    fn signed(self) -> i32 {
+        self as i32
+    }
+
+    fn from_signed(x: i32) -> u32 {
+        x as u32
+    }
 }
 
-pub fn below_small(x: Mills, y: Mills) -> bool
-    requires { (x.0 < 2 ^ 31) × (y.0 < 2 ^ 31) }
-    ensures { result ≡ x.0 <? y.0 }
-{
-    below(x.narrow(), y.narrow())
+impl Small for Mills {
+    ghost number = { λ x. x.0 };
+
+    fn signed(self) -> i32 {
+        self.narrow() as i32
+    }
+
+    fn from_signed(x: i32) -> Mills {
+        Mills::from(x as u32)
+    }
 }
 
-pub fn larger_small(x: Mills, y: Mills) -> Mills
-    requires { (x.0 < 2 ^ 31) × (y.0 < 2 ^ 31) }
-    ensures { result.0 ≡ max x.0 y.0 }
+pub fn below<T: Small>(x: T, y: T) -> bool
+    requires { (T.number x < 2 ^ 31) × (T.number y < 2 ^ 31) }
+    ensures { result ≡ T.number x <? T.number y }
 {
-    Mills::wide(larger(x.narrow(), y.narrow()))
+    x.signed() < y.signed()
+}
+
+pub fn larger<T: Small>(x: T, y: T) -> T
+    requires { (T.number x < 2 ^ 31) × (T.number y < 2 ^ 31) }
+    ensures { T.number result ≡ max (T.number x) (T.number y) }
+{
+    T::from_signed(x.signed().max(y.signed()))
 }

@@ -1,33 +1,15 @@
 // Who wins a tie at the critical total: those with a ticket below a bound.
-ghost use Rattle.std.specs.Prelude.{◌+◌, ◌^◌, ◌<◌, ◌≤◌, true, ◌≡◌, length};
+ghost use Rattle.std.specs.Prelude.{◌≤◌, true, ◌≡◌, length};
 ghost use Rattle.model.specs.Limits.{max_guests};
-ghost use Rattle.model.specs.Counting.{◌<?◌, ◌=?◌, ◌and◌, only};
 ghost use Rattle.model.specs.claims.Meaning.{Differ};
 ghost use Rattle.checks.specs.Tickets.{rising as rising_of};
 ghost use Rattle.allocation.specs.Totals.{max_total};
 ghost use Rattle.allocation.specs.Ties.{ties_below, Tied, Tying, TieBound};
 
+use crate::selection::Critical;
 use model::money::Mills;
 
-// s and one more where x is t.
-fn tally(s: u32, x: Mills, t: Mills) -> u32
-    requires { s < 2 ^ 31 }
-    ensures { (result ≡ s + only (x.0 =? t.0) 1) × (result ≤ s + 1) }
-{
-    if x.0 == t.0 { s + 1 } else { s }
-}
-
-// A total in 32 bits: the processor compares four of them at once.
-#[derive(Clone, Copy)]
-struct Total(u32);
-
-fn tied_below(total: Total, t: Total, ticket: u32, x: u32) -> bool
-    ensures { result ≡ (total.0 =? t.0 and ticket <? x) }
-{
-    (total.0 == t.0) & (ticket < x)
-}
-
-// How many at t have a ticket below x.
+// How many at t have a ticket below x. Totals are compared in 32 bits: the processor compares four of them at once.
 pub fn count_ties(totals: &[u32], tickets: &[u32], t: Mills, x: u32) -> u32
     requires { (length totals.now ≤ max_guests) × (length tickets.now ≡ length totals.now)
         × (t.0 ≤ max_total) }
@@ -35,13 +17,10 @@ pub fn count_ties(totals: &[u32], tickets: &[u32], t: Mills, x: u32) -> u32
 {
     let at = t.narrow();
     let mut n: u32 = 0;
-    let mut i = 0;
-    while i < totals.len() {
-        let total = totals[i];
-        if tied_below(Total(total), Total(at), tickets[i], x) {
+    for (i, total) in totals.iter().enumerate() {
+        if (*total == at) & (tickets[i] < x) {
             n += 1;
         }
-        i += 1;
     }
     n
 }
@@ -51,10 +30,13 @@ fn bound_by_order(totals: &[u32], tickets: &[u32], t: Mills, places: u32) -> u32
     requires { Tied totals.now tickets.now t.0 places × (rising_of tickets.now ≡ true) }
     ensures { ties_below totals.now tickets.now t.0 result ≡ places }
 {
-    let mut s: u32 = 0;
+    let mut n: u32 = 0;
     let mut i = 0;
-    while s < places {
-        s = tally(s, Mills::wide(totals[i]), t);
+    // It ends after the last tie with a place, which there is: a `for` would need an answer where there is none.
+    while n < places {
+        if u64::from(totals[i]) == t.0 {
+            n += 1;
+        }
         i += 1;
     }
     tickets[i]
@@ -82,20 +64,20 @@ fn bound_by_ticket(totals: &[u32], tickets: &[u32], t: Mills, places: u32) -> u3
     low
 }
 
-// Of those at the critical total t, the ones with a ticket below the bound win a place: a stand above t, b bays. Where
-// no place is left for them, which is the common case, nobody does.
-pub fn tie_bound(totals: &[u32], tickets: &[u32], rising: bool, t: Mills, a: u32, b: u32) -> u32
-    requires { Tying totals.now tickets.now rising t.0 a b }
-    ensures { TieBound totals.now tickets.now t.0 a b result }
+// Of those at the critical total, the ones with a ticket below the bound win a place of the b bays. Where no place is
+// left for them, which is the common case, nobody does.
+pub fn tie_bound(totals: &[u32], tickets: &[u32], rising: bool, critical: Critical, b: u32) -> u32
+    requires { Tying totals.now tickets.now rising critical.total.0 critical.above b }
+    ensures { TieBound totals.now tickets.now critical.total.0 critical.above b result }
 {
-    if t.0 == 0 {
+    let t = critical.total;
+    if t.0 == 0 || b <= critical.above {
         return 0;
     }
-    if b <= a {
-        return 0;
-    }
+    let places = b - critical.above;
     if rising {
-        return bound_by_order(totals, tickets, t, b - a);
+        bound_by_order(totals, tickets, t, places)
+    } else {
+        bound_by_ticket(totals, tickets, t, places)
     }
-    bound_by_ticket(totals, tickets, t, b - a)
 }

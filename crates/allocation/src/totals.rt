@@ -1,6 +1,5 @@
-// Guests' totals at one station, in a table of 32-bit numbers, and the greatest. What is required holds in an accepted
-// market.
-ghost use Rattle.std.specs.Prelude.{ℕ, ◌+◌, ◌*◌, ◌<◌, ◌≤◌, ◌≡◌, length, get_or};
+// Guests' totals at one station, in a table of 32-bit numbers, and the greatest.
+ghost use Rattle.std.specs.Prelude.{ℕ, ◌*◌, ◌<◌, ◌≤◌, ◌≡◌, length, get_or};
 ghost use Rattle.model.specs.Limits.{max_price, max_amount};
 ghost use Rattle.allocation.specs.Totals.{total_for, total_at, Gathered};
 
@@ -11,10 +10,10 @@ use model::money::{Mills, UnitPrice};
 fn total_for(bid: UnitPrice, amount: u16, cut: UnitPrice) -> Mills
     ensures { result.0 ≡ total_for bid.0 amount cut.0 }
 {
-    if bid.below(cut) {
+    if bid < cut {
         Mills(0)
     } else {
-        bid.times(amount as u32)
+        bid.times(u32::from(amount))
     }
 }
 
@@ -35,13 +34,11 @@ pub fn gather(
         (total_at bids.now amounts.now m j cut.0) totals.new result.0 }
 {
     let mut top = Mills(0);
-    let mut i = 0;
-    while i < amounts.len() {
-        let bid = bids[i * m + j];
-        let total = total_for(UnitPrice(bid), amounts[i], cut);
+    for (i, amount) in amounts.iter().enumerate() {
+        let bid = UnitPrice(bids[i * m + j]);
+        let total = total_for(bid, *amount, cut);
         totals[i] = total.narrow();
-        top = signed::larger_small(top, total);
-        i += 1;
+        top = signed::larger(top, total);
     }
     top
 }

@@ -1,3 +1,2 @@
-pub mod LaidOut
 pub mod Tells
 pub mod Version

@@ -3,7 +3,7 @@ use Rattle.std.specs.Prelude.{ℕ, ◌≡◌}
 use Rattle.model.specs.Verdicts.{Answer, accepted, refused, number_of}
 
 -- the value, or what is there where there is none
-unfoldable pub value_or : {A : Type 0} (out : A) → Answer A → A
+abbrev pub value_or : {A : Type 0} (out : A) → Answer A → A
 value_or out (accepted a) = a
 value_or out (refused k) = out
 

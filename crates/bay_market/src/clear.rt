@@ -6,22 +6,22 @@ ghost use Rattle.model.specs.clauses.Lent.{tables_in, results_in, results_out};
 ghost use Rattle.model.specs.Numbers.{answer_of_clearing};
 ghost use Rattle.bay_market.specs.Tells.{Tells};
 
-use model::answers::Clearing;
+use model::answers::Figures;
+use model::lent::Market;
 use model::mechanism::Mechanism;
+use model::refusal::Refusal;
 
 // The answer's number, 0 for a clearing, whose cut and margin go to their places.
-pub fn tell(answer: Clearing, cut: &mut u32, margin: &mut u64) -> u8
+#[tactic(auto, unfolding(model::specs::Numbers::answer_of_clearing, model::specs::Verdicts::number_of))]
+pub fn tell(answer: Result<Figures, Refusal>, cut: &mut u32, margin: &mut u64) -> u8
     ensures { Tells (answer_of_clearing answer) (cut.old, margin.old) result
         (cut.new, margin.new) }
 {
     match answer {
-        Clearing::Refused(refusal) => refusal.number(),
-        Clearing::Cleared {
-            cut: at,
-            margin: kept,
-        } => {
-            *cut = at.0;
-            *margin = kept.0;
+        Err(refusal) => u8::from(refusal),
+        Ok(figures) => {
+            *cut = figures.cut.0;
+            *margin = figures.margin.0;
             0
         }
     }
@@ -47,15 +47,18 @@ pub extern "C" fn bay_market_clear(
         (results_in stations charges sold paid) (cut.old, margin.old) result
         (results_out stations charges sold paid) (cut.new, margin.new) }
 {
-    let answer = clearing::clear(
-        Mechanism::Truthful,
-        rule,
+    let market = Market {
         asks,
         bays,
         amounts,
         tickets,
         bids,
         width,
+    };
+    let answer = clearing::clear(
+        Mechanism::Truthful,
+        rule,
+        &market,
         stations,
         charges,
         sold,
@@ -84,15 +87,18 @@ pub extern "C" fn bay_market_clear_efficient(
         (results_in stations charges sold paid) (cut.old, margin.old) result
         (results_out stations charges sold paid) (cut.new, margin.new) }
 {
-    let answer = clearing::clear(
-        Mechanism::Efficient,
-        rule,
+    let market = Market {
         asks,
         bays,
         amounts,
         tickets,
         bids,
         width,
+    };
+    let answer = clearing::clear(
+        Mechanism::Efficient,
+        rule,
+        &market,
         stations,
         charges,
         sold,

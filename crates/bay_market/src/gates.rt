@@ -4,6 +4,7 @@ ghost use Rattle.model.specs.clauses.EntryPoints.{joining};
 ghost use Rattle.model.specs.Promises.{RepliesOut};
 
 use crate::post;
+use model::lent::Market;
 
 #[unsafe(no_mangle)]
 pub extern "C" fn bay_market_join(
@@ -30,19 +31,25 @@ pub extern "C" fn bay_market_join(
         (lent_tables_in joined_amounts joined_tickets joined_asks joined_bays joined_bids) result
         (lent_tables_out joined_amounts joined_tickets joined_asks joined_bays joined_bids) }
 {
-    let reply = join::join(
+    let first = Market {
         asks,
         bays,
         amounts,
         tickets,
         bids,
         width,
-        asks2,
-        bays2,
-        amounts2,
-        tickets2,
-        bids2,
-        width2,
+    };
+    let second = Market {
+        asks: asks2,
+        bays: bays2,
+        amounts: amounts2,
+        tickets: tickets2,
+        bids: bids2,
+        width: width2,
+    };
+    let reply = join::join(
+        &first,
+        &second,
         joined_asks,
         joined_bays,
         joined_amounts,

@@ -1,4 +1,5 @@
-// The engine for other languages, one archive: include/bay_market.h.
+// The engine for other languages, one archive: include/bay_market.h. What it exports keeps the parameters that callers
+// in C give: each list by itself, and out parameters for an answer.
 #![tactic(auto)]
 
 mod clear;

@@ -1,7 +1,5 @@
 // The clearing with its places and floors, and the mark of one that is handed in, for other languages:
 // include/bay_market.h.
-ghost use Rattle.std.specs.Prelude.{◌≡◌};
-ghost use Rattle.model.specs.Counting.{only};
 ghost use Rattle.model.specs.Numbers.{answer_of_marking};
 ghost use Rattle.model.specs.Promises.{KeepsOut};
 ghost use Rattle.model.specs.clauses.EntryPoints.{clearing_fully, marking};
@@ -9,22 +7,18 @@ ghost use Rattle.model.specs.clauses.Lent.{tables_in, full_results_in, full_resu
 ghost use Rattle.bay_market.specs.Tells.{Tells};
 
 use crate::clear;
-use model::answers::Marking;
-
-fn one_if(yes: bool) -> u8
-    ensures { result ≡ only yes 1 }
-{
-    if yes { 1 } else { 0 }
-}
+use model::lent::{Market, Submission};
+use model::refusal::Refusal;
 
 // The answer's number, 0 for a mark, which goes to its place.
-fn tell_mark(answer: Marking, correct: &mut u8) -> u8
+#[tactic(auto, unfolding(model::specs::Numbers::answer_of_marking, model::specs::Verdicts::number_of))]
+fn tell_mark(answer: Result<bool, Refusal>, correct: &mut u8) -> u8
     ensures { Tells (answer_of_marking answer) correct.old result correct.new }
 {
     match answer {
-        Marking::Refused(refusal) => refusal.number(),
-        Marking::Marked { correct: yes } => {
-            *correct = one_if(yes);
+        Err(refusal) => u8::from(refusal),
+        Ok(yes) => {
+            *correct = u8::from(yes);
             0
         }
     }
@@ -52,9 +46,16 @@ pub extern "C" fn bay_market_clear_marked(
         (full_results_in stations charges sold paid places floors) (cut.old, margin.old) result
         (full_results_out stations charges sold paid places floors) (cut.new, margin.new) }
 {
+    let market = Market {
+        asks,
+        bays,
+        amounts,
+        tickets,
+        bids,
+        width,
+    };
     let answer = marking::clear_marked(
-        rule, asks, bays, amounts, tickets, bids, width, stations, charges, sold, paid, places,
-        floors,
+        rule, &market, stations, charges, sold, paid, places, floors,
     );
     clear::tell(answer, cut, margin)
 }
@@ -82,9 +83,23 @@ pub extern "C" fn bay_market_mark(
         (submission_in stations charges sold paid places floors cut margin)) tt correct.old result tt
         correct.new }
 {
-    let answer = marking::mark(
-        rule, asks, bays, amounts, tickets, bids, width, stations, charges, sold, paid, places,
-        floors, cut, margin,
-    );
-    tell_mark(answer, correct)
+    let market = Market {
+        asks,
+        bays,
+        amounts,
+        tickets,
+        bids,
+        width,
+    };
+    let submission = Submission {
+        stations,
+        charges,
+        sold,
+        paid,
+        places,
+        floors,
+        cut,
+        margin,
+    };
+    tell_mark(marking::mark(rule, &market, &submission), correct)
 }

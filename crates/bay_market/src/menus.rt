@@ -4,6 +4,7 @@ ghost use Rattle.model.specs.clauses.EntryPoints.{listing, gaining};
 ghost use Rattle.model.specs.clauses.Lent.{tables_in, price_list_in, price_list_out};
 
 use crate::post;
+use model::lent::Market;
 
 #[unsafe(no_mangle)]
 pub extern "C" fn bay_market_menu(
@@ -21,10 +22,15 @@ pub extern "C" fn bay_market_menu(
     ensures { RepliesOut (listing rule (tables_in asks bays amounts tickets bids width) guest)
         (price_list_in bars prices) result (price_list_out bars prices) }
 {
-    let reply = menu::price_list(
-        rule, asks, bays, amounts, tickets, bids, width, guest, bars, prices,
-    );
-    post::reply_number(reply)
+    let market = Market {
+        asks,
+        bays,
+        amounts,
+        tickets,
+        bids,
+        width,
+    };
+    post::reply_number(menu::price_list(rule, &market, guest, bars, prices))
 }
 
 #[unsafe(no_mangle)]
@@ -44,8 +50,13 @@ pub extern "C" fn bay_market_gains(
     ensures { RepliesOut (gaining rule (tables_in asks bays amounts tickets bids width) guest
         worths.now rows.now) gains.old result gains.new }
 {
-    let reply = menu::gains(
-        rule, asks, bays, amounts, tickets, bids, width, guest, worths, rows, gains,
-    );
-    post::reply_number(reply)
+    let market = Market {
+        asks,
+        bays,
+        amounts,
+        tickets,
+        bids,
+        width,
+    };
+    post::reply_number(menu::gains(rule, &market, guest, worths, rows, gains))
 }

@@ -4,6 +4,7 @@ ghost use Rattle.model.specs.clauses.EntryPoints.{placing};
 ghost use Rattle.model.specs.Promises.{RepliesOut};
 
 use crate::post;
+use model::lent::Places;
 
 #[unsafe(no_mangle)]
 pub extern "C" fn bay_market_place_bids(
@@ -19,14 +20,13 @@ pub extern "C" fn bay_market_place_bids(
         (placing (places_in prices falls guest_first guest_second station_first station_second))
         bids.old result bids.new }
 {
-    let reply = grid::place_bids(
+    let places = Places {
         prices,
         falls,
         guest_first,
         guest_second,
         station_first,
         station_second,
-        bids,
-    );
-    post::reply_number(reply)
+    };
+    post::reply_number(grid::place_bids(&places, bids))
 }

@@ -9,18 +9,20 @@ ghost use Rattle.model.specs.Promises.{RepliesOut};
 ghost use Rattle.model.specs.book.Book.{plain};
 
 use model::account::StationAccount;
-use model::answers::Verdict;
+use model::lent::Market;
+use model::refusal::Refusal;
 
-pub fn reply_number(reply: Verdict) -> u8
+// 0 for a call that was accepted, or the refusal's number.
+#[tactic(auto, unfolding(model::specs::Numbers::answer_of_verdict, model::specs::Verdicts::number_of))]
+pub fn reply_number(reply: Result<(), Refusal>) -> u8
     ensures { result ≡ number_of (answer_of_verdict reply) }
 {
     match reply {
-        Verdict::Accepted => 0,
-        Verdict::Refused(refusal) => refusal.number(),
+        Ok(()) => 0,
+        Err(refusal) => u8::from(refusal),
     }
 }
 
-// `post` for C: 0 for a posted round, or the refusal's number.
 #[unsafe(no_mangle)]
 pub extern "C" fn bay_market_post(
     rule: u8,
@@ -40,8 +42,14 @@ pub extern "C" fn bay_market_post(
     ensures { RepliesOut (entering (posting rule (tables_in asks bays amounts tickets bids width) desk round))
         (plain (book_in guests stations house last)) result (plain (book_out guests stations house last)) }
 {
-    let reply = ledger::post(
-        rule, asks, bays, amounts, tickets, bids, width, desk, round, guests, stations, house, last,
-    );
+    let market = Market {
+        asks,
+        bays,
+        amounts,
+        tickets,
+        bids,
+        width,
+    };
+    let reply = ledger::post(rule, &market, desk, round, guests, stations, house, last);
     reply_number(reply)
 }

@@ -3,7 +3,7 @@ ghost use Rattle.model.specs.clauses.Lent.{lent_tables_in, lent_tables_out};
 ghost use Rattle.model.specs.clauses.EntryPoints.{reading_csv};
 ghost use Rattle.model.specs.Promises.{KeepsOut};
 
-use model::answers::Reading;
+use crate::read;
 
 #[unsafe(no_mangle)]
 pub extern "C" fn bay_market_read_csv(
@@ -20,13 +20,9 @@ pub extern "C" fn bay_market_read_csv(
         (lent_tables_in amounts tickets asks bays bids) (n.old, m.old) result
         (lent_tables_out amounts tickets asks bays bids) (n.new, m.new) }
 {
-    let reading = market_csv::read_csv(text, amounts, tickets, asks, bays, bids);
-    match reading {
-        Reading::Refused(refusal) => refusal.number(),
-        Reading::Read { guests, stations } => {
-            *n = guests as u16;
-            *m = stations as u16;
-            0
-        }
-    }
+    read::tell_counts(
+        market_csv::read_csv(text, amounts, tickets, asks, bays, bids),
+        n,
+        m,
+    )
 }

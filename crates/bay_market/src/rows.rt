@@ -5,18 +5,21 @@ ghost use Rattle.model.specs.clauses.EntryPoints.{trying};
 ghost use Rattle.model.specs.clauses.Lent.{tables_in};
 ghost use Rattle.bay_market.specs.Tells.{Tells};
 
-use model::answers::Trying;
+use model::answers::Gains;
+use model::lent::Market;
+use model::refusal::Refusal;
 
 // The answer's number, 0 for a row that was tried, whose gains go to their places.
-fn tell_gains(answer: Trying, first_gain: &mut i64, second_gain: &mut i64) -> u8
+#[tactic(auto, unfolding(model::specs::Numbers::answer_of_trying, model::specs::Verdicts::number_of))]
+fn tell_gains(answer: Result<Gains, Refusal>, first_gain: &mut i64, second_gain: &mut i64) -> u8
     ensures { Tells (answer_of_trying answer) (first_gain.old, second_gain.old) result
         (first_gain.new, second_gain.new) }
 {
     match answer {
-        Trying::Refused(refusal) => refusal.number(),
-        Trying::Tried { first, second } => {
-            *first_gain = first;
-            *second_gain = second;
+        Err(refusal) => u8::from(refusal),
+        Ok(gains) => {
+            *first_gain = gains.first;
+            *second_gain = gains.second;
             0
         }
     }
@@ -43,8 +46,14 @@ pub extern "C" fn bay_market_try(
         (first_gain.old, second_gain.old) result changes.new
         (first_gain.new, second_gain.new) }
 {
-    let answer = whatif::try_row(
-        rule, asks, bays, amounts, tickets, bids, width, guest, worths, row, changes,
-    );
+    let market = Market {
+        asks,
+        bays,
+        amounts,
+        tickets,
+        bids,
+        width,
+    };
+    let answer = whatif::try_row(rule, &market, guest, worths, row, changes);
     tell_gains(answer, first_gain, second_gain)
 }

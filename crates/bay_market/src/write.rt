@@ -2,8 +2,25 @@
 ghost use Rattle.model.specs.clauses.Lent.{tables_in};
 ghost use Rattle.model.specs.clauses.EntryPoints.{writing};
 ghost use Rattle.model.specs.Promises.{KeepsOut};
+ghost use Rattle.model.specs.Numbers.{answer_of_writing};
+ghost use Rattle.bay_market.specs.Tells.{Tells};
 
-use model::answers::Writing;
+use model::lent::Market;
+use model::refusal::Refusal;
+
+// The answer's number, 0 for a sheet that was written, whose length goes to its place.
+#[tactic(auto, unfolding(model::specs::Numbers::answer_of_writing, model::specs::Verdicts::number_of))]
+fn tell_length(answer: Result<usize, Refusal>, length: &mut usize) -> u8
+    ensures { Tells (answer_of_writing answer) length.old result length.new }
+{
+    match answer {
+        Err(refusal) => u8::from(refusal),
+        Ok(written) => {
+            *length = written;
+            0
+        }
+    }
+}
 
 #[unsafe(no_mangle)]
 pub extern "C" fn bay_market_write(
@@ -19,11 +36,13 @@ pub extern "C" fn bay_market_write(
     ensures { KeepsOut (writing (tables_in asks bays amounts tickets bids width))
         sheet.old length.old result sheet.new length.new }
 {
-    match sheet::write(asks, bays, amounts, tickets, bids, width, sheet) {
-        Writing::Refused(refusal) => refusal.number(),
-        Writing::Written { length: written } => {
-            *length = written;
-            0
-        }
-    }
+    let market = Market {
+        asks,
+        bays,
+        amounts,
+        tickets,
+        bids,
+        width,
+    };
+    tell_length(sheet::write(&market, sheet), length)
 }

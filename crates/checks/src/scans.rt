@@ -1,31 +1,23 @@
 // Scans of lists: whether a value is out of range.
 ghost use Rattle.std.specs.Prelude.{◌≡◌};
-ghost use Rattle.model.specs.Counting.{any};
+ghost use Rattle.model.specs.Limits.{max_price};
+ghost use Rattle.model.specs.Counting.{◌or◌, any};
 ghost use Rattle.model.specs.market.Faults.{outside};
+ghost use Rattle.checks.specs.Ranges.{some_outside};
+
+use model::limits::MAX_PRICE;
 
 // Whether an element is outside low to high. No way out before the end: several elements a step.
-pub fn any_outside32(xs: &[u32], low: u32, high: u32) -> bool
-    ensures { result ≡ any xs.now (outside low high) }
+pub fn any_outside<T: Copy + PartialOrd>(xs: &[T], low: T, high: T) -> bool
+    ensures { result ≡ some_outside T.partial_cmp low high xs.now }
 {
-    let mut bad = false;
-    let mut i = 0;
-    while i < xs.len() {
-        let x = xs[i];
-        bad = bad | ((x < low) | (high < x));
-        i += 1;
-    }
-    bad
+    xs.iter()
+        .fold(false, |bad, x| bad | ((*x < low) | (high < *x)))
 }
 
-pub fn any_outside16(xs: &[u16], low: u16, high: u16) -> bool
-    ensures { result ≡ any xs.now (outside low high) }
+// Whether a price of either list is.
+pub fn prices_out_of_range(first: &[u32], second: &[u32]) -> bool
+    ensures { result ≡ (any first.now (outside 0 max_price) or any second.now (outside 0 max_price)) }
 {
-    let mut bad = false;
-    let mut i = 0;
-    while i < xs.len() {
-        let y = xs[i];
-        bad = bad | ((y < low) | (high < y));
-        i += 1;
-    }
-    bad
+    any_outside(first, 0, MAX_PRICE) | any_outside(second, 0, MAX_PRICE)
 }

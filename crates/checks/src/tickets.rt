@@ -7,35 +7,22 @@ ghost use Rattle.checks.specs.Tickets.{rising as rising_of, stands_before, slot 
 pub fn rising(tickets: &[u32]) -> bool
     ensures { result ≡ rising_of tickets.now }
 {
-    if tickets.len() == 0 {
-        return true;
-    }
-    let last = tickets.len() - 1;
-    let mut falls = false;
-    let mut i = 0;
-    while i < last {
-        let x = tickets[i];
-        let y = tickets[i + 1];
-        falls = falls | (y <= x);
-        i += 1;
-    }
-    !falls
+    tickets.is_empty()
+        || !tickets
+            .iter()
+            .zip(&tickets[1..])
+            .fold(false, |falls, (x, y)| falls | (y <= x))
 }
 
-// Whether the ticket at k stands before k too.
+// Whether the ticket at k stands before k too. No way out before the end.
 fn stands_before(tickets: &[u32], k: usize) -> bool
     requires { k < length tickets.now }
     ensures { result ≡ stands_before tickets.now k }
 {
-    let x = tickets[k];
-    let mut found = false;
-    let mut i = 0;
-    while i < k {
-        let y = tickets[i];
-        found = found | (y == x);
-        i += 1;
-    }
-    found
+    let ticket = tickets[k];
+    tickets[..k]
+        .iter()
+        .fold(false, |found, x| found | (*x == ticket))
 }
 
 // The places of a table that tells most tickets apart, and a ticket's place there.
@@ -44,32 +31,27 @@ const SLOTS: usize = 4096;
 fn slot(ticket: u32) -> usize
     ensures { (result ≡ slot_of ticket) × (result < slots) }
 {
-    (ticket as usize) % SLOTS
+    ticket as usize % SLOTS
 }
 
-// As `stands_before`, where `seen` is 0 only if no ticket before k has this one's place.
-fn repeats_at(tickets: &[u32], k: usize, seen: u8) -> bool
-    requires { (k < length tickets.now) × (seen ≡ 0 → stands_before tickets.now k ≡ false) }
+// As `stands_before`, where `seen` is false only if no ticket before k has this one's place.
+fn repeats_at(tickets: &[u32], k: usize, seen: bool) -> bool
+    requires { (k < length tickets.now) × (seen ≡ false → stands_before tickets.now k ≡ false) }
     ensures { result ≡ stands_before tickets.now k }
 {
-    if seen == 0 {
-        return false;
-    }
-    stands_before(tickets, k)
+    seen && stands_before(tickets, k)
 }
 
 // Whether two are the same, by a table of the places taken so far.
 fn some_repeat(tickets: &[u32]) -> bool
     ensures { result ≡ repeats tickets.now }
 {
-    let mut seen = [0u8; SLOTS];
+    let mut seen = [false; SLOTS];
     let mut found = false;
-    let mut k = 0;
-    while k < tickets.len() {
-        let s = slot(tickets[k]);
-        found = found | repeats_at(tickets, k, seen[s]);
-        seen[s] = 1;
-        k += 1;
+    for (k, ticket) in tickets.iter().enumerate() {
+        let s = slot(*ticket);
+        found |= repeats_at(tickets, k, seen[s]);
+        seen[s] = true;
     }
     found
 }
@@ -79,10 +61,8 @@ fn some_repeat_of_few(tickets: &[u32]) -> bool
     ensures { result ≡ repeats tickets.now }
 {
     let mut found = false;
-    let mut k = 0;
-    while k < tickets.len() {
-        found = found | stands_before(tickets, k);
-        k += 1;
+    for k in 0..tickets.len() {
+        found |= stands_before(tickets, k);
     }
     found
 }

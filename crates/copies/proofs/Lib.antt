@@ -1,2 +1,2 @@
-pub mod Pasting
+pub mod Comparing
 pub mod Tables

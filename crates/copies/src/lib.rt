@@ -1,45 +1,38 @@
-// A list, or its first numbers, written over a table. The compiler makes a copy of memory of it.
+// Lists of numbers of any width: written over a table, joined and compared.
 #![tactic(auto)]
 
-ghost use Rattle.std.specs.Prelude.{◌+◌, ◌≤◌, ◌≡◌, length};
+ghost use Rattle.std.specs.Prelude.{◌+◌, ◌++◌, ◌≤◌, ◌≡◌, length};
 ghost use Rattle.std.proofs.Math.Seq.{paste};
+ghost use Rattle.std.specs.Cmp.Lexicographic.{pointwise};
 
-// The first n numbers of a list over the places of a table from `at` on.
-pub fn put_first32(from: &[u32], n: usize, at: usize, table: &mut [u32])
+// The first n of a list over the places of a table from `at` on.
+pub fn put_first<T: Copy>(from: &[T], n: usize, at: usize, table: &mut [T])
     requires { (n ≤ length from.now) × (at + n ≤ length table.old) }
     ensures { table.new ≡ paste table.old at from.now n }
 {
-    let mut i = 0;
-    while i < n {
-        table[at + i] = from[i];
-        i += 1;
-    }
-}
-
-pub fn put_first16(from: &[u16], n: usize, at: usize, table: &mut [u16])
-    requires { (n ≤ length from.now) × (at + n ≤ length table.old) }
-    ensures { table.new ≡ paste table.old at from.now n }
-{
-    let mut i = 0;
-    while i < n {
-        table[at + i] = from[i];
-        i += 1;
-    }
+    table[at..at + n].copy_from_slice(&from[..n]);
 }
 
 // All of it.
-pub fn put32(from: &[u32], at: usize, table: &mut [u32])
+pub fn put<T: Copy>(from: &[T], at: usize, table: &mut [T])
     requires { at + length from.now ≤ length table.old }
-    ensures { table.new
-        ≡ paste table.old at from.now (length from.now) }
+    ensures { table.new ≡ paste table.old at from.now (length from.now) }
 {
-    put_first32(from, from.len(), at, table);
+    put_first(from, from.len(), at, table);
 }
 
-pub fn put16(from: &[u16], at: usize, table: &mut [u16])
-    requires { at + length from.now ≤ length table.old }
-    ensures { table.new
-        ≡ paste table.old at from.now (length from.now) }
+// One list after another over a table that is as long as both.
+pub fn join_lists<T: Copy>(first: &[T], second: &[T], table: &mut [T])
+    requires { length table.old ≡ length first.now + length second.now }
+    ensures { table.new ≡ first.now ++ second.now }
 {
-    put_first16(from, from.len(), at, table);
+    put(first, 0, table);
+    put(second, first.len(), table);
+}
+
+// Whether two lists are the same. No way out before the end: several elements a step.
+pub fn same<T: PartialEq>(xs: &[T], ys: &[T]) -> bool
+    ensures { result ≡ pointwise T.eq xs.now ys.now }
+{
+    xs.len() == ys.len() && xs.iter().zip(ys).fold(true, |all, (x, y)| all & (x == y))
 }

@@ -1,37 +1,34 @@
 -- An accepted market at its rule's cut, and what is told of a market by its verdict.
-use Prim.Native.Nat.{ℕ, ◌*◌, ◌≤◌, ◌<◌, zero-le}
+use Prim.Native.Nat.{ℕ, ◌*◌, ◌≤◌, ◌<◌}
 use mathlib.Core.Bool.{Bool, true, false}
 use mathlib.Core.List.{List, [], ◌∷◌, ◌++◌}
 use mathlib.Core.Path.{◌≡◌, refl, sym, ap, ap₂, subst, ◌∙◌}
 use native.Mathlib.Omega.{arith}
 use lib.ListN.{get_or, length, take, drop, replicate}
 use lib.Seq.{take_at, get_or-take}
+use Rattle.std.specs.Prelude.{Result, Ok, Err}
 use Rattle.model.specs.Limits.{max_guests}
 use Rattle.model.specs.Counting.{◌=?◌, only, greatest, list, joined, some, any}
-use Rattle.model.specs.Numbers.{number, answer_of_verdict, station_of, charge_of, loss_of}
-use Rattle.model.specs.Verdicts.{Row, ◌gives◌, Verdict, accepted, refused, first_fault}
-use Rattle.model.specs.declared.answers.Verdict.{Verdict as Coded}
-use Rattle.model.specs.declared.answers.Verdict.TheVariants as verdicts
+use Rattle.model.specs.Numbers.{answer_of_check, station_of, charge_of, loss_of}
+use Rattle.model.specs.Verdicts.{Row, ◌gives◌, accepted, first_fault}
 use Rattle.model.specs.declared.refusal.Refusal.{Refusal}
-use Rattle.model.specs.declared.refusal.Refusal.TheVariants.{UnknownRule}
 use Rattle.model.specs.declared.rule.Rule.{Rule}
-use Rattle.model.specs.declared.rule.NamedRule.TheVariants.{Known, Unknown}
-use Rattle.model.specs.market.Market.{Tables, tables, regular, market_by, market, cut, opens, screen}
+use Rattle.model.specs.market.Market.{Tables, market_by, market, cut, opens, screen}
 use Rattle.model.specs.market.Mechanism.{at, truthful}
 use Rattle.model.specs.market.Outcome.{outcome_by, screened, decision, outcome}
 use Rattle.model.specs.market.Faults.{unknown_rule, counts, lengths, market_faults, verdict, explained_lengths}
 use Rattle.model.specs.market.Faults.{explained_faults, explaining_faults}
 use Rattle.model.specs.market.Reasons.{codes, highest_code, OutcomeTable, outcome_table, loss, guest_outcomes}
-use Rattle.model.specs.market.Rules.{named, is_unknown, rule_in}
+use Rattle.model.specs.market.Rules.{named, rule_of}
 use Rattle.model.specs.claims.Meaning.{WithinLimits}
 use Rattle.model.specs.declared.reason.GuestOutcome.{GuestOutcome}
 use Rattle.model.proofs.Tests.{neither}
 use Rattle.model.proofs.Counting.{length_list, list_cong}
 use Rattle.model.proofs.Loops.{element}
-use Rattle.model.proofs.Verdicts.{updated_accepted, updated_refused}
-use Rattle.model.specs.clauses.Rows.{bids_of}
-use Rattle.model.proofs.clauses.Rows.{bids_shown}
-use Rattle.model.proofs.market.Acceptance.{accepted_iff_within_limits, not_unequal, width_of}
+use Rattle.model.proofs.ByNumber.{keeps_unnamed, keeps_named}
+use Rattle.model.proofs.Promises.{keeps_refused, keeps_accepted, was_accepted}
+use Rattle.model.proofs.Verdicts.{no_fault}
+use Rattle.model.proofs.market.Acceptance.{accepted_iff_within_limits, not_unequal}
 use Rattle.model.proofs.claims.Reasons.{explained_within, station_at, charge_at_lem, loss_at_lem, charged_as}
 use Rattle.model.proofs.market.Reasons.{loss_most, lost_unassigned}
 use Rattle.pricing.specs.CutAsk.{cut_ask}
@@ -39,19 +36,14 @@ use Rattle.pricing.proofs.cut.CutAsk.{cut_is}
 use Rattle.allocation.specs.Assignment.{Assigned}
 use Rattle.allocation.specs.Screens.{screened_at}
 use Rattle.explain.specs.Codes.{CodesAtCut}
-use Rattle.explain.specs.Explained.{ExplainsAccepted, refusing, told_by, ExplainedAs, ExplainedUnder, ExplainedBy}
+use Rattle.explain.specs.Explained.{ExplainsAccepted, told_by, answer_of_explaining, telling_under, telling}
+use Rattle.explain.specs.Explained.{ExplainedUnder, ExplainedBy}
 use Rattle.explain.specs.declared.explained.OutcomeArrays.{OutcomeArrays}
 use Rattle.explain.specs.Outcomes.{record_of, mills, record_at}
 use Rattle.explain.proofs.codes.Codes.{code_is}
 use Rattle.explain.proofs.outcomes.Outcomes.{station_shown, charge_shown, loss_shown, record_in}
 
 -- ---- an accepted market at its rule's cut
-
-pub stations_count :
-    (t : Tables) (c : ℕ) {stations charges : List ℕ} → let S = screened_at t c in
-    Assigned (outcome_by S (truthful S)) stations charges → length stations ≡ length t.amounts
-unfolding outcome_by screened_at
-stations_count t c a = ap length a.stations_are ∙ length_list (length t.amounts) _
 
 -- where the cut is the rule's
 module _ (rule : Rule) (t : Tables) where
@@ -113,59 +105,21 @@ pub market_verdict :
 unfolding verdict market_faults explained_faults counts lengths explained_lengths any some
 market_verdict t codes outcomes c o = skip_row _ _ _ _ (neither (not_unequal _ _ c) (neither refl (not_unequal _ _ o)))
 
--- the code's verdict, and the definitions'
-abbrev pub Judged : Tables → (codes outcomes : ℕ) → Coded → Type 0
-Judged t codes outcomes v = answer_of_verdict v ≡ first_fault (explained_faults t codes (outcomes ∷ []))
+pub codes_fit :
+    (t t' : Tables) (codes outcomes : ℕ)
+    → answer_of_check (Ok t') ≡ first_fault (explained_faults t codes (outcomes ∷ [])) → t' ≡ t
+    → codes ≡ length t'.amounts * length t'.asks
+unfolding answer_of_check
+codes_fit t t' codes outcomes e q = rw q (accepted_lengths t codes outcomes (sym e)).1
 
-is_accepted :
-    (t : Tables) (codes outcomes : ℕ) → Judged t codes outcomes verdicts.Accepted
-    → first_fault (explained_faults t codes (outcomes ∷ [])) ≡ accepted tt
-unfolding answer_of_verdict
-is_accepted t codes outcomes e = sym e
+-- ---- the answers
 
--- the view of an accepted market's bids shows them all
-module _ (asks bays amounts tickets bids : List ℕ) (width codes outcomes : ℕ)
-    (e : Judged (tables asks bays amounts tickets bids width) codes outcomes verdicts.Accepted) {seen : List ℕ}
-    (s : seen ≡ bids_of bids width (length asks)) where
-  abbrev t : Tables
-  t = tables asks bays amounts tickets bids width
-
-  found : WithinLimits t × (codes ≡ length amounts * length asks) × (outcomes ≡ length amounts)
-  found = accepted_lengths t codes outcomes (is_accepted t codes outcomes e)
-
-  lent : t ≡ regular asks bays amounts tickets seen
-  lent = width_of asks bays amounts tickets bids width found.0
-      ∙ ap (regular asks bays amounts tickets) (sym (s ∙ bids_shown _ _ _ found.0.shape.width_is))
-
-  pub found_within : WithinLimits (regular asks bays amounts tickets seen)
-  found_within = subst WithinLimits lent found.0
-
-  pub found_codes : codes ≡ length amounts * length asks
-  found_codes = found.1
-
-  pub found_few : length amounts ≤ max_guests
-  found_few = found.0.shape.guests_most
-
--- ---- what is told
-
-pub refused_explained :
-    {v : Verdict} {new : List ℕ} {o : OutcomeTable} {n : ℕ} {entry : List ℕ} (x : Refusal) {e : OutcomeArrays}
-    → v ≡ refused (number x) → e ≡ refusing x → ExplainedAs v new o n entry e entry
-unfolding answer_of_verdict refusing told_by
-refused_explained {v} {new} {o} {n} {entry} x {e} p q = rw (p, q) (record {
-  answered = refl;
-  codes_left = sym (updated_refused new entry _ refl);
-  guests_are = sym (updated_refused n 0 _ refl);
-  few = zero-le;
-  outcomes_told = sym (updated_refused o (outcome_table [] [] []) _ refl);
-})
-
-pub fault_explained :
-    (rule : Rule) (t : Tables) (outcomes : ℕ) (entry : List ℕ) (x : Refusal) {e : OutcomeArrays}
-    → Judged t (length entry) outcomes (verdicts.Refused x) → e ≡ refusing x
-    → ExplainedUnder rule t outcomes entry e entry
-unfolding answer_of_verdict
-fault_explained rule t outcomes entry x j q = refused_explained x (sym j) q
+pub refused_explains :
+    (rule : Rule) (t : Tables) (outcomes : ℕ) (entry : List ℕ) (x : Refusal)
+    → answer_of_check {A = Tables} (Err x) ≡ first_fault (explained_faults t (length entry) (outcomes ∷ []))
+    → ExplainedUnder rule t outcomes entry (Err x) entry
+unfolding answer_of_check answer_of_explaining telling_under
+refused_explains rule t outcomes entry x e = keeps_refused (sym e)
 
 accepted_long :
     {rule : Rule} {t : Tables} {table stations charges reasons : List ℕ}
@@ -180,52 +134,63 @@ accepted_long {t = t} s =
       ap (λ o. length o.reasons) s.outcomes_are ∙ length_list n _,
     )
 
-pub accepted_explained :
-    (rule : Rule) (asks bays amounts tickets bids : List ℕ) (width outcomes : ℕ) (entry : List ℕ)
-    {seen table stations charges reasons : List ℕ} {e : OutcomeArrays}
-    → Judged (tables asks bays amounts tickets bids width) (length entry) outcomes verdicts.Accepted
-    → seen ≡ bids_of bids width (length asks)
-    → ExplainsAccepted rule (regular asks bays amounts tickets seen) table stations charges reasons
-    → e.reply ≡ verdicts.Accepted → e.guests ≡ length amounts
-    → e.stations ≡ stations ++ drop (length amounts) (replicate max_guests 0)
-    → e.charges ≡ charges ++ drop (length amounts) (replicate max_guests 0)
-    → e.reasons ≡ reasons ++ drop (length amounts) (replicate max_guests 0)
-    → ExplainedUnder rule (tables asks bays amounts tickets bids width) outcomes entry e table
-unfolding answer_of_verdict told_by
-accepted_explained rule asks bays amounts tickets bids width outcomes entry {seen} {table} {stations} {charges}
-    {reasons} {e} j q s er eg es ec el =
-    let t = tables asks bays amounts tickets bids width in
-    let v = is_accepted t (length entry) outcomes j in
-    let w = (accepted_lengths t (length entry) outcomes v).0 in
-    let same = sym (lent asks bays amounts tickets bids width (length entry) outcomes j q) in
+pub accepted_explains :
+    (rule : Rule) (t t' : Tables) (outcomes : ℕ) (entry : List ℕ) {table stations charges reasons : List ℕ}
+    → answer_of_check (Ok t') ≡ first_fault (explained_faults t (length entry) (outcomes ∷ [])) → t' ≡ t
+    → ExplainsAccepted rule t' table stations charges reasons → (e : OutcomeArrays) → e.guests ≡ length t'.amounts
+    → e.stations ≡ stations ++ drop (length t'.amounts) (replicate max_guests 0)
+    → e.charges ≡ charges ++ drop (length t'.amounts) (replicate max_guests 0)
+    → e.reasons ≡ reasons ++ drop (length t'.amounts) (replicate max_guests 0)
+    → ExplainedUnder rule t outcomes entry (Ok e) table
+unfolding answer_of_check answer_of_explaining telling_under told_by
+accepted_explains rule t t' outcomes entry {table} {stations} {charges} {reasons} v q s e eg es ec el =
     let (ls, lc, ll) = accepted_long s in
-    record {
-      answered = ap answer_of_verdict er ∙ sym v;
-      codes_left = s.codes_are ∙ ap (codes rule) same ∙ sym (updated_accepted _ _ v);
-      guests_are = eg ∙ sym (updated_accepted _ _ v);
-      few = rw eg w.shape.guests_most;
-      outcomes_told =
-          (λ x. outcome_table
-          ((ap₂ take eg es ∙ take_at stations _ (length amounts) ls) x)
-          ((ap₂ take eg ec ∙ take_at charges _ (length amounts) lc) x)
-          ((ap₂ take eg el ∙ take_at reasons _ (length amounts) ll) x))
-          ∙ s.outcomes_are ∙ ap (guest_outcomes rule) same ∙ sym (updated_accepted _ _ v);
-    }
+    let n = length t'.amounts in
+    let told : told_by e ≡ outcome_table stations charges reasons
+    = λ x. outcome_table ((ap₂ take eg es ∙ take_at stations _ n ls) x)
+    ((ap₂ take eg ec ∙ take_at charges _ n lc) x) ((ap₂ take eg el ∙ take_at reasons _ n ll) x) in
+    keeps_accepted (sym v)
+    (λ x. ((eg ∙ ap (λ t. length t.amounts) q) x, (told ∙ s.outcomes_are ∙ ap (guest_outcomes rule) q) x))
+    (s.codes_are ∙ ap (codes rule) q)
 
--- the rule's number first
+-- under the rule of a number
 
-pub unknown_explained :
-    (rule : ℕ) (t : Tables) (outcomes : ℕ) (entry : List ℕ) {e : OutcomeArrays} → Unknown ≡ named rule
-    → e ≡ refusing UnknownRule → ExplainedBy rule t outcomes entry e entry
-unfolding explaining_faults unknown_rule is_unknown first_fault
-unknown_explained rule t outcomes entry u q = refused_explained UnknownRule (rw (← u) refl) q
+pub unnamed_explains :
+    (rule : ℕ) (t : Tables) (outcomes : ℕ) (entry : List ℕ) (x : Refusal) → Err x ≡ named rule
+    → ExplainedBy rule t outcomes entry (Err x) entry
+unfolding answer_of_explaining telling telling_under explaining_faults
+unnamed_explains rule t outcomes entry x e = keeps_unnamed (λ known. telling_under known t outcomes) rule e
 
-pub known_explained :
-    (rule : ℕ) (known : Rule) (t : Tables) (outcomes : ℕ) (entry : List ℕ) {e : OutcomeArrays} {exit : List ℕ}
-    → Known known ≡ named rule → ExplainedUnder known t outcomes entry e exit
-    → ExplainedBy rule t outcomes entry e exit
-unfolding explaining_faults unknown_rule is_unknown rule_in first_fault
-known_explained rule known t outcomes entry u s = rw (← u) s
+pub named_explains :
+    (rule : ℕ) (t : Tables) (outcomes : ℕ) (entry : List ℕ) {known : Rule} (answer : Result OutcomeArrays Refusal)
+    {exit : List ℕ} → Ok known ≡ named rule → ExplainedUnder known t outcomes entry answer exit
+    → ExplainedBy rule t outcomes entry answer exit
+unfolding telling telling_under explaining_faults
+named_explains rule t outcomes entry answer e c = keeps_named (λ known. telling_under known t outcomes) rule e c
+
+-- what a caller learns of arrays that are told: the counts are accepted, and there are so many guests
+
+pub told_under :
+    (rule : Rule) (t : Tables) (outcomes : ℕ) (entry : List ℕ) (e : OutcomeArrays) {exit : List ℕ}
+    → ExplainedUnder rule t outcomes entry (Ok e) exit
+    → (e.guests ≤ max_guests) × (e.guests ≡ length t.amounts) × (told_by e ≡ guest_outcomes rule t)
+unfolding answer_of_explaining telling_under
+told_under rule t outcomes entry e k =
+    let (v, is, _) = was_accepted k refl in
+    let w = accepted_lengths t (length entry) outcomes v in
+    let guests : e.guests ≡ length t.amounts = sym (ap (λ p. p.0) is) in
+    (rw guests w.0.shape.guests_most, guests, sym (ap (λ p. p.1) is))
+
+pub told_of :
+    (rule : ℕ) (t : Tables) (outcomes : ℕ) (entry : List ℕ) (e : OutcomeArrays) {exit : List ℕ}
+    → ExplainedBy rule t outcomes entry (Ok e) exit
+    → (e.guests ≤ max_guests) × (e.guests ≡ length t.amounts) × (told_by e ≡ guest_outcomes (rule_of rule) t)
+unfolding answer_of_explaining telling explaining_faults unknown_rule
+told_of rule t outcomes entry e k =
+    let (v, is, _) = was_accepted k refl in
+    let w = accepted_lengths t (length entry) outcomes (no_fault _ _ _ v).1 in
+    let guests : e.guests ≡ length t.amounts = sym (ap (λ p. p.0) is) in
+    (rw guests w.0.shape.guests_most, guests, sym (ap (λ p. p.1) is))
 
 -- ---- the records
 

@@ -21,9 +21,8 @@ row_code asks row amount ticket cut criticals bounds j =
     code_by (get_or row j 0) (get_or asks j 0) cut
     (won_by (get_or row j 0 * amount) (get_or criticals (j + 1) 0) ticket (get_or bounds (j + 1) 0))
 
--- what a row of codes is written from, and room for it from base on
-pub record RowReady (asks row : List ℕ) (amount : ℕ) (criticals bounds : List ℕ) (base : ℕ)
-    (codes : List ℕ) : Type 0 where
+-- what a row of codes is written from, and a place for each
+pub record RowReady (asks row : List ℕ) (amount : ℕ) (criticals bounds codes : List ℕ) : Type 0 where
   pub few : length asks ≤ max_stations
   pub row_long : length row ≡ length asks
   pub bids_low : (j : ℕ) → j < length asks → get_or row j 0 ≤ max_price
@@ -31,7 +30,7 @@ pub record RowReady (asks row : List ℕ) (amount : ℕ) (criticals bounds : Lis
   pub criticals_long : length criticals ≡ max_stations + 1
   pub bounds_long : length bounds ≡ max_stations + 1
   pub criticals_low : (j : ℕ) → j < length asks → get_or criticals (j + 1) 0 ≤ max_total
-  pub codes_room : base + length asks ≤ length codes
+  pub codes_long : length codes ≡ length asks
 
 -- all codes at a cut, and the reasons of guests with these stations
 pub record CodesAtCut (t : Tables) (c : ℕ) (stations codes reasons : List ℕ) : Type 0 where

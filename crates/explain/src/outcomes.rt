@@ -8,75 +8,71 @@ use model::limits::MAX_GUESTS;
 use model::money::Mills;
 use model::reason::{GuestOutcome, GuestResult, Reason};
 
+// Of a code from 1 to 4.
+#[tactic(auto, unfolding(crate::specs::Outcomes::reason_of), using(crate::proofs::Tests::tests))]
 fn reason(code: u8) -> Reason
     ensures { result ≡ reason_of code }
 {
-    if code == 1 {
-        return Reason::NoBid;
+    match code {
+        1 => Reason::NoBid,
+        2 => Reason::NotOpen,
+        3 => Reason::BelowCut,
+        _ => Reason::Outbid,
     }
-    if code == 2 {
-        return Reason::NotOpen;
-    }
-    if code == 3 {
-        return Reason::BelowCut;
-    }
-    Reason::Outbid
 }
 
 // A loss where there is a code, else a win.
+#[tactic(auto, unfolding(crate::specs::Outcomes::record_of), using(crate::proofs::Tests::tests))]
 pub fn guest_outcome(station: u16, charge: Mills, loss: u8) -> GuestOutcome
     ensures { result ≡ record_of station charge loss }
 {
-    if loss == 0 {
-        return GuestOutcome {
-            result: GuestResult::Win { station, charge },
-        };
-    }
-    GuestOutcome {
-        result: GuestResult::Loss(reason(loss)),
-    }
+    let result = if loss == 0 {
+        GuestResult::Win { station, charge }
+    } else {
+        GuestResult::Loss(reason(loss))
+    };
+    GuestOutcome { result }
 }
 
 // What a record holds, 0 where it has none of it.
+#[tactic(auto, unfolding(model::specs::Numbers::station_of))]
 pub fn station_in(outcome: GuestOutcome) -> u16
     ensures { result ≡ station_of outcome.result }
 {
-    let result = outcome.result;
-    match result {
-        GuestResult::Win { station, charge: _ } => station,
+    match outcome.result {
+        GuestResult::Win { station, .. } => station,
         GuestResult::Loss(_) => 0,
     }
 }
 
+#[tactic(auto, unfolding(model::specs::Numbers::charge_of))]
 pub fn charge_in(outcome: GuestOutcome) -> Mills
     ensures { result.0 ≡ charge_of outcome.result }
 {
-    let result = outcome.result;
-    match result {
-        GuestResult::Win { station: _, charge } => charge,
+    match outcome.result {
+        GuestResult::Win { charge, .. } => charge,
         GuestResult::Loss(_) => Mills(0),
     }
 }
 
+#[tactic(auto, unfolding(model::specs::Numbers::loss_of))]
 pub fn loss_in(outcome: GuestOutcome) -> u8
     ensures { result ≡ loss_of outcome.result }
 {
-    let result = outcome.result;
-    match result {
-        GuestResult::Win {
-            station: _,
-            charge: _,
-        } => 0,
-        GuestResult::Loss(reason) => reason.code(),
+    match outcome.result {
+        GuestResult::Win { .. } => 0,
+        GuestResult::Loss(reason) => u8::from(reason),
     }
 }
 
 // Guest i's record.
-pub fn outcome_at(e: OutcomeArrays, i: usize) -> GuestOutcome
-    ensures { result ≡ record_at e i }
+#[tactic(auto, unfolding(crate::specs::Outcomes::record_at), using(crate::proofs::Tests::tests))]
+pub fn outcome_at(e: &OutcomeArrays, i: usize) -> GuestOutcome
+    ensures { result ≡ record_at e.now i }
 {
-    if MAX_GUESTS <= i {
-        return guest_outcome(0, Mills(0), 0);
+    if i < MAX_GUESTS {
+        guest_outcome(e.stations[i], Mills::from(e.charges[i]), e.reasons[i])
+    } else {
+        guest_outcome(0, Mills(0), 0)
     }
-    guest_outcome(e.stations[i], Mills::wide(e.charges[i]), e.reasons[i])
 }

@@ -5,6 +5,7 @@ use Rattle.model.specs.Counting.{list}
 use Rattle.model.specs.places.Bids.{cell, squared_distance, walk, bid_between}
 use Rattle.model.specs.claims.Places.{OnGrid}
 use Rattle.model.specs.declared.cell.Cell.{Cell}
+use Rattle.grid.specs.declared.rows.Grid.{Grid}
 use Rattle.grid.specs.declared.rows.Guest.{Guest}
 
 -- a guest's bids at all stations, by the stations' first and second coordinates
@@ -27,12 +28,13 @@ pub record SquaresReady (a : Cell) (firsts seconds squares : List ℕ) : Type 0 
   pub station_on_grid : (j : ℕ) → j < length firsts → OnGrid (cell (get_or firsts j 0) (get_or seconds j 0))
   pub squares_long : length squares ≡ length firsts
 
--- what such a row is written from: the table of walks, a guest and stations on the grid, and room from base on
-pub record RowReady (walks : List ℕ) (guest : Guest) (firsts seconds : List ℕ) (base : ℕ) (bids : List ℕ) : Type 0 where
-  pub few : length firsts ≤ max_stations
-  pub walks_are : walks ≡ list (max_squared_distance + 1) walk
+-- what such a row is written from: the table of walks, a guest and stations on the grid, and a place for each
+pub record RowReady (grid : Grid) (guest : Guest) (row : List ℕ) : Type 0 where
+  pub few : length grid.firsts.now ≤ max_stations
+  pub walks_are : grid.walks.now ≡ list (max_squared_distance + 1) walk
   pub fall_most : guest.fall.0 ≤ max_price
   pub guest_on_grid : OnGrid guest.cell
-  pub seconds_long : length seconds ≡ length firsts
-  pub station_on_grid : (j : ℕ) → j < length firsts → OnGrid (cell (get_or firsts j 0) (get_or seconds j 0))
-  pub room : base + length firsts ≤ length bids
+  pub seconds_long : length grid.seconds.now ≡ length grid.firsts.now
+  pub station_on_grid :
+      (j : ℕ) → j < length grid.firsts.now → OnGrid (cell (get_or grid.firsts.now j 0) (get_or grid.seconds.now j 0))
+  pub row_long : length row ≡ length grid.firsts.now

@@ -1,1 +1,5 @@
+mod Cleared
+mod Pairs
 mod Posting
+mod Records
+mod Takes

@@ -1,36 +1,39 @@
--- The round of a market, by its verdict.
-use Rattle.std.specs.Prelude.{ℕ, ◌∷◌, ◌≡◌, length}
+-- The round of a market, or why there is none.
+use Rattle.std.specs.Prelude.{ℕ, ◌∷◌, ◌≡◌, length, Result, Ok, Err}
 use Rattle.model.specs.Limits.{max_guests, max_stations}
 use Rattle.model.specs.Counting.{list}
-use Rattle.model.specs.Numbers.{answer_of_verdict}
-use Rattle.model.specs.declared.answers.Verdict.{Verdict}
-use Rattle.model.specs.declared.answers.Verdict.TheVariants.{Accepted, Refused}
+use Rattle.model.specs.Numbers.{number}
 use Rattle.model.specs.market.Market.{Tables}
 use Rattle.model.specs.market.Faults.{unknown_rule, market_faults}
 use Rattle.model.specs.market.Rules.{named}
-use Rattle.model.specs.Verdicts.{first_fault}
+use Rattle.model.specs.Verdicts.{Answer, accepted, refused, first_fault, giving}
+use Rattle.model.specs.declared.refusal.Refusal.{Refusal}
 use Rattle.model.specs.declared.rule.Rule.{Rule}
-use Rattle.model.specs.declared.rule.NamedRule.TheVariants.{Known}
-use Rattle.ledger.specs.Rounds.{refusing, posted}
 use Rattle.ledger.specs.declared.round.Round.{Round}
 use Rattle.model.specs.book.Posting.{Posting, posting, to_guest, to_sold, to_paid, to_house}
 
 -- the round that adds what p's market clears to under its rule
 unfoldable pub adding : Posting → Round
-adding p =
-    posted (length p.tables.amounts) (length p.tables.asks) (list max_guests (λ i. to_guest i p))
-    (list max_stations (λ j. to_sold j p)) (list max_stations (λ j. to_paid j p)) (to_house p)
+adding p = record {
+  charges = list max_guests (λ i. to_guest i p);
+  sold = list max_stations (λ j. to_sold j p);
+  paid = list max_stations (λ j. to_paid j p);
+  margin = record { 0 = to_house p };
+  guests = length p.tables.amounts;
+  stations = length p.tables.asks;
+}
 
--- the round that comes with a verdict: it adds nothing where it is refused
-unfoldable pub round_by : Verdict → Posting → Round
-round_by Accepted p = adding p
-round_by (Refused x) p = refusing x
+-- of a plan: the round
+unfoldable pub answer_of_plan : Result Round Refusal → Answer Round
+answer_of_plan (Ok r) = accepted r
+answer_of_plan (Err x) = refused (number x)
 
--- r is the round of a market under the rule of a number; its desk and its own number come later
-pub record Planned (rule : ℕ) (t : Tables) (r : Round) : Type 0 where
-  pub says : answer_of_verdict r.reply ≡ first_fault (unknown_rule rule ∷ market_faults t)
-  pub round_is : r ≡ round_by r.reply (posting rule t 0 0)
+-- the plan for a market under the rule of a number; its desk and its own number come later
+pub record Planned (rule : ℕ) (t : Tables) (plan : Result Round Refusal) : Type 0 where
+  pub planned :
+      answer_of_plan plan
+      ≡ giving (first_fault (unknown_rule rule ∷ market_faults t)) (adding (posting rule t 0 0))
 
 -- under a rule that is known: of each number that names it
-abbrev pub PlannedUnder : Rule → Tables → Round → Type 0
-PlannedUnder rule t r = (k : ℕ) → named k ≡ Known rule → Planned k t r
+abbrev pub PlannedUnder : Rule → Tables → Result Round Refusal → Type 0
+PlannedUnder rule t plan = (k : ℕ) → named k ≡ Ok rule → Planned k t plan

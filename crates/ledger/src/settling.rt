@@ -1,97 +1,92 @@
-// A round settled on the guests' accounts, the house's and the last round's number of its desk, or refused.
+// A round settled on a book, or refused.
 ghost use Rattle.std.specs.Prelude.{◌≡◌};
-ghost use Rattle.model.specs.Verdicts.{◌gives◌};
+ghost use Rattle.model.specs.Verdicts.{◌gives◌, first_fault};
+ghost use Rattle.model.specs.Promises.{Keeps};
+ghost use Rattle.model.specs.book.Book.{book, plain};
 ghost use Rattle.model.specs.book.PlainBook.{book_size, no_desk, out_of_turn};
-ghost use Rattle.ledger.specs.Settling.{refusal as refusalOf, ruled, Settled};
+ghost use Rattle.model.specs.Numbers.{answer_of_verdict};
+ghost use Rattle.model.specs.clauses.Lent.{book_in, book_out};
+ghost use Rattle.ledger.specs.Settling.{settling};
 
 use crate::round::Round;
-use crate::{accounts, room};
-use model::answers::Verdict;
-use model::limits;
-use model::money::Mills;
+use crate::{accounts, room, stations};
+use model::account::StationAccount;
+use model::limits::{MAX_DESKS, MAX_GUESTS, MAX_ROUND, MAX_STATIONS};
 use model::refusal::Refusal;
-
-// The reply to a posting, and how many stations' accounts it adds to.
-#[derive(Clone, Copy)]
-pub struct Ruling {
-    pub reply: Verdict,
-    pub credits: usize,
-}
 
 fn book_size_differs(n: usize, m: usize, guests: usize, stations: usize, lasts: usize) -> bool
     ensures { (result gives 13) ≡ book_size n m guests stations lasts }
 {
-    (((guests < n) | (limits::MAX_GUESTS < guests))
-        | ((stations < m) | (limits::MAX_STATIONS < stations)))
-        | (lasts != limits::MAX_DESKS)
+    (((guests < n) | (MAX_GUESTS < guests)) | ((stations < m) | (MAX_STATIONS < stations)))
+        | (lasts != MAX_DESKS)
 }
 
 fn desk_out_of_range(desk: u8) -> bool
     ensures { (result gives 25) ≡ no_desk desk }
 {
-    limits::MAX_DESKS <= desk as usize
+    MAX_DESKS <= usize::from(desk)
 }
 
 fn round_out_of_turn(round: u32, last: u32) -> bool
     ensures { (result gives 11) ≡ out_of_turn round last }
 {
-    if limits::MAX_ROUND <= last {
-        return true;
-    }
-    round != last + 1
+    MAX_ROUND <= last || round != last + 1
 }
 
-fn refusing(refusal: Refusal) -> Ruling
-    ensures { result ≡ refusalOf refusal }
+// The first fault of a round that is settled on a book: its size, its desk, its number, and an account without room.
+fn settling_fault(
+    r: &Round,
+    desk: u8,
+    round: u32,
+    guests: &[u64],
+    stations: &[StationAccount],
+    house: u64,
+    last: &[u32],
+) -> Result<(), Refusal>
+    ensures { answer_of_verdict result
+        ≡ first_fault (settling r.now desk round (plain (book guests.now stations.now house last.now))).faults }
 {
-    Ruling {
-        reply: Verdict::Refused(refusal),
-        credits: 0,
+    if book_size_differs(
+        r.guests,
+        r.stations,
+        guests.len(),
+        stations.len(),
+        last.len(),
+    ) {
+        return Err(Refusal::BookSize);
     }
+    if desk_out_of_range(desk) {
+        return Err(Refusal::DeskOutOfRange);
+    }
+    if round_out_of_turn(round, last[usize::from(desk)]) {
+        return Err(Refusal::RoundOutOfTurn);
+    }
+    let guests_full = accounts::any_exceeds(guests, &r.charges);
+    let stations_full = stations::any_exceeds(stations, r);
+    let house_full = room::exceeds(house, r.margin.0);
+    if guests_full | stations_full | house_full {
+        return Err(Refusal::AccountOverLimit);
+    }
+    Ok(())
 }
 
-// Adds the round, or refuses it: as it comes, for the size of the book, for its desk, for its number, or where an
-// account has no room. `full` says that of the stations.
+// Adds the round, or refuses it and changes nothing.
 pub fn settle(
-    r: Round,
-    full: bool,
-    stations: usize,
+    r: &Round,
     desk: u8,
     round: u32,
     guests: &mut [u64],
+    stations: &mut [StationAccount],
     house: &mut u64,
     last: &mut [u32],
-) -> Ruling
-    ensures { Settled (ruled r full stations desk round guests.old house.old
-        last.old) r desk round guests.old house.old last.old
-        result guests.new house.new last.new }
+) -> Result<(), Refusal>
+    ensures { Keeps (settling r.now desk round) (plain (book_in guests stations house last))
+        (answer_of_verdict result) (plain (book_out guests stations house last)) }
 {
-    let reply = r.reply;
-    match reply {
-        Verdict::Refused(refusal) => refusing(refusal),
-        Verdict::Accepted => {
-            if book_size_differs(r.guests, r.stations, guests.len(), stations, last.len()) {
-                return refusing(Refusal::BookSize);
-            }
-            if desk_out_of_range(desk) {
-                return refusing(Refusal::DeskOutOfRange);
-            }
-            let at = desk as usize;
-            if round_out_of_turn(round, last[at]) {
-                return refusing(Refusal::RoundOutOfTurn);
-            }
-            let guests_full = room::any_exceeds(guests, &r.charges);
-            let house_full = room::mills_exceed(Mills(*house), r.margin);
-            if full | guests_full | house_full {
-                return refusing(Refusal::AccountOverLimit);
-            }
-            accounts::add(guests, &r.charges);
-            *house = Mills(*house).plus(r.margin).0;
-            last[at] = round;
-            Ruling {
-                reply,
-                credits: r.stations,
-            }
-        }
-    }
+    settling_fault(r, desk, round, guests, stations, *house, last)?;
+    accounts::add(guests, &r.charges);
+    stations::add(stations, r);
+    *house += r.margin.0;
+    last[usize::from(desk)] = round;
+    Ok(())
 }

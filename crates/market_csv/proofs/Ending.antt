@@ -1,75 +1,78 @@
 -- What ends a field, and what it comes to.
-use Rattle.std.proofs.Common.{◌≡◌, ℕ, suc, ◌+◌, ◌-◌, ◌<◌, ◌≤◌, Bool, true, false, ◌||◌, eqb, ltb, List, [], ◌∷◌, length}
-use Rattle.std.proofs.Common.{get_or, sym, refl, ap, ◌∙◌, inl, inr, ⊎_elim, add-one, arith, ltb-false, lt-ltb, eq-eqb}
-use Rattle.std.proofs.Common.{ne_eqb}
+use Rattle.std.proofs.Common.{◌≡◌, ℕ, suc, ◌+◌, ◌-◌, ◌<◌, ◌≤◌, Bool, true, false, ◌||◌, eqb, ltb, List, [], ◌∷◌}
+use Rattle.std.proofs.Common.{length, get_or, sym, refl, ap, ◌∙◌, inl, inr, ⊎_elim, add-one, arith}
+use Rattle.std.proofs.Common.{ltb-false, lt-ltb, eq-eqb, ne_eqb, Ok, Err, Option, Some, None}
 use Rattle.model.specs.Counting.{◌<?◌, ◌≤?◌, ◌=?◌, ◌and◌, ◌or◌, only}
 use Rattle.model.specs.Verdicts.{refused, first_fault}
+use Rattle.model.specs.declared.refusal.Refusal.{Refusal}
 use Rattle.model.specs.declared.refusal.Refusal.TheVariants.{MalformedText, FieldTooLarge}
-use Rattle.model.specs.csv.Places.{lf, is_digit, digits_of, starts_line}
+use Rattle.model.specs.csv.Places.{is_digit, digits_of, starts_line}
 use Rattle.model.specs.csv.Faults.{most, too_large, csv_faults}
 use Rattle.model.proofs.Tests.{decide, lt_or_le, and_no, or_no}
 use Rattle.model.proofs.Loops.{or_is}
 use Rattle.model.proofs.csv.Steps.{digit_tests}
-use Rattle.market_csv.specs.Reached.{past, Reached}
-use Rattle.market_csv.specs.Runs.{Running, Stops, Ran}
-use Rattle.market_csv.specs.Ends.{Feeding, AtNeither, over, other, alone, EnderRead, FieldEnds, Open}
+use Rattle.market_csv.specs.Reached.{Place, past, Reached}
+use Rattle.market_csv.specs.Bytes.{Sorted}
+use Rattle.market_csv.specs.declared.bytes.Kind.{Kind}
+use Rattle.market_csv.specs.declared.bytes.Kind.TheVariants.{Comma, Cr, Lf}
+use Rattle.market_csv.specs.Runs.{Running, Ran, Found}
+use Rattle.market_csv.specs.Ends.{Feeding, AtEnd, AtNeither, over, other, alone, EnderRead, FieldEnds, Open}
 use Rattle.market_csv.specs.Ends.{ReadAs, FieldRead}
-use Rattle.market_csv.specs.declared.numbers.Stop.{Stop}
-use Rattle.market_csv.specs.declared.fields.Cursor.{Cursor}
-use Rattle.market_csv.specs.declared.fields.Ended.{Ended}
-use Rattle.market_csv.specs.declared.fields.Ended.TheVariants.{Comma, Line, Fault}
 use Rattle.market_csv.proofs.Running.{run_value}
+use Rattle.market_csv.proofs.Sorting.{no_feed, no_end}
 use Rattle.market_csv.proofs.Reaching.{run}
 use Rattle.market_csv.proofs.Faulty.{large_byte, large_end, mark_fault, end_fault, cr_alone}
 
--- ---- LF
+-- ---- what ends a field
 
 pub feeding_over : (s : List ℕ) (at : ℕ) → length s ≤ at → Feeding s at false
 unfolding Feeding
-feeding_over s at h = inl h
+feeding_over s at l = inl l
 
-pub feeding_lf : (s : List ℕ) (at : ℕ) → at < length s → get_or s at 0 ≡ lf → Feeding s at true
+pub fed : (s : List ℕ) (at : ℕ) {b : Bool} → b ≡ true → Feeding s at b → at < length s
 unfolding Feeding
-feeding_lf s at h e = (h, e)
+fed s at e h = (rw e at h).0
 
-pub feeding_other : (s : List ℕ) (at : ℕ) → at < length s → get_or s at 0 =? lf ≡ false → Feeding s at false
+pub feeding_here :
+    (s : List ℕ) (at : ℕ) (k : Kind) → at < length s → Sorted (get_or s at 0) k → k ≡ Lf → Feeding s at true
+unfolding Feeding Sorted
+feeding_here s at k l h e = (l, rw e at h)
+
+pub feeding_not :
+    (s : List ℕ) (at : ℕ) (k : Kind) → at < length s → (k ≡ Lf → ⊥) → Sorted (get_or s at 0) k → Feeding s at false
 unfolding Feeding
-feeding_other s at h e = inr (h, e)
+feeding_not s at k l f h = inr (l, no_feed _ k f h)
 
--- ---- what ends a field
+module _ (s : List ℕ) (end : ℕ) {k : Kind} {stop : Option Kind} (h : Found s end stop) (e : stop ≡ Some k) where
+  pub there : (end < length s) × Sorted (get_or s end 0) k
+  unfolding Found
+  there = rw e at h
 
-pub fed : (s : List ℕ) (at : ℕ) {f : Bool} → f ≡ true → Feeding s at f → (at < length s) × (get_or s at 0 ≡ lf)
-unfolding Feeding
-fed s at e g = rw e at g
+  pub ender_comma : k ≡ Comma → EnderRead s end (Ok (false, end + 1))
+  unfolding EnderRead AtEnd Sorted
+  ender_comma q = record { there = there.0; byte = rw q at there.1; next = add-one end }
 
-pub stops_as : {x : Stop} (s : List ℕ) (end : ℕ) (stop : Stop) → Stops s end x → x ≡ stop → Stops s end stop
-stops_as s end stop h e = rw e at h
+  pub ender_line : k ≡ Cr → Feeding s (end + 1) true → EnderRead s end (Ok (true, end + 2))
+  unfolding EnderRead AtEnd Sorted Feeding
+  ender_line q f =
+      let z : end + 1 ≡ suc end = omega arith in
+      let g = rw z at f in
+      record { there = g.0; byte = rw q at there.1; feed = g.1; next = omega arith }
 
-module _ (s : List ℕ) (v : ℕ) (e : Bool) (end : ℕ) where
-  pub ender_comma :
-      {next : Cursor} → Stops s end Stop.Comma → next.at ≡ end + 1 → EnderRead s v e end (Comma v e next)
-  unfolding EnderRead Stops
-  ender_comma h n = (refl, refl, record { there = h.0; byte = h.1; next = n ∙ add-one end })
+  pub ender_alone : k ≡ Cr → Feeding s (end + 1) false → EnderRead s end (Err MalformedText)
+  unfolding EnderRead Sorted
+  ender_alone q f =
+      let z : end + 1 ≡ suc end = omega arith in
+      (refl, alone there.0 (rw q at there.1) (rw z at f))
 
-  pub ender_line :
-      {next : Cursor} {f : Bool} → Stops s end Stop.Cr → f ≡ true → Feeding s (end + 1) f → next.at ≡ end + 2
-      → EnderRead s v e end (Line v e next)
-  unfolding EnderRead Stops
-  ender_line h t g n =
-      let w = fed s (end + 1) t g in
-      (refl, refl, record { there = omega (arith, w.0); byte = h.1; feed = rw add-one at w.1; next = omega arith })
+  pub ender_other : (k ≡ Comma → ⊥) → (k ≡ Cr → ⊥) → EnderRead s end (Err MalformedText)
+  unfolding EnderRead
+  ender_other f g = let t = no_end _ k f g there.1 in (refl, other there.0 t.0 t.1)
 
-  pub ender_alone :
-      {f : Bool} → Stops s end Stop.Cr → f ≡ false → Feeding s (end + 1) f → EnderRead s v e end (Fault MalformedText)
-  unfolding EnderRead Stops
-  ender_alone h t g =
-      let k : Feeding s (suc end) false = rw (t, add-one) at g in
-      (refl, alone h.0 h.1 k)
-
-  pub ender_neither : Stops s end Stop.Neither → EnderRead s v e end (Fault MalformedText)
-  unfolding EnderRead Stops
-  ender_neither (inl h) = (refl, over h)
-  ender_neither (inr (h, u)) = (refl, other h u)
+pub ender_over :
+    (s : List ℕ) (end : ℕ) {stop : Option Kind} → Found s end stop → stop ≡ None → EnderRead s end (Err MalformedText)
+unfolding EnderRead Found
+ender_over s end h e = (refl, over (rw e at h))
 
 -- ---- the field
 
@@ -115,22 +118,16 @@ open_end {s} {from} {end} {l} r le h o = ⊎_elim
     o)
     (lt_or_le from end)
 
-no_digit : (s : List ℕ) (end : ℕ) (x : Stop) → Stops s end x → end < length s → is_digit (get_or s end 0) ≡ false
-unfolding Stops is_digit ◌≤?◌ ◌and◌
-no_digit s end Stop.Comma h l = rw h.1 refl
-no_digit s end Stop.Cr h l = rw h.1 refl
-no_digit s end Stop.Neither (inl h) l = absurd (omega arith)
-no_digit s end Stop.Neither (inr (h, u)) l = u.no_digit
-
 pub field_large :
-    {s : List ℕ} {from v end : ℕ} {x : Stop} (largest : ℕ) → Ran s from v end x
-    → (ltb 10 (end - from) || ltb largest v) ≡ true → FieldRead s from largest (Fault FieldTooLarge)
+    {s : List ℕ} {from v end : ℕ} (largest : ℕ) (exit : Place) → Ran s from v end
+    → (ltb 10 (end - from) || ltb largest v) ≡ true
+    → FieldRead (record { text = s; at = from }) largest exit (Err FieldTooLarge)
 unfolding ReadAs
-field_large {s} {from} {v} {end} largest h t l k q r low e o =
+field_large {s} {from} {v} {end} largest exit h t l k q r low e o =
     let g = reached_end h.running r low in
     let big : too_large (past s end) ≡ true = sym (large_is largest h.running g e) ∙ t in
     ⊎_elim
-    (λ (a : end < length s). large_byte g a (no_digit s end _ h.stops a) big)
+    (λ (a : end < length s). large_byte g a (h.no_digit a) big)
     (λ (a : length s ≤ end). large_end g a big)
     (lt_or_le end (length s))
 
@@ -143,42 +140,54 @@ empty_test from end h = ⊎_elim
     (lt_or_le from end)
 
 module _
-    {s : List ℕ} {from v end : ℕ} {x : Stop} (largest : ℕ) (h : Ran s from v end x)
-    (t : (ltb 10 (end - from) || ltb largest v) ≡ false) {l k q : ℕ} (r : Reached s from l k q 0) (low : l < 202)
-    (e : largest ≡ most l k) (o : Open s from l) where
-  small : too_large (past s end) ≡ false
-  small = sym (large_is largest h.running (reached_end h.running r low) e) ∙ t
+    {s : List ℕ} {from v end : ℕ} {largest : ℕ} (h : Ran s from v end)
+    (t : (ltb 10 (end - from) || ltb largest v) ≡ false) where
+  module _ {l k q : ℕ} (r : Reached s from l k q 0) (low : l < 202) (e : largest ≡ most l k) (o : Open s from l) where
+    small : too_large (past s end) ≡ false
+    small = sym (large_is largest h.running (reached_end h.running r low) e) ∙ t
 
-  within : (end - from ≤ 10) × (v ≤ largest)
-  within =
-      let either = or_is (ltb 10 (end - from)) (ltb largest v) in
-      let (a, b) = or_no (ltb 10 (end - from)) (ltb largest v) (sym either ∙ t) in
-      (ltb-false _ _ a, ltb-false _ _ b)
+    within : (end - from ≤ 10) × (v ≤ largest)
+    within =
+        let either = or_is (ltb 10 (end - from)) (ltb largest v) in
+        let (a, b) = or_no (ltb 10 (end - from)) (ltb largest v) (sym either ∙ t) in
+        (ltb-false _ _ a, ltb-false _ _ b)
 
-  field_is : {x : ℕ} {y : Bool} → x ≡ v → y ≡ eqb end from → FieldEnds s l k q x y end
-  field_is a b = record {
-    digits = end - from;
-    reached = reached_end h.running r low;
-    small = small;
-    value_is = a ∙ run_value h.running within.0;
-    low = omega (arith, within.1);
-    empty_is = b ∙ empty_test from end h.running.after ∙ ap (λ x. x =? 0) (sym h.running.digits_are);
-  }
+    field_is : FieldEnds s l k q v (eqb end from) end
+    field_is = record {
+      digits = end - from;
+      reached = reached_end h.running r low;
+      small = small;
+      value_is = run_value h.running within.0;
+      low = omega (arith, within.1);
+      empty_is = empty_test from end h.running.after ∙ ap (λ x. x =? 0) (sym h.running.digits_are);
+    }
 
-  neither_is : AtNeither s end → first_fault (csv_faults s) ≡ refused 22
-  unfolding Feeding
-  neither_is (over a) = end_fault (reached_end h.running r low) a small
-      (open_end (reached_end h.running r low) h.running.after a o)
-  neither_is (other a u) =
-      mark_fault (reached_end h.running r low) a u.no_digit u.no_comma u.no_cr small low
-  neither_is (alone a b c) = cr_alone (reached_end h.running r low) a b small low c
+    neither_is : AtNeither s end → first_fault (csv_faults s) ≡ refused 22
+    unfolding Feeding
+    neither_is (over a) = end_fault (reached_end h.running r low) a small
+        (open_end (reached_end h.running r low) h.running.after a o)
+    neither_is (other a b c) =
+        mark_fault (reached_end h.running r low) a (h.no_digit a) b c small low
+    neither_is (alone a b c) = cr_alone (reached_end h.running r low) a b small low c
 
-pub field_ended :
-    {s : List ℕ} {from v end : ℕ} {y : Stop} (largest : ℕ) (x : Ended) → Ran s from v end y
-    → (ltb 10 (end - from) || ltb largest v) ≡ false → EnderRead s v (eqb end from) end x → FieldRead s from largest x
-unfolding ReadAs EnderRead
-field_ended {end = end} largest (Comma a b c) h t w l k q r low e o =
-    (end, field_is largest h t r low e o w.0 w.1, w.2)
-field_ended {end = end} largest (Line a b c) h t w l k q r low e o =
-    (end, field_is largest h t r low e o w.0 w.1, w.2)
-field_ended largest (Fault a) h t w l k q r low e o = rw w.0 (neither_is largest h t r low e o w.1)
+  pub field_read :
+      (last : Bool) (at : ℕ) → EnderRead s end (Ok (last, at))
+      → FieldRead (record { text = s; at = from }) largest (record { text = s; at = at })
+      (Ok (record { value = v; empty = eqb end from; last = last }))
+  unfolding ReadAs EnderRead
+  field_read last at w l k q r low g o =
+      record { end = end; ends = field_is r low g o; ender = w; same = refl }
+
+  pub field_malformed :
+      (exit : Place) (f : Refusal) → EnderRead s end (Err f)
+      → FieldRead (record { text = s; at = from }) largest exit (Err f)
+  unfolding ReadAs EnderRead
+  field_malformed exit f w l k q r low g o = rw w.0 (neither_is r low g o w.1)
+
+-- the next field has no digit yet
+pub none_yet :
+    (s : List ℕ) (end : ℕ) (last : Bool) (at : ℕ) → EnderRead s end (Ok (last, at))
+    → (at ≤ length s) × (digits_of (past s at) ≡ 0)
+unfolding EnderRead AtEnd past digits_of is_digit ◌≤?◌ ◌and◌ only
+none_yet s end false at a = (omega (arith, a.there, a.next), rw (a.next, a.byte) refl)
+none_yet s end true at a = (omega (arith, a.there, a.next), rw (a.next, a.feed) refl)

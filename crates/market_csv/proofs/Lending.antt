@@ -1,28 +1,27 @@
 -- The lent tables, as `read_csv` leaves them.
-use Rattle.std.proofs.Common.{◌≡◌, ℕ, ◌+◌, ◌*◌, ◌/◌, ◌%◌, ◌<◌, ◌≤◌, true, false, List, ◌++◌, length, get_or, take, drop}
+use Rattle.std.proofs.Common.{◌≡◌, ℕ, ◌+◌, ◌*◌, ◌/◌, ◌%◌, ◌<◌, ◌≤◌, Bool, true, false, List, [], ◌∷◌, ◌++◌, length}
 use Rattle.std.proofs.Common.{sym, refl, ap, ◌∙◌, mod-lt, div-lt_iff_lt-mul, div-add-mod', arith, length-take-le}
-use Rattle.std.proofs.Common.{take_all, get_or-take, ext_get_or}
+use Rattle.std.proofs.Common.{get_or, take, drop, take_all, get_or-take, ext_get_or, Result, Ok, Err}
 use lib.Seq.{paste}
 use Rattle.model.specs.Counting.{list, joined}
-use Rattle.model.specs.Numbers.{number, answer_of_reading}
+use Rattle.model.specs.Numbers.{number, answer_of_reading, answer_of_verdict}
 use Rattle.model.specs.Verdicts.{◌gives◌, accepted, refused, first_fault}
+use Rattle.model.specs.declared.answers.Counts.{Counts}
 use Rattle.model.specs.declared.refusal.Refusal.{Refusal}
-use Rattle.model.specs.declared.refusal.Refusal.TheVariants.{LentLengths}
-use Rattle.model.specs.declared.answers.Reading.{Reading}
-use Rattle.model.specs.declared.answers.Reading.TheVariants.{Read, Refused}
 use Rattle.model.specs.sheet.Lent.{LentTables, lent_tables, table_lengths, filled}
 use Rattle.model.specs.clauses.EntryPoints.{reading_csv, ReadsCsv}
-use Rattle.model.specs.csv.Faults.{stations, csv_faults, reading_csv_faults}
-use Rattle.model.specs.csv.Content.{guests, value, guest_field, csv_tables}
+use Rattle.model.specs.csv.Faults.{csv_faults, reading_csv_faults}
+use Rattle.model.specs.csv.Content.{value, guest_field, csv_tables}
 use Rattle.model.proofs.Counting.{length_list}
 use Rattle.model.proofs.Loops.{is_list}
 use Rattle.model.proofs.Promises.{keeps_refused, keeps_accepted}
-use Rattle.model.proofs.Verdicts.{fault_here, fault_later}
+use Rattle.model.proofs.Verdicts.{fault_first, fault_second}
 use Rattle.model.proofs.sheet.Joined.{joined_length, get_d_joined}
-use Rattle.model.proofs.sheet.Tables.{first_places, room_for}
-use Rattle.model.specs.Limits.{max_guests, max_stations, max_bids}
-use Rattle.market_csv.specs.Copies.{Fits, copied}
+use Rattle.model.proofs.sheet.Tables.{first_places, room_for, lent_lengths}
+use Rattle.model.specs.Limits.{max_guests, max_stations}
+use Rattle.market_csv.specs.Copies.{Fits, copied, lists_of}
 use Rattle.market_csv.specs.Parses.{Parsed, ParseRead}
+use Rattle.market_csv.specs.declared.own.OwnTables.{OwnTables}
 use Rattle.copies.proofs.Tables.{tables_are}
 
 -- ---- what is copied
@@ -61,75 +60,90 @@ rows_copied n m f own l some h g = copied_is (joined n (λ i. list m (f i))) own
 
 -- ---- the answer
 
-module _ (s a k b c d : List ℕ) where
-  abbrev entry : LentTables
-  entry = lent_tables a k b c d
+lengths_are : (b : Bool) → accepted tt ≡ first_fault ((b gives 10) ∷ []) → b ≡ false
+unfolding first_fault
+lengths_are true e = absurd (let z : ◌≡◌ {A = ℕ} 0 1 = cc in omega arith)
+lengths_are false e = refl
 
-  refused_by :
-      (x : Refusal) → first_fault (reading_csv_faults entry s) ≡ refused (number x) → ReadsCsv s entry (Refused x) entry
-  unfolding answer_of_reading reading_csv
-  refused_by x e = keeps_refused e
+refused_by :
+    (s : List ℕ) (entry : LentTables) (x : Refusal) → first_fault (reading_csv_faults entry s) ≡ refused (number x)
+    → ReadsCsv s entry (Err x) entry
+unfolding answer_of_reading reading_csv
+refused_by s entry x e = keeps_refused e
 
-  pub refused_lent :
-      table_lengths (length a) (length k) (length b) (length c) (length d) ≡ (true gives 10)
-      → ReadsCsv s entry (Refused LentLengths) entry
-  unfolding reading_csv_faults
-  refused_lent e = refused_by LentLengths (rw e (fault_here _ refl))
+module _ (s : List ℕ) (entry : LentTables) {r : Result Unit Refusal}
+    (l : answer_of_verdict r
+    ≡ first_fault (table_lengths (length entry.amounts) (length entry.tickets) (length entry.asks) (length entry.bays)
+    (length entry.bids) ∷ [])) where
+  pub refused_lent : (x : Refusal) → r ≡ Err x → ReadsCsv s entry (Err x) entry
+  unfolding reading_csv_faults answer_of_verdict
+  refused_lent x t = refused_by s entry x (fault_first _ _ (sym (rw t at l)))
 
-  module _ (l : table_lengths (length a) (length k) (length b) (length c) (length d) ≡ (false gives 10)) where
+  module _ (t : r ≡ Ok tt) where
+    accepted_lent : accepted tt
+        ≡ first_fault (table_lengths (length entry.amounts) (length entry.tickets) (length entry.asks)
+        (length entry.bays) (length entry.bids) ∷ [])
+    unfolding answer_of_verdict
+    accepted_lent = rw t at l
+
     as_text : first_fault (reading_csv_faults entry s) ≡ first_fault (csv_faults s)
     unfolding reading_csv_faults
-    as_text = rw l (fault_later _ _ refl)
+    as_text = fault_second _ _ (sym accepted_lent)
 
-    pub refused_text :
-        {r : Reading} (a' k' b' c' d' : List ℕ) (x : Refusal) → ParseRead s a' k' b' c' d' r → r ≡ Refused x
-        → ReadsCsv s entry (Refused x) entry
+    lengths : table_lengths (length entry.amounts) (length entry.tickets) (length entry.asks) (length entry.bays)
+        (length entry.bids) ≡ (false gives 10)
+    unfolding table_lengths
+    lengths = ap (λ b. b gives 10) (lengths_are _ accepted_lent)
+
+    pub refused_text : (own : OwnTables) (x : Refusal) → ParseRead s own (Err x) → ReadsCsv s entry (Err x) entry
     unfolding ParseRead
-    refused_text a' k' b' c' d' x p e =
-        let t : ParseRead s a' k' b' c' d' (Refused x) = rw e at p in refused_by x (as_text ∙ t)
+    refused_text own x p = refused_by s entry x (as_text ∙ p)
 
-    read_by :
-        (n m : ℕ) {exit : LentTables} → first_fault (csv_faults s) ≡ accepted tt → n ≡ guests s → m ≡ stations s
-        → exit
-        ≡ lent_tables (first_places (list n (λ i. value s (guest_field m i + 1))) a)
-        (first_places (list n (λ i. value s (guest_field m i))) k) (first_places (list m (λ j. value s j)) b)
-        (first_places (list m (λ j. value s (m + j))) c)
-        (first_places (joined n (λ i. list m (λ j. value s (guest_field m i + 2 + j)))) d)
-        → ReadsCsv s entry (Read n m) exit
-    unfolding answer_of_reading reading_csv filled csv_tables
-    read_by n m e f g x = keeps_accepted (as_text ∙ e) (rw (f, g) refl) (rw (x, f, g) refl)
+    module _ (own : OwnTables) (c : Counts) (p : ParseRead s own (Ok c)) where
+      found : Parsed s c.guests c.stations own
+      unfolding ParseRead
+      found = p
 
-    -- the five tables of the pass are copied
-    pub read_all :
-        (n m : ℕ) (oa ok ob oc od : List ℕ) {exit : LentTables} → Parsed s n m oa ok ob oc od
-        → Fits n m (lent_tables oa ok ob oc od) → exit ≡ copied n m (lent_tables oa ok ob oc od) entry
-        → ReadsCsv s entry (Read n m) exit
-    unfolding copied
-    read_all n m oa ok ob oc od p h e =
-        let g = p.guests in
-        read_by n m g.good g.guests_are g.stations_are
-        (e ∙ tables_are (list_copied n _ oa a h.amounts_fit g.held.amounts_are)
-        (list_copied n _ ok k h.tickets_fit g.held.tickets_are)
-        (list_copied m _ ob b h.asks_fit p.asks_are) (list_copied m _ oc c h.bays_fit p.bays_are)
-        (rows_copied n m (λ i j. value s (guest_field m i + 2 + j)) od d p.some h.bids_fit g.held.bids_are))
+      pub fits :
+          (c.guests ≤ max_guests) × (c.stations ≤ max_stations) × Fits c.guests c.stations entry
+      fits =
+          let q = found in
+          let (ha, hk, hb, hc, hd) = lent_lengths _ _ _ _ _ lengths in (
+            q.few_guests,
+            q.few,
+            record {
+              amounts_fit = omega (arith, q.few_guests);
+              tickets_fit = omega (arith, q.few_guests);
+              asks_fit = omega (arith, q.few);
+              bays_fit = omega (arith, q.few);
+              bids_fit = omega (arith, room_for c.guests c.stations 8_000 q.few_guests q.few refl);
+            },
+          )
 
--- ---- the counts, once the pass is over
+      read_by :
+          {exit : LentTables} → let n = c.guests in let m = c.stations in exit
+          ≡ lent_tables (first_places (list n (λ i. value s (guest_field m i + 1))) entry.amounts)
+          (first_places (list n (λ i. value s (guest_field m i))) entry.tickets)
+          (first_places (list m (λ j. value s j)) entry.asks)
+          (first_places (list m (λ j. value s (m + j))) entry.bays)
+          (first_places (joined n (λ i. list m (λ j. value s (guest_field m i + 2 + j)))) entry.bids)
+          → ReadsCsv s entry (Ok c) exit
+      unfolding answer_of_reading reading_csv filled csv_tables
+      read_by x =
+          let q = found in
+          keeps_accepted (as_text ∙ q.good) (rw (q.guests_are, q.stations_are) refl)
+          (rw (x, q.guests_are, q.stations_are) refl)
 
-pub parsed :
-    (s oa ok ob oc od : List ℕ) {r : Reading} (n m : ℕ) → ParseRead s oa ok ob oc od r → r ≡ Read n m
-    → Parsed s n m oa ok ob oc od
-unfolding ParseRead
-parsed s oa ok ob oc od n m p e = let t : ParseRead s oa ok ob oc od (Read n m) = rw e at p in t
-
--- they fit tables of the greatest size
-pub fits :
-    {s oa ok ob oc od : List ℕ} {n m : ℕ} → Parsed s n m oa ok ob oc od → (a k b c d : List ℕ)
-    → (length a ≡ max_guests) × (length k ≡ max_guests) × (length b ≡ max_stations) × (length c ≡ max_stations)
-    × (length d ≡ max_bids) → Fits n m (lent_tables a k b c d)
-fits {n = n} {m} p a k b c d (ha, hk, hb, hc, hd) = record {
-  amounts_fit = omega (arith, p.guests.few);
-  tickets_fit = omega (arith, p.guests.few);
-  asks_fit = omega (arith, p.few);
-  bays_fit = omega (arith, p.few);
-  bids_fit = omega (arith, room_for n m 8_000 p.guests.few p.few refl);
-}
+      -- the tables of the pass are copied
+      pub read_all :
+          {exit : LentTables} → Fits c.guests c.stations (lists_of own)
+          → exit ≡ copied c.guests c.stations own entry → ReadsCsv s entry (Ok c) exit
+      unfolding copied
+      read_all h e =
+          let q = found in
+          read_by
+          (e ∙ tables_are (list_copied _ _ own.amounts _ h.amounts_fit q.held.amounts_are)
+          (list_copied _ _ own.tickets _ h.tickets_fit q.held.tickets_are)
+          (list_copied _ _ own.asks _ h.asks_fit q.asks_are) (list_copied _ _ own.bays _ h.bays_fit q.bays_are)
+          (rows_copied _ _ (λ i j. value s (guest_field c.stations i + 2 + j)) own.bids _ q.some h.bids_fit
+          q.held.bids_are))

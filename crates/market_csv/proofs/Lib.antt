@@ -1,3 +1,4 @@
+pub mod Sorting
 pub mod Asking
 pub mod Ending
 pub mod Faulty
@@ -7,7 +8,6 @@ pub mod Guests
 pub mod Lending
 pub mod Reaching
 pub mod Running
-pub mod Sorting
 pub mod Steps
 pub mod Takes
 pub mod Whole

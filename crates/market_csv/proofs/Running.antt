@@ -1,10 +1,11 @@
 -- Running over digits: their number modulo 2^64, and the number itself where there are few.
-use Rattle.std.proofs.Common.{◌≡◌, ℕ, zero, suc, ◌+◌, ◌-◌, ◌*◌, ◌/◌, ◌%◌, ◌^◌, ◌<◌, ◌≤◌, true, false, List, [], ◌∷◌}
-use Rattle.std.proofs.Common.{length, get_or, sym, ap, ◌∙◌, ⊎_elim, mod-eq_of_lt, div-add-mod', add-one, arith}
-use native.Mathlib.Nat.{add-mod, mod-add-mod, add-mul-mod_self_right}
-use Rattle.model.specs.Counting.{only}
+use Rattle.std.proofs.Common.{◌≡◌, ℕ, zero, suc, ◌+◌, ◌-◌, ◌*◌, ◌/◌, ◌%◌, ◌^◌, ◌<◌, ◌≤◌, true, false, ◌⊎◌, List, []}
+use Rattle.std.proofs.Common.{◌∷◌, length, get_or, sym, refl, ap, ◌∙◌, inl, inr, ⊎_elim, mod-eq_of_lt, div-add-mod'}
+use Rattle.std.proofs.Common.{add-one, arith}
+use native.Mathlib.Nat.{mod-add-mod, add-mul-mod_self_right}
+use Rattle.model.specs.Counting.{◌and◌, only}
 use Rattle.model.specs.csv.Places.{is_digit, digits_of, value_of}
-use Rattle.model.proofs.Tests.{decide, first, second, le_yes}
+use Rattle.model.proofs.Tests.{decide, first, second, le_yes, is_le, not_le, and_false}
 use Rattle.model.proofs.csv.Steps.{digits_more, value_more, value_zero}
 use Rattle.market_csv.specs.Reached.{past}
 use Rattle.market_csv.specs.Runs.{Running}
@@ -13,23 +14,10 @@ pub digit_within : (b : ℕ) → is_digit b ≡ true → (48 ≤ b) × (b ≤ 57
 unfolding is_digit
 digit_within b e = (le_yes _ _ (first _ _ e), le_yes _ _ (second _ _ e))
 
--- wrapped sums make ten times a number, and a digit
-sum_wraps : (m : ℕ) {a b : ℕ} (x y : ℕ) → a ≡ x % m → b ≡ y % m → (a + b) % m ≡ (x + y) % m
-sum_wraps m x y e f = rw (e, f) (sym (add-mod x y m))
-
-more_wraps : (m : ℕ) {a : ℕ} (x b : ℕ) → a ≡ x % m → (a + b) % m ≡ (x + b) % m
-more_wraps m x b e = rw e (mod-add-mod x m b)
-
-pub wrapped :
-    (v d two four five ten r : ℕ) → two ≡ (v + v) % 2 ^ 64 → four ≡ (two + two) % 2 ^ 64 → five ≡ (four + v) % 2 ^ 64
-    → ten ≡ (five + five) % 2 ^ 64 → r ≡ (ten + d) % 2 ^ 64 → r ≡ (10 * v + d) % 2 ^ 64
-wrapped v d two four five ten r a b c e f =
-    let b' = b ∙ sum_wraps (2 ^ 64) (v + v) (v + v) a a in
-    let c' = c ∙ more_wraps (2 ^ 64) (v + v + (v + v)) v b' in
-    let e' = e ∙ sum_wraps (2 ^ 64) (v + v + (v + v) + v) (v + v + (v + v) + v) c' c' in
-    let f' = f ∙ more_wraps (2 ^ 64) (v + v + (v + v) + v + (v + v + (v + v) + v)) d e' in
-    let g : v + v + (v + v) + v + (v + v + (v + v) + v) + d ≡ 10 * v + d = omega arith in
-    f' ∙ ap (λ x. x % 2 ^ 64) g
+-- ten times a wrapped number, and a digit
+pub wrapped : (v d : ℕ) → (v * 10 % 2 ^ 64 + d) % 2 ^ 64 ≡ (10 * v + d) % 2 ^ 64
+wrapped v d =
+    let g : v * 10 + d ≡ 10 * v + d = omega arith in mod-add-mod (v * 10) (2 ^ 64) d ∙ ap (λ x. x % 2 ^ 64) g
 
 pub appended : (v x d r : ℕ) → v ≡ x % 2 ^ 64 → r ≡ (10 * v + d) % 2 ^ 64 → r ≡ (10 * x + d) % 2 ^ 64
 appended v x d r a b =
@@ -60,6 +48,15 @@ running_turn {s} {from} {v} {at} d r h l e f g =
       value_is = appended v _ d r h.value_is g
           ∙ ap (λ x. x % 2 ^ 64) (ap (λ x. 10 * value_of (past s at) + x) f ∙ sym (value_more _ _ e));
     })
+
+pub digit_is : (b : ℕ) → (48 ≤ b) × (b ≤ 57) → is_digit b ≡ true
+unfolding is_digit ◌and◌
+digit_is b (l, h) = rw (is_le 48 b l, is_le b 57 h) refl
+
+pub no_digit_is : (b : ℕ) → (b < 48) ⊎ (57 < b) → is_digit b ≡ false
+unfolding is_digit ◌and◌
+no_digit_is b (inl l) = rw (not_le 48 b l) refl
+no_digit_is b (inr h) = rw (not_le b 57 h) (and_false _)
 
 -- ---- few digits
 

@@ -1,16 +1,12 @@
 -- What sorting a byte says.
-use Rattle.std.proofs.Common.{◌≡◌, ℕ, ◌<◌, ◌≤◌, true, false, [], ◌∷◌, refl, inl, inr, arith}
-use types.Run.{OneOf}
-use denote.Enum.Declared.{tag_of}
+use Rattle.std.proofs.Common.{◌≡◌, ℕ, ◌<◌, ◌≤◌, true, false, refl, arith}
 use Rattle.model.specs.Counting.{◌≤?◌, ◌=?◌, ◌and◌}
 use Rattle.model.specs.csv.Places.{comma, cr, lf, is_digit}
 use Rattle.model.proofs.Tests.{and_false, is_le, not_le, not_eq}
 use Rattle.model.proofs.csv.Steps.{digit_tests}
 use Rattle.market_csv.specs.Bytes.{Stray, Sorted}
-use Rattle.market_csv.specs.Runs.{Unended}
 use Rattle.market_csv.specs.declared.bytes.Kind.{Kind}
 use Rattle.market_csv.specs.declared.bytes.Kind.TheVariants.{Digit, Comma, Cr, Lf, Other}
-use Rattle.market_csv.specs.contracts.bytes.Kind.{the_type}
 
 -- ---- the ranges
 
@@ -31,28 +27,31 @@ pub stray_when :
 stray_when b d x y z =
     record { no_digit = d; no_comma = not_eq b comma x; no_cr = not_eq b cr y; no_lf = not_eq b lf z }
 
--- ---- the kinds, by the number of their case
-
 pub sorted_as : {r : Kind} (b : ℕ) (k : Kind) → Sorted b r → r ≡ k → Sorted b k
 sorted_as b k h e = rw e at h
 
--- the last two end no field
-pub ends_no_field : (b : ℕ) (k : Kind) → OneOf (3 ∷ 4 ∷ []) (tag_of the_type k) → Sorted b k → Unended b
-unfolding Sorted is_digit ◌≤?◌ ◌=?◌ ◌and◌
-ends_no_field b (Digit d) (inl e) h = absurd (omega arith)
-ends_no_field b (Digit d) (inr e) h = absurd (omega arith)
-ends_no_field b Comma (inl e) h = absurd (omega arith)
-ends_no_field b Comma (inr e) h = absurd (omega arith)
-ends_no_field b Cr (inl e) h = absurd (omega arith)
-ends_no_field b Cr (inr e) h = absurd (omega arith)
-ends_no_field b Lf t h = rw h (record { no_digit = refl; no_comma = refl; no_cr = refl })
-ends_no_field b Other t h = record { no_digit = h.no_digit; no_comma = h.no_comma; no_cr = h.no_cr }
+-- ---- a byte that is sorted otherwise
 
--- all but the fourth are no LF
-pub feeds_no_line : (b : ℕ) (k : Kind) → (k ≡ Lf → ⊥) → Sorted b k → b =? lf ≡ false
-unfolding Sorted ◌=?◌
-feeds_no_line b (Digit d) t h = (digit_tests b h.0).2
-feeds_no_line b Comma t h = rw h refl
-feeds_no_line b Cr t h = rw h refl
-feeds_no_line b Lf t h = absurd (t refl)
-feeds_no_line b Other t h = h.no_lf
+pub no_digit : (b : ℕ) (k : Kind) → ((x : ℕ) → k ≡ Digit x → ⊥) → Sorted b k → is_digit b ≡ false
+unfolding Sorted is_digit ◌≤?◌ ◌and◌
+no_digit b (Digit d) f h = absurd (f d refl)
+no_digit b Comma f h = rw h refl
+no_digit b Cr f h = rw h refl
+no_digit b Lf f h = rw h refl
+no_digit b Other f h = h.no_digit
+
+pub no_feed : (b : ℕ) (k : Kind) → (k ≡ Lf → ⊥) → Sorted b k → b =? lf ≡ false
+unfolding Sorted
+no_feed b (Digit d) f h = (digit_tests b h.0).2
+no_feed b Comma f h = not_eq b lf (λ q. omega arith)
+no_feed b Cr f h = not_eq b lf (λ q. omega arith)
+no_feed b Lf f h = absurd (f refl)
+no_feed b Other f h = h.no_lf
+
+pub no_end : (b : ℕ) (k : Kind) → (k ≡ Comma → ⊥) → (k ≡ Cr → ⊥) → Sorted b k → (b =? comma ≡ false) × (b =? cr ≡ false)
+unfolding Sorted
+no_end b (Digit d) f g h = let t = digit_tests b h.0 in (t.0, t.1)
+no_end b Comma f g h = absurd (f refl)
+no_end b Cr f g h = absurd (g refl)
+no_end b Lf f g h = (not_eq b comma (λ q. omega arith), not_eq b cr (λ q. omega arith))
+no_end b Other f g h = (h.no_comma, h.no_cr)

@@ -1,7 +1,8 @@
 -- What is copied once a text is known to be good. Nothing that `market_csv::read_csv` promises depends on this file.
 use Rattle.std.specs.Prelude.{ℕ, ◌*◌, ◌≤◌, length}
 use Rattle.std.proofs.Math.Seq.{paste}
-use Rattle.model.specs.sheet.Lent.{LentTables}
+use Rattle.model.specs.sheet.Lent.{LentTables, lent_tables}
+use Rattle.market_csv.specs.declared.own.OwnTables.{OwnTables}
 
 -- n guests and m stations fit five tables
 pub record Fits (n m : ℕ) (t : LentTables) : Type 0 where
@@ -11,8 +12,11 @@ pub record Fits (n m : ℕ) (t : LentTables) : Type 0 where
   pub bays_fit : m ≤ length t.bays
   pub bids_fit : n * m ≤ length t.bids
 
+abbrev pub lists_of : OwnTables → LentTables
+lists_of own = lent_tables own.amounts own.tickets own.asks own.bays own.bids
+
 -- five tables over the first places of five others
-unfoldable pub copied : (n m : ℕ) (own entry : LentTables) → LentTables
+unfoldable pub copied : (n m : ℕ) (own : OwnTables) (entry : LentTables) → LentTables
 copied n m own entry = record {
   amounts = paste entry.amounts 0 own.amounts n;
   tickets = paste entry.tickets 0 own.tickets n;

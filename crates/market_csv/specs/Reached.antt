@@ -5,6 +5,14 @@ use Rattle.model.specs.csv.Places.{line_of, field_of, digits_of, after_cr}
 use Rattle.model.specs.csv.Faults.{stations, faults_from, csv_faults}
 use Rattle.model.specs.csv.Content.{values_from, values}
 
+-- a text, and a place in it
+pub record Place : Type 0 where
+  pub text : List ℕ
+  pub at : ℕ
+
+abbrev pub place : List ℕ → ℕ → Place
+place text at = record { text = text; at = at }
+
 -- the text before place p, its last byte first
 unfoldable pub past : List ℕ → ℕ → List ℕ
 past s zero = []

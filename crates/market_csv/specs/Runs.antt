@@ -1,10 +1,9 @@
 -- What running over digits promises.
-use Rattle.std.specs.Prelude.{◌≡◌, ℕ, ◌-◌, ◌%◌, ◌^◌, ◌<◌, ◌≤◌, false, ◌⊎◌, List, length, slice_index}
-use Rattle.model.specs.Counting.{◌=?◌}
-use Rattle.model.specs.csv.Places.{comma, cr, is_digit, digits_of, value_of}
+use Rattle.std.specs.Prelude.{◌≡◌, ℕ, ◌-◌, ◌%◌, ◌^◌, ◌<◌, ◌≤◌, false, List, length, slice_index, Option, None, Some}
+use Rattle.model.specs.csv.Places.{is_digit, digits_of, value_of}
 use Rattle.market_csv.specs.Reached.{past}
-use Rattle.market_csv.specs.declared.numbers.Stop.{Stop}
-use Rattle.market_csv.specs.declared.numbers.Stop.TheVariants.{Comma, Cr, Neither}
+use Rattle.market_csv.specs.Bytes.{Sorted}
+use Rattle.market_csv.specs.declared.bytes.Kind.{Kind}
 
 -- the bytes between two places are digits, and value is their number modulo 2^64
 pub record Running (s : List ℕ) (from value at : ℕ) : Type 0 where
@@ -13,18 +12,12 @@ pub record Running (s : List ℕ) (from value at : ℕ) : Type 0 where
   pub digits_are : digits_of (past s at) ≡ at - from
   pub value_is : value ≡ value_of (past s at) % 2 ^ 64
 
--- what stands at a place where digits end
-pub record Unended (b : ℕ) : Type 0 where
-  pub no_digit : is_digit b ≡ false
-  pub no_comma : b =? comma ≡ false
-  pub no_cr : b =? cr ≡ false
-
-unfoldable pub Stops : List ℕ → (end : ℕ) → Stop → Type 0
-Stops s end Comma = (end < length s) × (slice_index s end ≡ comma)
-Stops s end Cr = (end < length s) × (slice_index s end ≡ cr)
-Stops s end Neither = (length s ≤ end) ⊎ ((end < length s) × Unended (slice_index s end))
-
 -- and no digit follows
-pub record Ran (s : List ℕ) (from value end : ℕ) (stop : Stop) : Type 0 where
+pub record Ran (s : List ℕ) (from value end : ℕ) : Type 0 where
   pub running : Running s from value end
-  pub stops : Stops s end stop
+  pub no_digit : end < length s → is_digit (slice_index s end) ≡ false
+
+-- what stands at a place, sorted; nothing past the end
+unfoldable pub Found : List ℕ → (at : ℕ) → Option Kind → Type 0
+Found s at None = length s ≤ at
+Found s at (Some kind) = (at < length s) × Sorted (slice_index s at) kind

@@ -1,146 +1,65 @@
 // The lines of a comma-separated market.
-ghost use Rattle.std.specs.Prelude.{◌≡◌, ◌+◌, ◌*◌, ◌<◌, ◌≤◌, length};
-ghost use Rattle.model.specs.csv.Content.{value as valueIn, guest_field};
-ghost use Rattle.market_csv.specs.Rows.{Put, LineRead, AsksRead, BaysDue, BidsDue, BidsPut, GuestDue, GuestPut};
+ghost use Rattle.std.specs.Prelude.{◌≡◌, ◌<◌, ◌≤◌, length, IfOk};
+ghost use Rattle.model.specs.Limits.{max_guests, max_stations};
+ghost use Rattle.market_csv.specs.Rows.{AsksRead, RowRead, GuestRead};
 
-use crate::fields;
-use crate::fields::{Cursor, Ended, Taken};
+use crate::numbers::Number;
+use crate::own::OwnTables;
+use crate::reader::Reader;
 use model::limits::MAX_STATIONS;
 use model::refusal::Refusal;
 
-const MOST_16: u64 = 65_535;
-
-const MOST_32: u64 = 4_294_967_295;
-
-// The first line: how many asks there are, or its fault.
-#[derive(Clone, Copy)]
-pub enum Asks {
-    Line { stations: usize, next: Cursor },
-    Fault(Refusal),
-}
-
-// Where a line ends, or its fault.
-#[derive(Clone, Copy)]
-pub enum Step {
-    Next(Cursor),
-    Fault(Refusal),
-}
-
-// A comma after the 40th ask is one too many, whether that ask is empty or not.
-pub fn asks_line(text: &[u8], asks: &mut [u32]) -> Asks
-    requires { length asks.old ≡ 40 }
-    ensures { AsksRead text.now asks.new result }
+// The first line: how many asks there are. A comma after the 40th ask is one too many, whether that ask is empty or
+// not.
+pub fn asks_line(reader: &mut Reader<'_>, asks: &mut [u32; MAX_STATIONS]) -> Result<usize, Refusal>
+    requires { reader.old.at ≡ 0 }
+    ensures few { IfOk result (λ m. m ≤ max_stations) }
+    ensures read { AsksRead reader.old.text reader.new asks.new result }
 {
-    let mut c = Cursor { at: 0 };
-    let mut j = 0;
-    while j < MAX_STATIONS {
-        match fields::field(text, c, MOST_32) {
-            Ended::Comma { value, empty, next } => {
-                if j + 1 == MAX_STATIONS {
-                    return Asks::Fault(Refusal::CountsOutOfRange);
-                }
-                if empty {
-                    return Asks::Fault(Refusal::MalformedText);
-                }
-                asks[j] = value as u32;
-                c = next;
-            }
-            Ended::Line { value, empty, next } => {
-                if empty {
-                    return Asks::Fault(Refusal::MalformedText);
-                }
-                asks[j] = value as u32;
-                return Asks::Line {
-                    stations: j + 1,
-                    next,
-                };
-            }
-            Ended::Fault(r) => {
-                return Asks::Fault(r);
-            }
+    for (j, ask) in asks.iter_mut().enumerate() {
+        let field = reader.field(u32::MOST)?;
+        if !field.last & (j + 1 == MAX_STATIONS) {
+            return Err(Refusal::CountsOutOfRange);
         }
-        j += 1;
+        if field.empty {
+            return Err(Refusal::MalformedText);
+        }
+        *ask = u32::number_of(field.value);
+        if field.last {
+            return Ok(j + 1);
+        }
     }
-    Asks::Fault(Refusal::CountsOutOfRange)
+    Err(Refusal::CountsOutOfRange)
 }
 
-pub fn bays_line(text: &[u8], c: Cursor, stations: usize, bays: &mut [u16]) -> Step
-    requires { BaysDue text.now c.at stations × (stations ≤ length bays.old) }
-    ensures { LineRead text.now 2 (stations + stations)
-        (Put 0 stations (λ j. valueIn text.now (stations + j)) bays.old bays.new) result }
+// The last fields of a line, one for each place of a row.
+pub fn row<T: Number>(
+    reader: &mut Reader<'_>,
+    may_be_empty: bool,
+    row: &mut [T],
+) -> Result<(), Refusal>
+    ensures { RowRead T.number_of T.MOST may_be_empty (length row.old) reader.old reader.new row.new
+        result }
 {
-    let mut d = c;
-    let mut j = 0;
-    while j < stations {
-        match fields::take(text, d, MOST_16, false, j + 1 == stations) {
-            Taken::Value { value, next } => {
-                bays[j] = value as u16;
-                d = next;
-            }
-            Taken::Fault(r) => {
-                return Step::Fault(r);
-            }
-        }
-        j += 1;
+    let stations = row.len();
+    for (j, number) in row.iter_mut().enumerate() {
+        *number = reader.take(may_be_empty, j + 1 == stations)?;
     }
-    Step::Next(d)
-}
-
-// The bids of guest i.
-fn bids_line(text: &[u8], c: Cursor, stations: usize, i: usize, bids: &mut [u32]) -> Step
-    requires { BidsDue text.now c.at stations i × (i * stations + stations ≤ length bids.old) }
-    ensures { LineRead text.now (3 + i) (guest_field stations i + 2 + stations)
-        (BidsPut text.now stations i bids.old bids.new) result }
-{
-    let base = i * stations;
-    let mut d = c;
-    let mut j = 0;
-    while j < stations {
-        match fields::take(text, d, MOST_32, true, j + 1 == stations) {
-            Taken::Value { value, next } => {
-                bids[base + j] = value as u32;
-                d = next;
-            }
-            Taken::Fault(r) => {
-                return Step::Fault(r);
-            }
-        }
-        j += 1;
-    }
-    Step::Next(d)
+    Ok(())
 }
 
 // The line of guest i.
 pub fn guest_line(
-    text: &[u8],
-    c: Cursor,
+    reader: &mut Reader<'_>,
     stations: usize,
     i: usize,
-    amounts: &mut [u16],
-    tickets: &mut [u32],
-    bids: &mut [u32],
-) -> Step
-    requires { GuestDue text.now c.at stations i × (i < length amounts.old) × (i < length tickets.old)
-        × (i * stations + stations ≤ length bids.old) }
-    ensures { LineRead text.now (3 + i) (guest_field stations i + 2 + stations)
-        (GuestPut text.now stations i amounts.old tickets.old bids.old
-        amounts.new tickets.new bids.new) result }
+    own: &mut OwnTables,
+) -> Result<(), Refusal>
+    requires { (i < max_guests) × (stations ≤ max_stations) }
+    ensures { GuestRead reader.old stations i own.old reader.new own.new result }
 {
-    match fields::take(text, c, MOST_32, false, false) {
-        Taken::Value {
-            value: ticket,
-            next: d,
-        } => match fields::take(text, d, MOST_16, false, false) {
-            Taken::Value {
-                value: amount,
-                next: e,
-            } => {
-                tickets[i] = ticket as u32;
-                amounts[i] = amount as u16;
-                bids_line(text, e, stations, i, bids)
-            }
-            Taken::Fault(r) => Step::Fault(r),
-        },
-        Taken::Fault(r) => Step::Fault(r),
-    }
+    own.tickets[i] = reader.take(false, false)?;
+    own.amounts[i] = reader.take(false, false)?;
+    let base = i * stations;
+    row(reader, true, &mut own.bids[base..base + stations])
 }

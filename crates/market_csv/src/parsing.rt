@@ -1,66 +1,42 @@
-// One pass over a comma-separated market, into tables that nobody sees before it is over.
-ghost use Rattle.std.specs.Prelude.{◌≡◌, length};
-ghost use Rattle.market_csv.specs.Parses.{GuestsDue, GuestsLong, GuestsRead, ParseRead};
+// One pass over a comma-separated market.
+ghost use Rattle.std.specs.Prelude.{◌≤◌};
+ghost use Rattle.model.specs.Limits.{max_stations};
+ghost use Rattle.market_csv.specs.Parses.{GuestsRead, ParseRead};
 
-use crate::fields::Cursor;
 use crate::lines;
-use crate::lines::{Asks, Step};
-use model::answers::Reading;
+use crate::own::OwnTables;
+use crate::reader::Reader;
+use model::answers::Counts;
 use model::limits::MAX_GUESTS;
 use model::refusal::Refusal;
 
-// The lines of all guests.
+// The lines of all guests: how many there are.
 fn guest_lines(
-    text: &[u8],
-    c: Cursor,
+    reader: &mut Reader<'_>,
     stations: usize,
-    amounts: &mut [u16],
-    tickets: &mut [u32],
-    bids: &mut [u32],
-) -> Reading
-    requires { GuestsDue text.now c.at stations × GuestsLong amounts.old tickets.old bids.old }
-    ensures { GuestsRead text.now amounts.new tickets.new bids.new result }
+    own: &mut OwnTables,
+) -> Result<usize, Refusal>
+    requires { stations ≤ max_stations }
+    ensures { GuestsRead reader.old stations own.old own.new result }
 {
-    let mut d = c;
-    let mut i = 0;
-    while d.at < text.len() {
-        if i == MAX_GUESTS {
-            return Reading::Refused(Refusal::CountsOutOfRange);
+    for i in 0..MAX_GUESTS {
+        if reader.is_over() {
+            return Ok(i);
         }
-        match lines::guest_line(text, d, stations, i, amounts, tickets, bids) {
-            Step::Next(next) => {
-                d = next;
-            }
-            Step::Fault(r) => {
-                return Reading::Refused(r);
-            }
-        }
-        i += 1;
+        lines::guest_line(reader, stations, i, own)?;
     }
-    Reading::Read {
-        guests: i,
-        stations,
+    if reader.is_over() {
+        return Ok(MAX_GUESTS);
     }
+    Err(Refusal::CountsOutOfRange)
 }
 
-pub fn parse(
-    text: &[u8],
-    amounts: &mut [u16],
-    tickets: &mut [u32],
-    asks: &mut [u32],
-    bays: &mut [u16],
-    bids: &mut [u32],
-) -> Reading
-    requires { GuestsLong amounts.old tickets.old bids.old × (length asks.old ≡ 40)
-        × (length bays.old ≡ 40) }
-    ensures { ParseRead text.now amounts.new tickets.new asks.new
-        bays.new bids.new result }
+pub fn parse(text: &[u8], own: &mut OwnTables) -> Result<Counts, Refusal>
+    ensures { ParseRead text.now own.new result }
 {
-    match lines::asks_line(text, asks) {
-        Asks::Line { stations, next: c } => match lines::bays_line(text, c, stations, bays) {
-            Step::Next(d) => guest_lines(text, d, stations, amounts, tickets, bids),
-            Step::Fault(r) => Reading::Refused(r),
-        },
-        Asks::Fault(r) => Reading::Refused(r),
-    }
+    let mut reader = Reader::new(text);
+    let stations = lines::asks_line(&mut reader, &mut own.asks)?;
+    lines::row(&mut reader, false, &mut own.bays[..stations])?;
+    let guests = guest_lines(&mut reader, stations, own)?;
+    Ok(Counts { guests, stations })
 }

@@ -1,51 +1,44 @@
 -- The clearing of an accepted market with its places and floors at its rule's cut, and the answers that it gives.
-use Prim.Native.Nat.{ℕ, ◌+◌, ◌-◌}
+use Prim.Native.Nat.{ℕ, ◌+◌}
 use mathlib.Core.Bool.{Bool, ◌&&◌}
 use mathlib.Core.List.{List}
-use mathlib.Core.Path.{◌≡◌, refl, sym, ap, ap₂, subst, ◌∙◌}
+use mathlib.Core.Path.{◌≡◌, refl, sym, ap, ap₂, ◌∙◌}
 use native.Mathlib.Numerals.{add-one}
+use lib.Dec.{eqb}
 use lib.ListN.{get_or, length}
-use Rattle.model.specs.Counting.{◌=?◌, only, sum, list}
-use Rattle.model.specs.Numbers.{answer_of_clearing, answer_of_marking, answer_of_verdict}
-use Rattle.model.specs.Verdicts.{accepted, first_fault}
-use Rattle.model.specs.declared.answers.Clearing.{Clearing}
-use Rattle.model.specs.declared.answers.Clearing.TheVariants as clearings
-use Rattle.model.specs.declared.answers.Marking.{Marking}
-use Rattle.model.specs.declared.answers.Marking.TheVariants as markings
-use Rattle.model.specs.declared.answers.Verdict.{Verdict}
-use Rattle.model.specs.declared.answers.Verdict.TheVariants as verdicts
-use Rattle.model.specs.declared.refusal.Refusal.{Refusal}
-use Rattle.model.specs.declared.refusal.Refusal.TheVariants.{UnknownRule}
-use Rattle.model.specs.declared.rule.NamedRule.TheVariants.{Known, Unknown}
-use Rattle.model.specs.declared.rule.Rule.{Rule}
-use Rattle.model.specs.market.Market.{Tables, tables, regular, market_by, market, cut, opens, screen}
-use Rattle.model.specs.market.Mechanism.{truthful}
-use Rattle.model.specs.market.Outcome.{results, outcome_by, screened, decision, outcome}
-use Rattle.model.specs.market.Faults.{unknown_rule}
-use Rattle.model.specs.market.Marking.{FullResults, full_results, Submission, submission, place_table, floors_of}
-use Rattle.model.specs.market.Marking.{full_results_of, round_of, same, same_results, same_submission, correct}
-use Rattle.model.specs.market.Marking.{full_table_faults, marking_faults}
-use Rattle.model.specs.market.Rules.{named, is_unknown, rule_in}
-use Rattle.model.specs.clauses.EntryPoints.{clearing_fully, ClearsFully, marking, Marks}
-use Rattle.model.specs.clauses.Rows.{bids_of}
+use Rattle.std.specs.Prelude.{Result, Ok, Err}
+use Rattle.std.specs.Cmp.Lexicographic.{pointwise}
+use Rattle.model.specs.Counting.{only, list}
+use Rattle.model.specs.Numbers.{answer_of_check, answer_of_clearing, answer_of_marking}
+use Rattle.model.specs.Verdicts.{first_fault}
 use Rattle.model.specs.claims.Meaning.{WithinLimits}
+use Rattle.model.specs.clauses.EntryPoints.{clearing_fully, ClearsFully, marking, Marks}
+use Rattle.model.specs.declared.answers.Figures.{Figures}
+use Rattle.model.specs.declared.refusal.Refusal.{Refusal}
+use Rattle.model.specs.declared.rule.Rule.{Rule}
+use Rattle.model.specs.market.Market.{Tables, market_by, market, cut, opens, screen}
+use Rattle.model.specs.market.Marking.{FullResults, full_results, Submission, submission, place_table, floors_of}
+use Rattle.model.specs.market.Marking.{full_results_of, round_of, same_results, same_submission, correct}
+use Rattle.model.specs.market.Marking.{full_table_faults, marking_faults}
+use Rattle.model.specs.market.Outcome.{Results, screened, outcome, outcome_in}
+use Rattle.model.specs.market.Rules.{named}
+use Rattle.model.specs.declared.mechanism.Mechanism.TheVariants.{Truthful}
+use Rattle.model.proofs.ByNumber.{keeps_unnamed, keeps_named}
+use Rattle.model.proofs.Compared.{eq_is}
 use Rattle.model.proofs.Loops.{relist}
 use Rattle.model.proofs.Promises.{keeps_refused, keeps_accepted}
-use Rattle.model.proofs.clauses.Rows.{bids_shown}
-use Rattle.model.proofs.market.Acceptance.{accepted_iff_within_limits, width_of}
-use Rattle.model.proofs.market.Outcomes.{of_truthful}
 use Rattle.model.proofs.claims.Marking.{full_within}
 use Rattle.pricing.specs.CutAsk.{cut_ask}
-use Rattle.pricing.specs.Sales.{kwh_at, PaidOut}
 use Rattle.pricing.proofs.cut.CutAsk.{cut_is}
-use Rattle.allocation.specs.Assignment.{Assigned}
 use Rattle.allocation.specs.Screens.{screened_at}
-use Rattle.allocation.specs.Stages.{AtCut, Bars}
+use Rattle.allocation.specs.Stages.{Bars}
 use Rattle.allocation.proofs.assignment.Assignment.{critical_at_lem}
-use Rattle.allocation.proofs.assignment.Results as assigned
-use Rattle.marking.proofs.comparing.Comparing.{both_are}
+use Rattle.clearing.specs.ClearsAccepted.{ClearsAccepted}
+use Rattle.clearing.specs.Decided.{HasBars}
+use Rattle.copies.proofs.Comparing.{same_is}
 use Rattle.marking.specs.Accepted.{FullLengths, FullyClears, clearing_fully_under, ClearsFullyUnder}
 use Rattle.marking.specs.Accepted.{marking_under, MarksUnder}
+use Rattle.marking.proofs.places.Places.{both_are}
 
 -- ---- at a cut, then at the rule's
 
@@ -62,133 +55,109 @@ unfolding screened_at screened screen opens market market_by
 at_rule_cut rule t = refl
 
 pub fully_clears :
-    (rule : Rule) (t : Tables) {c : ℕ} {least stations charges sales payments criticals bounds places floors : List ℕ}
-    {x m k : ℕ} → WithinLimits t → c ≡ cut_ask rule t.asks → AtCut t c least
-    → Assigned (outcome_by (screened_at t c) (truthful (screened_at t c))) stations charges
-    → Bars t c criticals bounds → m ≡ length t.asks → PaidOut (kwh_at stations t.amounts) c m sales payments
-    → x ≡ sum (length charges) (λ i. get_or charges i 0 - get_or least i 0)
-    → places ≡ place_table (screened_at t c)
-    → k ≡ length t.asks → floors ≡ list k (λ j. get_or criticals (j + 1) 0)
-    → FullyClears rule t c x (full_results (results stations charges sales payments) places floors)
-unfolding full_results_of outcome decision
-fully_clears rule t {c} w e A a b em sales_h margin_h places_h ek floors_h =
-    let S : screened_at t c ≡ screened rule t = ap (screened_at t) (e ∙ cut_is rule t) ∙ at_rule_cut rule t in
-    let comes = of_truthful (screened_at t c) in
-    let lists =
-    assigned.results_are t c comes a em sales_h ∙ ap (λ S. (outcome_by S (truthful S)).results) S in
-    let held = places_h ∙ ap place_table S in
-    let least = floors_are t c w b ek floors_h ∙ ap floors_of S in
+    (rule : Rule) (t : Tables) (f : Figures) {r : Results} {criticals bounds places floors : List ℕ} {k : ℕ}
+    → WithinLimits t → ClearsAccepted (outcome_in Truthful rule t) f r → f.cut.0 ≡ cut_ask rule t.asks
+    → Bars t f.cut.0 criticals bounds → places ≡ place_table (screened_at t f.cut.0) → k ≡ length t.asks
+    → floors ≡ list k (λ j. get_or criticals (j + 1) 0) → FullyClears rule t f (full_results r places floors)
+unfolding full_results_of outcome_in
+fully_clears rule t f w c e b held k floors =
+    let S : screened_at t f.cut.0 ≡ screened rule t = ap (screened_at t) (e ∙ cut_is rule t) ∙ at_rule_cut rule t in
+    let places_are = held ∙ ap place_table S in
+    let floors_are = floors_are t f.cut.0 w b k floors ∙ ap floors_of S in
     record {
-      cut_is = assigned.cut_is t c comes a ∙ ap (λ S. (outcome_by S (truthful S)).cut) S;
-      margin_is = margin_h ∙ assigned.margin_is t c comes a A ∙ ap (λ S. (outcome_by S (truthful S)).margin) S;
-      left = λ y. record { results = lists y; places = held y; floors = least y };
+      cut_is = c.cut_is;
+      margin_is = c.margin_is;
+      left = λ y. record { results = c.left y; places = places_are y; floors = floors_are y };
     }
+
+pub has_bars :
+    {t : Tables} {c : ℕ} {criticals bounds : List ℕ} → HasBars Truthful t c criticals bounds → Bars t c criticals bounds
+unfolding HasBars
+has_bars b = b
 
 -- ---- the verdict
 
--- the code's verdict, and the definitions'
-abbrev pub Judged : Tables → FullResults → Verdict → Type 0
-Judged t f v = answer_of_verdict v ≡ first_fault (full_table_faults t f)
+lengths_fit :
+    (t : Tables) (f : FullResults) → answer_of_check (Ok t) ≡ first_fault (full_table_faults t f) → FullLengths t f
+unfolding answer_of_check
+lengths_fit t f e =
+    let (market, lists, places, floors) = full_within t f (sym e) in
+    record { lists_fit = lists; places_long = places; floors_long = floors }
 
-is_accepted :
-    (t : Tables) (f : FullResults) → Judged t f verdicts.Accepted → first_fault (full_table_faults t f) ≡ accepted tt
-unfolding answer_of_verdict
-is_accepted t f e = sym e
-
--- the view of an accepted market's bids shows them all
-module _ (asks bays amounts tickets bids : List ℕ) (width : ℕ) (f : FullResults)
-    (e : Judged (tables asks bays amounts tickets bids width) f verdicts.Accepted) {seen : List ℕ}
-    (s : seen ≡ bids_of bids width (length asks)) where
-  abbrev t : Tables
-  t = tables asks bays amounts tickets bids width
-
-  pub no_fault_found : first_fault (full_table_faults t f) ≡ accepted tt
-  no_fault_found = is_accepted t f e
-
-  found : WithinLimits t × FullLengths t f
-  found =
-      let (market, lists, places, floors) = full_within t f no_fault_found in (
-        (accepted_iff_within_limits t).0 market,
-        record { lists_fit = lists; places_long = places; floors_long = floors },
-      )
-
-  pub lent : t ≡ regular asks bays amounts tickets seen
-  lent = width_of asks bays amounts tickets bids width found.0
-      ∙ ap (regular asks bays amounts tickets) (sym (s ∙ bids_shown _ _ _ found.0.shape.width_is))
-
-  pub found_seen :
-      WithinLimits (regular asks bays amounts tickets seen) × FullLengths (regular asks bays amounts tickets seen) f
-  found_seen = subst (λ t. WithinLimits t × FullLengths t f) lent found
+pub lists_fit :
+    (t t' : Tables) (f : FullResults) → answer_of_check (Ok t') ≡ first_fault (full_table_faults t f) → t' ≡ t
+    → FullLengths t' f
+unfolding answer_of_check
+lists_fit t t' f e q = rw q (lengths_fit t f e)
 
 -- ---- the answers of `clear_marked`
 
 pub refused_clears :
-    (rule : Rule) (t : Tables) (f : FullResults) (x : Refusal) → Judged t f (verdicts.Refused x)
-    → ClearsFullyUnder rule t f (clearings.Refused x) f
-unfolding answer_of_verdict answer_of_clearing clearing_fully_under
+    (rule : Rule) (t : Tables) (f : FullResults) (x : Refusal)
+    → answer_of_check {A = Tables} (Err x) ≡ first_fault (full_table_faults t f) → ClearsFullyUnder rule t f (Err x) f
+unfolding answer_of_check answer_of_clearing clearing_fully_under
 refused_clears rule t f x e = keeps_refused (sym e)
 
 pub accepted_clears :
-    (rule : Rule) (t : Tables) {t' : Tables} (f : FullResults) {c m : ℕ} (answer : Clearing) {exit : FullResults}
-    → first_fault (full_table_faults t f) ≡ accepted tt → t ≡ t' → FullyClears rule t' c m exit
-    → answer_of_clearing answer ≡ accepted (c, m) → ClearsFullyUnder rule t f answer exit
-unfolding clearing_fully_under
-accepted_clears rule t f {c} {m} answer {exit} v same s a =
-    let cleared : FullyClears rule t c m exit = subst (λ t. FullyClears rule t c m exit) (sym same) s in
-    rw a (keeps_accepted v (λ x. (cleared.cut_is x, cleared.margin_is x)) cleared.left)
+    (rule : Rule) (t t' : Tables) (f : FullResults) {exit : FullResults} (g : Figures)
+    → answer_of_check (Ok t') ≡ first_fault (full_table_faults t f) → t' ≡ t → FullyClears rule t' g exit
+    → ClearsFullyUnder rule t f (Ok g) exit
+unfolding answer_of_check answer_of_clearing clearing_fully_under
+accepted_clears rule t t' f {exit} g e q s =
+    let c : FullyClears rule t g exit = rw (← q) s in
+    keeps_accepted (sym e) (λ x. (c.cut_is x, c.margin_is x)) c.left
 
-pub unknown_clears :
-    (rule : ℕ) (t : Tables) (f : FullResults) → Unknown ≡ named rule
-    → ClearsFully rule t f (clearings.Refused UnknownRule) f
-unfolding answer_of_clearing clearing_fully marking_faults unknown_rule is_unknown first_fault
-unknown_clears rule t f e = keeps_refused (rw (← e) refl)
+pub unnamed_clears :
+    (rule : ℕ) (t : Tables) (f : FullResults) (x : Refusal) → Err x ≡ named rule → ClearsFully rule t f (Err x) f
+unfolding answer_of_clearing clearing_fully clearing_fully_under marking_faults
+unnamed_clears rule t f x e = keeps_unnamed (λ known. clearing_fully_under known t) rule e
 
-pub known_clears :
-    (rule : ℕ) (known : Rule) (t : Tables) (f : FullResults) (answer : Clearing) {exit : FullResults}
-    → Known known ≡ named rule → ClearsFullyUnder known t f answer exit → ClearsFully rule t f answer exit
-unfolding clearing_fully clearing_fully_under marking_faults unknown_rule is_unknown rule_in first_fault
-known_clears rule known t f answer e c = record { answered = rw (← e) c.answered; left = rw (← e) c.left }
+pub named_clears :
+    (rule : ℕ) (t : Tables) (f : FullResults) {exit : FullResults} {known : Rule} (answer : Result Figures Refusal)
+    → Ok known ≡ named rule → ClearsFullyUnder known t f answer exit → ClearsFully rule t f answer exit
+unfolding clearing_fully clearing_fully_under marking_faults
+named_clears rule t f answer e c = keeps_named (λ known. clearing_fully_under known t) rule e c
 
 -- ---- the mark
 
 -- what is handed in against the truthful round, list by list
 pub compares :
-    (rule : Rule) (t : Tables) (s : Submission) {c m : ℕ} {own : FullResults} → FullyClears rule t c m own
-    → {stations charges sold paid places floors cuts margins : Bool}
-    → stations ≡ same s.lists.results.stations own.results.stations
-    → charges ≡ same s.lists.results.charges own.results.charges
-    → sold ≡ same s.lists.results.sold own.results.sold
-    → paid ≡ same s.lists.results.paid own.results.paid
-    → places ≡ same s.lists.places own.places → floors ≡ same s.lists.floors own.floors
-    → cuts ≡ (s.cut =? c) → margins ≡ (s.margin =? m)
-    → ((((((stations && charges) && sold) && paid) && places) && floors) && cuts) && margins ≡ correct rule t s
+    (rule : Rule) (t : Tables) (s : Submission) (own : Figures) {lists : FullResults} → FullyClears rule t own lists
+    → {stations charges sold paid places floors : Bool}
+    → stations ≡ pointwise eqb s.lists.results.stations lists.results.stations
+    → charges ≡ pointwise eqb s.lists.results.charges lists.results.charges
+    → sold ≡ pointwise eqb s.lists.results.sold lists.results.sold
+    → paid ≡ pointwise eqb s.lists.results.paid lists.results.paid
+    → places ≡ pointwise eqb s.lists.places lists.places → floors ≡ pointwise eqb s.lists.floors lists.floors
+    → (((((((stations && charges) && sold) && paid) && places) && floors) && eqb s.cut own.cut.0)
+    && eqb s.margin own.margin.0) ≡ correct rule t s
 unfolding correct round_of same_submission same_results
-compares rule t s {own = own} h a b d e p f q r =
-    both_are (both_are (both_are (both_are (both_are (both_are (both_are a b) d) e) p) f) q) r
-    ∙ ap₂ (λ x y. same_submission s (submission own x y)) h.cut_is h.margin_is
+compares rule t s own {lists} h a b d e p f =
+    both_are (both_are (both_are (both_are (both_are (both_are (both_are (a ∙ same_is _ _) (b ∙ same_is _ _))
+    (d ∙ same_is _ _)) (e ∙ same_is _ _)) (p ∙ same_is _ _)) (f ∙ same_is _ _)) (eq_is _ _)) (eq_is _ _)
+    ∙ ap₂ (λ x y. same_submission s (submission lists x y)) h.cut_is h.margin_is
     ∙ ap (λ l. same_submission s (submission l (outcome rule t).cut (outcome rule t).margin)) h.left
 
 pub refused_marks :
-    (rule : Rule) (t : Tables) (s : Submission) (x : Refusal) → Judged t s.lists (verdicts.Refused x)
-    → MarksUnder rule t s (markings.Refused x)
-unfolding answer_of_verdict answer_of_marking marking_under
+    (rule : Rule) (t : Tables) (s : Submission) (x : Refusal)
+    → answer_of_check {A = Tables} (Err x) ≡ first_fault (full_table_faults t s.lists) → MarksUnder rule t s (Err x)
+unfolding answer_of_check answer_of_marking marking_under
 refused_marks rule t s x e = keeps_refused (sym e)
 
 pub accepted_marks :
-    (rule : Rule) (t : Tables) {t' : Tables} (s : Submission) {r : Bool}
-    → first_fault (full_table_faults t s.lists) ≡ accepted tt → t ≡ t' → r ≡ correct rule t' s
-    → MarksUnder rule t s (markings.Marked r)
-unfolding answer_of_marking marking_under
-accepted_marks rule t s v same h =
-    keeps_accepted v (ap (λ b. only b 1) (h ∙ ap (λ t. correct rule t s) (sym same))) refl
+    (rule : Rule) (t t' : Tables) (s : Submission) (r : Bool)
+    → answer_of_check (Ok t') ≡ first_fault (full_table_faults t s.lists) → t' ≡ t → r ≡ correct rule t' s
+    → MarksUnder rule t s (Ok r)
+unfolding answer_of_check answer_of_marking marking_under
+accepted_marks rule t t' s r e q h =
+    keeps_accepted (sym e) (ap (λ b. only b 1) (h ∙ ap (λ t. correct rule t s) q)) refl
 
-pub unknown_marks :
-    (rule : ℕ) (t : Tables) (s : Submission) → Unknown ≡ named rule → Marks rule t s (markings.Refused UnknownRule)
-unfolding answer_of_marking marking marking_faults unknown_rule is_unknown first_fault
-unknown_marks rule t s e = keeps_refused (rw (← e) refl)
+pub unnamed_marks : (rule : ℕ) (t : Tables) (s : Submission) (x : Refusal) → Err x ≡ named rule → Marks rule t s (Err x)
+unfolding answer_of_marking marking marking_under marking_faults
+unnamed_marks rule t s x e = keeps_unnamed (λ known. marking_under known t s) rule e
 
-pub known_marks :
-    (rule : ℕ) (known : Rule) (t : Tables) (s : Submission) (answer : Marking) → Known known ≡ named rule
+pub named_marks :
+    (rule : ℕ) (t : Tables) (s : Submission) {known : Rule} (answer : Result Bool Refusal) → Ok known ≡ named rule
     → MarksUnder known t s answer → Marks rule t s answer
-unfolding marking marking_under marking_faults unknown_rule is_unknown rule_in first_fault
-known_marks rule known t s answer e c = record { answered = rw (← e) c.answered; left = refl }
+unfolding marking marking_under marking_faults
+named_marks rule t s answer e c = keeps_named (λ known. marking_under known t s) rule e c

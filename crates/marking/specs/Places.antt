@@ -24,15 +24,15 @@ unfoldable pub row_place : (row : List ℕ) (amount ticket cut : ℕ) (bars boun
 row_place row amount ticket cut bars bounds j =
     place_by (get_or row j 0) amount ticket cut (get_or bars j 0) (get_or bounds (j + 1) 0)
 
--- what a row of places is written from, and room for it from base on
-pub record RowReady (row : List ℕ) (amount : ℕ) (bars bounds : List ℕ) (base : ℕ) (places : List ℕ) : Type 0 where
+-- what a row of places is written from, and room for each
+pub record RowReady (row : List ℕ) (amount : ℕ) (bars bounds places : List ℕ) : Type 0 where
   pub few : length row ≤ max_stations
   pub bids_low : (j : ℕ) → j < length row → get_or row j 0 ≤ max_price
   pub amount_low : amount ≤ max_amount
   pub bars_long : length bars ≡ length row
   pub bars_low : (j : ℕ) → j < length row → get_or bars j 0 ≤ max_total + 1
   pub bounds_long : length bounds ≡ max_stations + 1
-  pub room : base + length row ≤ length places
+  pub places_long : length places ≡ length row
 
 -- bars and tie bounds by which places are held at a cut
 pub record Barred (t : Tables) (c : ℕ) (bars bounds : List ℕ) : Type 0 where

@@ -11,35 +11,25 @@ const PAST_ALL_TOTALS: u32 = 1_000_000_001;
 // A floor is the critical total, which is 0 at a station that is not open.
 pub fn give_floors(criticals: &[u32], floors: &mut [u32])
     requires { length floors.old < length criticals.now }
-    ensures { floors.new
-        ≡ list (length floors.old) (λ j. get_or criticals.now (j + 1) 0) }
+    ensures { floors.new ≡ list (length floors.old) (λ j. get_or criticals.now (j + 1) 0) }
 {
-    let mut j = 0;
-    while j < floors.len() {
-        floors[j] = criticals[j + 1];
-        j += 1;
-    }
+    let m = floors.len();
+    floors.copy_from_slice(&criticals[1..m + 1]);
 }
 
 // What a total is held to: the critical total, and at a station that is not open what no total passes.
+#[tactic(auto, unfolding(crate::specs::Places::bar_by), using(model::proofs::Compared::lt_is))]
 fn bar(ask: UnitPrice, cut: UnitPrice, critical: u32) -> u32
     ensures { result ≡ bar_by ask.0 cut.0 critical }
 {
-    if ask.below(cut) {
-        critical
-    } else {
-        PAST_ALL_TOTALS
-    }
+    if ask < cut { critical } else { PAST_ALL_TOTALS }
 }
 
 pub fn give_bars(asks: &[u32], cut: UnitPrice, criticals: &[u32], bars: &mut [u32])
     requires { (length asks.now < length criticals.now) × (length bars.old ≡ length asks.now) }
-    ensures { bars.new
-        ≡ list (length asks.now) (bar_at asks.now cut.0 criticals.now) }
+    ensures { bars.new ≡ list (length asks.now) (bar_at asks.now cut.0 criticals.now) }
 {
-    let mut j = 0;
-    while j < bars.len() {
-        bars[j] = bar(UnitPrice(asks[j]), cut, criticals[j + 1]);
-        j += 1;
+    for (j, ask) in asks.iter().enumerate() {
+        bars[j] = bar(UnitPrice(*ask), cut, criticals[j + 1]);
     }
 }

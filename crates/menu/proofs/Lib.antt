@@ -1,2 +1,5 @@
-pub mod Answers
-pub mod BestKey
+mod Asked
+mod BestKey
+mod Gained
+mod Gaining
+mod Rivals

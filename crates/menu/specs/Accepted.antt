@@ -1,26 +1,23 @@
 -- What is asked and promised of a price list and of gains under a known rule, and in an accepted market.
-use Rattle.std.specs.Prelude.{ℕ, ◌-◌, ◌/◌, ◌<◌, List, ◌++◌, ◌≡◌, ℤ, get_or, length}
+use Rattle.std.specs.Prelude.{ℕ, ◌-◌, ◌/◌, ◌<◌, List, ◌++◌, ◌≡◌, ℤ, get_or, length, Result}
 use Rattle.model.specs.Numbers.{answer_of_verdict}
 use Rattle.model.specs.Promises.{Promise, Keeps}
 use Rattle.model.specs.market.Market.{Tables}
 use Rattle.model.specs.market.Faults.{market_faults}
 use Rattle.model.specs.market.Menus.{PriceList, price_list_by, gains_from, list_faults, gain_faults}
 use Rattle.model.specs.market.Rules.{position}
-use Rattle.model.specs.claims.Meaning.{WithinLimits}
 use Rattle.model.specs.claims.Menus.{RowsFit}
 use Rattle.model.specs.claims.OtherRows.{RowFits}
-use Rattle.model.specs.declared.answers.Verdict.{Verdict}
+use Rattle.model.specs.declared.refusal.Refusal.{Refusal}
 use Rattle.model.specs.declared.rule.Rule.{Rule}
 
 -- guests count from 0
 pub record Listable (t : Tables) (i : ℕ) (lent : PriceList) : Type 0 where
-  pub within : WithinLimits t
   pub guest_below : i < length t.amounts
   pub bars_long : length lent.bars ≡ length t.asks
   pub prices_long : length lent.prices ≡ length t.asks
 
 pub record Gainable (t : Tables) (i : ℕ) (worths rows : List ℕ) (gains : ℕ) : Type 0 where
-  pub within : WithinLimits t
   pub guest_below : i < length t.amounts
   pub worths_fit : RowFits t worths
   pub rows_fit : RowsFit t rows gains
@@ -35,7 +32,8 @@ listing_under rule t guest entry = record {
 }
 
 abbrev pub ListsUnder :
-    (rule : Rule) (t : Tables) (guest : ℕ) (entry : PriceList) (answer : Verdict) (exit : PriceList) → Type 0
+    (rule : Rule) (t : Tables) (guest : ℕ) (entry : PriceList) (answer : Result Unit Refusal)
+    (exit : PriceList) → Type 0
 ListsUnder rule t guest entry answer exit = Keeps (listing_under rule t guest) entry (answer_of_verdict answer) exit
 
 unfoldable pub gaining_under :
@@ -48,6 +46,6 @@ gaining_under rule t guest worths rows entry = record {
 }
 
 abbrev pub GainsUnder : (rule : Rule) (t : Tables) (guest : ℕ) (worths rows : List ℕ) (entry : List ℤ)
-    (answer : Verdict) (exit : List ℤ) → Type 0
+    (answer : Result Unit Refusal) (exit : List ℤ) → Type 0
 GainsUnder rule t guest worths rows entry answer exit =
     Keeps (gaining_under rule t guest worths rows) entry (answer_of_verdict answer) exit

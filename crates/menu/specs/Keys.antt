@@ -2,10 +2,10 @@
 -- quotient times amount plus rest. Of two bids that reach their bars, total less price is the greater where bid less
 -- quotient is, and at an equal one where the rest is the smaller.
 use Rattle.std.specs.Prelude.{ℕ, ◌+◌, ◌*◌, ◌-◌, ◌/◌, ◌%◌, ◌≤◌, ◌<◌, min}
-use Rattle.std.specs.Prelude.{Bool, List, [], ◌∷◌, ◌≡◌, ℤ, pos, get_or, length}
+use Rattle.std.specs.Prelude.{Bool, List, ◌≡◌, ℤ, pos, get_or, length}
 use Rattle.std.proofs.Math.IntN.{sub_ℕ}
 use Rattle.model.specs.Limits.{max_stations, max_price}
-use Rattle.model.specs.Counting.{◌<?◌, ◌≤?◌, ◌=?◌, ◌and◌, ◌or◌, only, greatest, count, list, joined}
+use Rattle.model.specs.Counting.{◌<?◌, ◌≤?◌, ◌=?◌, ◌and◌, ◌or◌, only, count, list}
 use Rattle.model.specs.market.Menus.{PriceList}
 
 -- station k of rest a goes before station j of rest b at an equal bid less quotient: by the smaller rest, or the lower
@@ -83,24 +83,3 @@ pub record Prepared (L : PriceList) (amount : ℕ) (worths leasts lifts : List �
       ≡ list (length L.prices) (λ j. lift (least_within (get_or L.bars j 0) amount) (get_or L.prices j 0) amount
       (label L.prices amount j))
   pub labelled : Labelled worths L.prices amount (length L.prices) table
-
--- k rows of bids, each with a number for each station to be held to
-pub record Rowed (rows leasts lifts : List ℕ) (table : List ℤ) (k : ℕ) : Type 0 where
-  pub whole : length rows ≡ k * length leasts
-  pub lifts_long : length lifts ≡ length leasts
-  pub table_long : length table ≡ 64
-  pub bids_low : (q : ℕ) → q < length rows → get_or rows q 0 ≤ max_price
-  pub leasts_low : (j : ℕ) → j < length leasts → get_or leasts j 0 ≤ max_price + 1
-  pub lifts_low : (j : ℕ) → j < length leasts → get_or lifts j 0 ≤ max_lift
-  pub reached :
-      (j bid : ℕ) → j < length leasts → bid ≤ max_price → 64 ≤ plain_key (get_or lifts j 0) bid
-      → get_or leasts j 0 ≤ bid
-
--- the greatest key of row r, and the gain that its label leads to
-unfoldable pub top_key : (rows leasts lifts : List ℕ) (r : ℕ) → ℕ
-top_key rows leasts lifts r =
-    greatest (length leasts)
-    (λ j. key_from (get_or leasts j 0) (get_or lifts j 0) (get_or rows (r * length leasts + j) 0))
-
-unfoldable pub row_gains : (rows leasts lifts : List ℕ) (table : List ℤ) (k : ℕ) → List ℤ
-row_gains rows leasts lifts table k = joined k (λ r. get_or table (top_key rows leasts lifts r % 64) (pos 0) ∷ [])

@@ -1,3 +1,5 @@
 pub mod Accepted
+pub mod Holds
 pub mod Keys
 pub mod Listing
+pub mod Offers

@@ -1,23 +1,14 @@
 // The first fault of a call for a price list or for gains, in the order of its table.
-ghost use Rattle.std.specs.Prelude.{◌/◌, ◌%◌, ◌<◌, not, ◌++◌, ◌≡◌, length};
-ghost use Rattle.model.specs.Limits.{max_price};
-ghost use Rattle.model.specs.Counting.{◌<?◌, ◌=?◌, ◌or◌, any};
-ghost use Rattle.model.specs.Numbers.{answer_of_verdict};
+ghost use Rattle.std.specs.Prelude.{◌/◌, ◌%◌, ◌<◌, not, ◌++◌, ◌≡◌, IfOk, length};
+ghost use Rattle.model.specs.Counting.{◌=?◌, ◌or◌};
+ghost use Rattle.model.specs.Numbers.{answer_of_verdict, answer_of_check};
 ghost use Rattle.model.specs.Verdicts.{first_fault};
-ghost use Rattle.model.specs.market.Faults.{outside, market_faults};
+ghost use Rattle.model.specs.market.Faults.{market_faults};
 ghost use Rattle.model.specs.market.Menus.{list_faults, gain_faults};
-ghost use Rattle.model.specs.clauses.Lent.{tables_in};
 
 use checks::{faults, scans};
-use model::answers::Verdict;
-use model::limits::MAX_PRICE;
+use model::lent::{AcceptedMarket, Market};
 use model::refusal::Refusal;
-
-fn no_such_guest(guest: usize, n: usize) -> bool
-    ensures { result ≡ (guest =? 0 or n <? guest) }
-{
-    (guest == 0) | (n < guest)
-}
 
 fn lists_differ(m: usize, bars: usize, prices: usize) -> bool
     ensures { result ≡ (not (bars =? m) or not (prices =? m)) }
@@ -26,37 +17,35 @@ fn lists_differ(m: usize, bars: usize, prices: usize) -> bool
 }
 
 // Of the guest's number and the lent lists, in a market of n guests and m stations.
-fn list_fault(n: usize, m: usize, guest: usize, bars: usize, prices: usize) -> Verdict
+fn list_fault(n: usize, m: usize, guest: usize, bars: usize, prices: usize) -> Result<(), Refusal>
     ensures { answer_of_verdict result ≡ first_fault (list_faults n m guest bars prices) }
 {
-    if no_such_guest(guest, n) {
-        return Verdict::Refused(Refusal::NoSuchGuest);
+    if faults::no_such_guest(guest, n) {
+        return Err(Refusal::NoSuchGuest);
     }
     if lists_differ(m, bars, prices) {
-        return Verdict::Refused(Refusal::LentLengths);
+        return Err(Refusal::LentLengths);
     }
-    Verdict::Accepted
+    Ok(())
 }
 
-// The market's own come first.
-pub fn listing_fault(
-    asks: &[u32],
-    bays: &[u16],
-    amounts: &[u16],
-    tickets: &[u32],
-    bids: &[u32],
-    width: usize,
+// A market in which a guest's price list can be told. The market's own faults come first.
+pub fn accept_listing<'a>(
+    market: &Market<'a>,
     guest: usize,
     bars: usize,
     prices: usize,
-) -> Verdict
-    ensures { answer_of_verdict result ≡ first_fault (market_faults (tables_in asks bays amounts tickets bids width)
-        ++ list_faults (length amounts.now) (length asks.now) guest bars prices) }
+) -> Result<AcceptedMarket<'a>, Refusal>
+    ensures fault { let t = market.now in
+        answer_of_check result ≡ first_fault (market_faults t
+        ++ list_faults (length t.amounts) (length t.asks) guest bars prices) }
+    ensures same { IfOk result (λ t. t ≡ market.now) }
 {
-    match faults::market_fault(asks, bays, amounts, tickets, bids, width) {
-        Verdict::Refused(refusal) => Verdict::Refused(refusal),
-        Verdict::Accepted => list_fault(amounts.len(), asks.len(), guest, bars, prices),
-    }
+    let accepted = faults::accept(market)?;
+    let amounts = accepted.amounts;
+    let asks = accepted.asks;
+    list_fault(amounts.len(), asks.len(), guest, bars, prices)?;
+    Ok(accepted)
 }
 
 // Worths of another length, or a row that is not whole.
@@ -67,13 +56,6 @@ fn rows_differ(m: usize, worths: usize, rows: usize) -> bool
     (worths != m) | (rows % m != 0)
 }
 
-fn prices_out_of_range(worths: &[u32], rows: &[u32]) -> bool
-    ensures { result ≡ (any worths.now (outside 0 max_price)
-        or any rows.now (outside 0 max_price)) }
-{
-    scans::any_outside32(worths, 0, MAX_PRICE) | scans::any_outside32(rows, 0, MAX_PRICE)
-}
-
 // Of the guest's number, worths and rows, with so many places for gains.
 fn gain_fault(
     n: usize,
@@ -82,45 +64,42 @@ fn gain_fault(
     worths: &[u32],
     rows: &[u32],
     gains: usize,
-) -> Verdict
+) -> Result<(), Refusal>
     requires { 0 < m }
     ensures { answer_of_verdict result
         ≡ first_fault (gain_faults n m guest worths.now rows.now gains) }
 {
-    if no_such_guest(guest, n) {
-        return Verdict::Refused(Refusal::NoSuchGuest);
+    if faults::no_such_guest(guest, n) {
+        return Err(Refusal::NoSuchGuest);
     }
     if rows_differ(m, worths.len(), rows.len()) {
-        return Verdict::Refused(Refusal::LengthsDiffer);
+        return Err(Refusal::LengthsDiffer);
     }
     if gains != rows.len() / m {
-        return Verdict::Refused(Refusal::LentLengths);
+        return Err(Refusal::LentLengths);
     }
-    if prices_out_of_range(worths, rows) {
-        return Verdict::Refused(Refusal::BidOutOfRange);
+    if scans::prices_out_of_range(worths, rows) {
+        return Err(Refusal::BidOutOfRange);
     }
-    Verdict::Accepted
+    Ok(())
 }
 
-// The market's own come first.
-pub fn gaining_fault(
-    asks: &[u32],
-    bays: &[u16],
-    amounts: &[u16],
-    tickets: &[u32],
-    bids: &[u32],
-    width: usize,
+// A market in which a guest's rows can be held to its price list. The market's own faults come first.
+pub fn accept_gaining<'a>(
+    market: &Market<'a>,
     guest: usize,
     worths: &[u32],
     rows: &[u32],
     gains: usize,
-) -> Verdict
-    ensures { answer_of_verdict result ≡ first_fault (market_faults (tables_in asks bays amounts tickets bids width)
-        ++ gain_faults (length amounts.now) (length asks.now) guest worths.now
-        rows.now gains) }
+) -> Result<AcceptedMarket<'a>, Refusal>
+    ensures fault { let t = market.now in
+        answer_of_check result ≡ first_fault (market_faults t
+        ++ gain_faults (length t.amounts) (length t.asks) guest worths.now rows.now gains) }
+    ensures same { IfOk result (λ t. t ≡ market.now) }
 {
-    match faults::market_fault(asks, bays, amounts, tickets, bids, width) {
-        Verdict::Refused(refusal) => Verdict::Refused(refusal),
-        Verdict::Accepted => gain_fault(amounts.len(), asks.len(), guest, worths, rows, gains),
-    }
+    let accepted = faults::accept(market)?;
+    let amounts = accepted.amounts;
+    let asks = accepted.asks;
+    gain_fault(amounts.len(), asks.len(), guest, worths, rows, gains)?;
+    Ok(accepted)
 }

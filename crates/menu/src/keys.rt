@@ -2,10 +2,12 @@
 ghost use Rattle.std.specs.Prelude.{ℕ, ◌+◌, ◌/◌, ◌%◌, ◌<◌, ◌≤◌, ◌≡◌, length, get_or};
 ghost use Rattle.model.specs.Limits.{max_stations, max_price};
 ghost use Rattle.model.specs.Counting.{◌≤?◌, only, greatest, list};
-ghost use Rattle.menu.specs.Keys.{rest_before, label_by, least_within, lift as liftOf, max_lift, plain_key, key_from};
+ghost use Rattle.menu.specs.Keys.{rest_before, label_by, least_within, lift as liftOf, plain_key, key_from};
+ghost use Rattle.menu.specs.Holds.{Holds, HoldsRows, Row, row_key};
 
 use allocation::signed;
 use model::limits::MAX_PRICE;
+use std::marker::Model;
 
 // 64 times the greatest bid.
 const HIGHEST: u32 = 64 * MAX_PRICE;
@@ -22,10 +24,8 @@ pub fn fill_rests(prices: &[u32], amount: u32, rests: &mut [u32])
     ensures { rests.new
         ≡ list (length prices.now) (λ j. get_or prices.now j 0 % amount) }
 {
-    let mut j = 0;
-    while j < prices.len() {
-        rests[j] = prices[j] % amount;
-        j += 1;
+    for (j, price) in prices.iter().enumerate() {
+        rests[j] = *price % amount;
     }
 }
 
@@ -36,12 +36,10 @@ fn label(rests: &[u32], j: usize) -> u32
 {
     let own = rests[j];
     let mut n: u32 = 0;
-    let mut k = 0;
-    while k < rests.len() {
-        if goes_before(own, rests[k], j, k) {
+    for (k, rest) in rests.iter().enumerate() {
+        if goes_before(own, *rest, j, k) {
             n += 1;
         }
-        k += 1;
     }
     n + 1
 }
@@ -51,25 +49,17 @@ pub fn fill_labels(rests: &[u32], labels: &mut [u32])
     requires { (length labels.old ≡ length rests.now) × (length rests.now ≤ max_stations) }
     ensures { labels.new ≡ list (length rests.now) (label_by rests.now) }
 {
-    let mut j = 0;
-    while j < rests.len() {
-        labels[j] = label(rests, j);
-        j += 1;
+    for (j, place) in labels.iter_mut().enumerate() {
+        *place = label(rests, j);
     }
 }
 
-// The least bid whose total reaches a bar, or one above every bid. The sum may need more than 32 bits.
+// The least bid whose total reaches a bar, or one above every bid.
 pub fn least_bid(bar: u32, amount: u32) -> u32
     requires { 0 < amount }
     ensures { result ≡ least_within bar amount }
 {
-    let wide = amount as u64;
-    let x = (bar as u64 + (wide - 1)) / wide;
-    if x <= MAX_PRICE as u64 {
-        x as u32
-    } else {
-        MAX_PRICE + 1
-    }
+    bar.div_ceil(amount).min(MAX_PRICE + 1)
 }
 
 // What is added to 64 times the bid: 64 times what the greatest bid is above the price's quotient, and the label;
@@ -79,29 +69,10 @@ pub fn lift(least: u32, price: u32, amount: u32, label: u32) -> u32
     ensures { result ≡ liftOf least price amount label }
 {
     if least <= MAX_PRICE {
-        let q = price / amount;
-        64 * (MAX_PRICE - q) + label
+        64 * (MAX_PRICE - price / amount) + label
     } else {
         0
     }
-}
-
-// The greatest key of a row, or a greater number below 64, since no bid is held to its least. No sum goes below 0, so
-// that the loop has no test.
-fn plain_top(rows: &[u32], start: usize, lifts: &[u32]) -> u32
-    requires lifts_in_bounds { start + length lifts.now ≤ length rows.now }
-    requires by_index { (j : ℕ) → j < length lifts.now → (get_or rows.now (start + j) 0 ≤ max_price)
-        × (get_or lifts.now j 0 ≤ max_lift) }
-    ensures { result ≡ greatest (length lifts.now) (λ j. plain_key (get_or lifts.now j 0)
-        (get_or rows.now (start + j) 0)) }
-{
-    let mut top: u32 = HIGHEST;
-    let mut j = 0;
-    while j < lifts.len() {
-        top = signed::larger(top, 64 * rows[start + j] + lifts[j]);
-        j += 1;
-    }
-    top - HIGHEST
 }
 
 // Nothing where the bid is below its least.
@@ -112,39 +83,64 @@ fn held(bid: u32, least: u32, sum: u32) -> u32
     if signed::below(bid, least) { 0 } else { sum }
 }
 
-fn exact_top(rows: &[u32], start: usize, leasts: &[u32], lifts: &[u32]) -> u32
-    requires lifts_len { (length lifts.now ≡ length leasts.now) × (start + length leasts.now ≤ length rows.now) }
-    requires by_index { (j : ℕ) → j < length leasts.now → (get_or rows.now (start + j) 0 ≤ max_price)
-        × (get_or leasts.now j 0 ≤ max_price + 1) × (get_or lifts.now j 0 ≤ max_lift) }
-    ensures { result ≡ greatest (length leasts.now) (λ j. key_from (get_or leasts.now j 0)
-        (get_or lifts.now j 0) (get_or rows.now (start + j) 0)) }
-{
-    let mut top: u32 = HIGHEST;
-    let mut j = 0;
-    while j < leasts.len() {
-        let bid = rows[start + j];
-        let sum = 64 * bid + lifts[j];
-        top = signed::larger(top, held(bid, leasts[j], sum));
-        j += 1;
-    }
-    top - HIGHEST
+// What the bids of a row are held to, station by station: the least bid, and the lift.
+#[derive(Drop)]
+pub struct RowKeys<'a> {
+    pub leasts: &'a [u32],
+    pub lifts: &'a [u32],
 }
 
-// The greatest key of a row whose bids stand from start on. From 64 on a plain key is one of a bid above its price's
-// quotient, which comes to the bar: only below it, at a bid of the quotient itself, is the least asked.
-pub fn top_key(rows: &[u32], start: usize, leasts: &[u32], lifts: &[u32]) -> u32
-    requires lifts_len { (length lifts.now ≡ length leasts.now) × (start + length leasts.now ≤ length rows.now) }
-    requires by_index { (j : ℕ) → j < length leasts.now → (get_or rows.now (start + j) 0 ≤ max_price)
-        × (get_or leasts.now j 0 ≤ max_price + 1) × (get_or lifts.now j 0 ≤ max_lift)
-        × (64 ≤ plain_key (get_or lifts.now j 0) (get_or rows.now (start + j) 0)
-        → get_or leasts.now j 0 ≤ get_or rows.now (start + j) 0) }
-    ensures { result ≡ greatest (length leasts.now) (λ j. key_from (get_or leasts.now j 0)
-        (get_or lifts.now j 0) (get_or rows.now (start + j) 0)) }
-{
-    let top = plain_top(rows, start, lifts);
-    if (0 < top) & (top < 64) {
-        exact_top(rows, start, leasts, lifts)
-    } else {
-        top
+impl<'a> Model for RowKeys<'a> {
+    ghost Value = { Holds };
+
+    ghost view = { λ h. record { leasts = h.leasts.now; lifts = h.lifts.now } };
+
+    ghost invariant = { λ h. HoldsRows (record { leasts = h.leasts.now; lifts = h.lifts.now }) };
+}
+
+impl RowKeys<'_> {
+    // The greatest key of a row, or a greater number below 64, since no bid is held to its least. No sum goes below 0,
+    // and nothing leaves the loop before its end.
+    fn plain_top(&self, row: &[u32]) -> u32
+        requires { Row self.now row.now }
+        ensures top { result
+            ≡ greatest (length row.now) (λ j. plain_key (get_or self.now.lifts j 0) (get_or row.now j 0)) }
+        ensures holds { HoldsRows self.now }
+    {
+        let lifts = self.lifts;
+        let mut top: u32 = HIGHEST;
+        for (j, bid) in row.iter().enumerate() {
+            top = signed::larger(top, 64 * *bid + lifts[j]);
+        }
+        top - HIGHEST
+    }
+
+    // With each bid held to its least.
+    fn exact_top(&self, row: &[u32]) -> u32
+        requires { Row self.now row.now }
+        ensures { result ≡ greatest (length row.now) (row_key self.now row.now) }
+    {
+        let leasts = self.leasts;
+        let lifts = self.lifts;
+        let mut top: u32 = HIGHEST;
+        for (j, bid) in row.iter().enumerate() {
+            let sum = 64 * *bid + lifts[j];
+            top = signed::larger(top, held(*bid, leasts[j], sum));
+        }
+        top - HIGHEST
+    }
+
+    // The greatest key of a row. From 64 on a plain key is one of a bid above its price's quotient, which comes to the
+    // bar: only below it, at a bid of the quotient itself, is the least asked.
+    pub fn top_key(&self, row: &[u32]) -> u32
+        requires { Row self.now row.now }
+        ensures { result ≡ greatest (length row.now) (row_key self.now row.now) }
+    {
+        let top = self.plain_top(row);
+        if (0 < top) & (top < 64) {
+            self.exact_top(row)
+        } else {
+            top
+        }
     }
 }

@@ -3,26 +3,25 @@
 ghost use Rattle.std.specs.Prelude.{◌+◌, ◌<◌, ◌≤◌, max, ◌≡◌, length};
 ghost use Rattle.model.specs.Limits.{max_price};
 ghost use Rattle.model.specs.Counting.{only, list};
-ghost use Rattle.model.specs.clauses.Lent.{regular_of, regular_in};
-ghost use Rattle.model.specs.claims.Meaning.{WithinLimits};
 ghost use Rattle.allocation.specs.Totals.{max_total};
 ghost use Rattle.menu.specs.Listing.{bar_at, price_at, Stated};
 
-use allocation::{selection, signed, ties, totals};
+use allocation::{selection, ties, totals};
+use model::lent::AcceptedMarket;
 use model::money::{Mills, UnitPrice};
 
-// What a station is to a guest.
+// What a station is to a guest, as the lent lists hold it.
 #[derive(Clone, Copy)]
-pub struct Entry {
-    pub bar: u32,
-    pub price: u32,
+struct Entry {
+    bar: u32,
+    price: u32,
 }
 
 // 1 for whoever loses a tie, and else nothing.
 fn one_if(loses: bool) -> Mills
     ensures { result.0 ≡ only loses 1 }
 {
-    if loses { Mills(1) } else { Mills(0) }
+    Mills(u64::from(loses))
 }
 
 // The larger of the least charge and the critical total, and the same with one more for whoever loses a tie.
@@ -31,59 +30,57 @@ fn entry_of(least: Mills, critical: Mills, loses: bool) -> Entry
     ensures { (result.bar ≡ max least.0 (critical.0 + only loses 1))
         × (result.price ≡ max least.0 critical.0) }
 {
-    let bar = signed::larger_small(least, critical.plus(one_if(loses))).narrow();
-    let price = signed::larger_small(least, critical).narrow();
-    Entry { bar, price }
+    Entry {
+        bar: least.max(critical + one_if(loses)).narrow(),
+        price: least.max(critical).narrow(),
+    }
 }
 
-// Guest i's entry for the open station j of m, with room for the totals.
+// Guest i's entry for the open station j, with room for the totals.
 fn open_station(
-    asks: &[u32],
-    bays: &[u16],
-    amounts: &[u16],
-    tickets: &[u32],
-    bids: &[u32],
+    market: &AcceptedMarket<'_>,
     cut: UnitPrice,
     i: usize,
     j: usize,
     totals: &mut [u32],
 ) -> Entry
-    requires within_limits { WithinLimits (regular_of asks bays amounts tickets bids) }
-    requires stated { Stated (regular_of asks bays amounts tickets bids) cut.0 i j totals.old }
-    ensures { let t = regular_in asks bays amounts tickets bids in
-        (result.bar ≡ bar_at t cut.0 i j) × (result.price ≡ price_at t cut.0 i j) }
+    requires { Stated market.now cut.0 i j totals.old }
+    ensures { (result.bar ≡ bar_at market.now cut.0 i j) × (result.price ≡ price_at market.now cut.0 i j) }
 {
-    let top = totals::gather(bids, amounts, asks.len(), j, cut, totals);
+    let bays = market.bays;
+    let tickets = market.tickets;
+    let amounts = market.amounts;
+    let top = totals::gather(
+        market.bids,
+        market.amounts,
+        market.asks.len(),
+        j,
+        cut,
+        totals,
+    );
     totals[i] = 0;
-    let b = (bays[j] as u32) - 1;
+    let b = u32::from(bays[j]) - 1;
     let critical = selection::critical_total(totals, top, b);
     let tied = ties::count_ties(totals, tickets, critical.total, tickets[i]);
     let loses = b < critical.above + tied;
-    let least = cut.times(amounts[i] as u32);
-    entry_of(least, critical.total, loses)
+    entry_of(cut.times(u32::from(amounts[i])), critical.total, loses)
 }
 
-// Guest i's entry for station j of m: none where it is not open.
+// Guest i's entry for station j. A station that is not open has a bar that no total reaches.
 fn station(
-    asks: &[u32],
-    bays: &[u16],
-    amounts: &[u16],
-    tickets: &[u32],
-    bids: &[u32],
+    market: &AcceptedMarket<'_>,
     cut: UnitPrice,
     i: usize,
     j: usize,
     totals: &mut [u32],
 ) -> Entry
-    requires within_limits { WithinLimits (regular_of asks bays amounts tickets bids) }
-    requires cut_le_max_price { (cut.0 ≤ max_price) × (i < length amounts.now) × (j < length asks.now)
-        × (length totals.old ≡ length amounts.now) }
-    ensures { let t = regular_in asks bays amounts tickets bids in
-        (result.bar ≡ bar_at t cut.0 i j) × (result.price ≡ price_at t cut.0 i j) }
+    requires { (cut.0 ≤ max_price) × (i < length market.now.amounts) × (j < length market.now.asks)
+        × (length totals.old ≡ length market.now.amounts) }
+    ensures { (result.bar ≡ bar_at market.now cut.0 i j) × (result.price ≡ price_at market.now cut.0 i j) }
 {
-    let ask = asks[j];
-    if UnitPrice(ask).below(cut) {
-        open_station(asks, bays, amounts, tickets, bids, cut, i, j, totals)
+    let asks = market.asks;
+    if UnitPrice(asks[j]) < cut {
+        open_station(market, cut, i, j, totals)
     } else {
         Entry {
             bar: u32::MAX,
@@ -94,30 +91,23 @@ fn station(
 
 // Guest i's price list at a cut.
 pub fn list_stations(
-    asks: &[u32],
-    bays: &[u16],
-    amounts: &[u16],
-    tickets: &[u32],
-    bids: &[u32],
+    market: &AcceptedMarket<'_>,
     cut: UnitPrice,
     i: usize,
     totals: &mut [u32],
     bars: &mut [u32],
     prices: &mut [u32],
 )
-    requires within_limits { WithinLimits (regular_of asks bays amounts tickets bids) }
-    requires cut_le_max_price { (cut.0 ≤ max_price) × (i < length amounts.now)
-        × (length totals.old ≡ length amounts.now) × (length bars.old ≡ length asks.now)
-        × (length prices.old ≡ length asks.now) }
-    ensures { let t = regular_in asks bays amounts tickets bids in
+    requires { let t = market.now in (cut.0 ≤ max_price) × (i < length t.amounts)
+        × (length totals.old ≡ length t.amounts) × (length bars.old ≡ length t.asks)
+        × (length prices.old ≡ length t.asks) }
+    ensures { let t = market.now in
         (bars.new ≡ list (length t.asks) (bar_at t cut.0 i))
         × (prices.new ≡ list (length t.asks) (price_at t cut.0 i)) }
 {
-    let mut j = 0;
-    while j < asks.len() {
-        let e = station(asks, bays, amounts, tickets, bids, cut, i, j, totals);
-        bars[j] = e.bar;
-        prices[j] = e.price;
-        j += 1;
+    for j in 0..market.asks.len() {
+        let entry = station(market, cut, i, j, totals);
+        bars[j] = entry.bar;
+        prices[j] = entry.price;
     }
 }

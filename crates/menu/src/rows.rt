@@ -4,107 +4,105 @@ ghost use Rattle.std.proofs.Math.IntN.{sub_ℕ};
 ghost use Rattle.model.specs.Limits.{max_price};
 ghost use Rattle.model.specs.Counting.{list};
 ghost use Rattle.model.specs.market.Menus.{price_list, gains_from};
-ghost use Rattle.menu.specs.Keys.{label, Priced, Prepared, Rowed, row_gains};
+ghost use Rattle.menu.specs.Keys.{label, Prepared};
+ghost use Rattle.menu.specs.Holds.{Rowed, row_gains};
+ghost use Rattle.menu.specs.Offers.{Offers as OffersOf, Offered};
 
 use crate::keys;
+use crate::keys::RowKeys;
+use model::limits::MAX_STATIONS;
 use model::money::UnitPrice;
+use std::marker::Model;
 
-// The gain at a station by the worth there.
+// The labels are below 64.
+const LABELS: usize = 64;
+
+// A guest's price list, amount and worths.
+#[derive(Drop)]
+pub struct Offers<'a> {
+    pub bars: &'a [u32],
+    pub prices: &'a [u32],
+    pub amount: u16,
+    pub worths: &'a [u32],
+}
+
+impl<'a> Model for Offers<'a> {
+    ghost Value = { OffersOf };
+
+    ghost view = { λ o.
+        record { list = price_list o.bars.now o.prices.now; amount = o.amount; worths = o.worths.now } };
+
+    ghost invariant = { λ o.
+        Offered (record { list = price_list o.bars.now o.prices.now; amount = o.amount; worths = o.worths.now }) };
+}
+
+// The gain at a station by the worth there. Both terms are below 2 to the 48th, so that the difference fits.
 fn gain(worth: u32, amount: u16, price: u32) -> i64
     ensures { result ≡ sub_ℕ (worth * amount) price }
 {
-    let whole = UnitPrice(worth).times(amount as u32);
-    whole.0 as i64 - price as i64
+    UnitPrice(worth).times(u32::from(amount)).0 as i64 - i64::from(price)
 }
 
-// For each station its least bid and lift; for each label the gain there, and 0 for none. The lifts stand where the
-// labels stood.
-fn prepare_labelled(
-    bars: &[u32],
-    prices: &[u32],
-    amount: u16,
-    worths: &[u32],
-    leasts: &mut [u32],
-    lifts: &mut [u32],
-    table: &mut [i64],
-)
-    requires priced { Priced (price_list bars.now prices.now) amount }
-    requires worths_len { (length worths.now ≡ length prices.now) × (length leasts.old ≡ length prices.now)
-        × (lifts.old ≡ list (length prices.now) (label prices.now amount)) × (table.old ≡ replicate 64 (pos 0)) }
-    ensures { Prepared (price_list bars.now prices.now) amount worths.now
-        leasts.new lifts.new table.new }
+// The gain of each row, by the gain that its greatest key's label leads to.
+fn fill(rows: &[u32], row_keys: &RowKeys<'_>, table: &[i64], gains: &mut [i64])
+    requires { Rowed rows.now row_keys.now table.now (length gains.old) }
+    ensures { gains.new ≡ row_gains rows.now row_keys.now table.now (length gains.old) }
 {
-    let mut j = 0;
-    while j < prices.len() {
-        let price = prices[j];
-        let label = lifts[j];
-        let least = keys::least_bid(bars[j], amount as u32);
-        leasts[j] = least;
-        lifts[j] = keys::lift(least, price, amount as u32, label);
-        table[label as usize] = gain(worths[j], amount, price);
-        j += 1;
+    let m = row_keys.leasts.len();
+    for (r, gain) in gains.iter_mut().enumerate() {
+        let top = row_keys.top_key(&rows[r * m..r * m + m]);
+        *gain = table[(top % 64) as usize];
     }
 }
 
-// The rests are needed for the labels alone, and stand where the least bids will.
-fn prepare(
-    bars: &[u32],
-    prices: &[u32],
-    amount: u16,
-    worths: &[u32],
-    leasts: &mut [u32],
-    lifts: &mut [u32],
-    table: &mut [i64],
-)
-    requires priced { Priced (price_list bars.now prices.now) amount }
-    requires worths_len { (length worths.now ≡ length prices.now) × (length leasts.old ≡ length prices.now)
-        × (length lifts.old ≡ length prices.now) × (table.old ≡ replicate 64 (pos 0)) }
-    ensures { Prepared (price_list bars.now prices.now) amount worths.now
-        leasts.new lifts.new table.new }
-{
-    keys::fill_rests(prices, amount as u32, leasts);
-    keys::fill_labels(leasts, lifts);
-    prepare_labelled(bars, prices, amount, worths, leasts, lifts, table);
-}
-
-// Each row's gain, by what was prepared for a list of m stations.
-fn fill(rows: &[u32], leasts: &[u32], lifts: &[u32], table: &[i64], gains: &mut [i64])
-    requires { Rowed rows.now leasts.now lifts.now table.now (length gains.old) }
-    ensures { gains.new
-        ≡ row_gains rows.now leasts.now lifts.now table.now
-        (length gains.old) }
-{
-    let m = leasts.len();
-    let mut r = 0;
-    while r < gains.len() {
-        let top = keys::top_key(rows, r * m, leasts, lifts);
-        gains[r] = table[(top % 64) as usize];
-        r += 1;
+impl Offers<'_> {
+    // For each station its least bid and lift; for each label the gain there, and 0 for none. The lifts stand where the
+    // labels stood.
+    fn prepare_labelled(&self, leasts: &mut [u32], lifts: &mut [u32], table: &mut [i64])
+        requires { let m = length self.now.list.prices in (length leasts.old ≡ m)
+            × (lifts.old ≡ list m (label self.now.list.prices self.now.amount)) × (table.old ≡ replicate 64 (pos 0)) }
+        ensures { Prepared self.now.list self.now.amount self.now.worths leasts.new lifts.new table.new }
+    {
+        let bars = self.bars;
+        let prices = self.prices;
+        let worths = self.worths;
+        let amount = self.amount;
+        let kwh = u32::from(amount);
+        for j in 0..prices.len() {
+            let label = lifts[j];
+            let least = keys::least_bid(bars[j], kwh);
+            leasts[j] = least;
+            lifts[j] = keys::lift(least, prices[j], kwh, label);
+            table[label as usize] = gain(worths[j], amount, prices[j]);
+        }
     }
-}
 
-// As many rows as there are places for gains, with room for each station's least bid and lift, and for the gain that
-// each label leads to.
-pub fn gain_rows(
-    bars: &[u32],
-    prices: &[u32],
-    amount: u16,
-    worths: &[u32],
-    rows: &[u32],
-    leasts: &mut [u32],
-    lifts: &mut [u32],
-    table: &mut [i64],
-    gains: &mut [i64],
-)
-    requires priced { Priced (price_list bars.now prices.now) amount }
-    requires worths_len { (length worths.now ≡ length prices.now) × (length leasts.old ≡ length prices.now)
-        × (length lifts.old ≡ length prices.now) × (table.old ≡ replicate 64 (pos 0)) }
-    requires rows_len { (length rows.now ≡ length gains.old * length prices.now)
-        × ((q : ℕ) → q < length rows.now → get_or rows.now q 0 ≤ max_price) }
-    ensures { gains.new
-        ≡ gains_from (price_list bars.now prices.now) amount worths.now
-        (length prices.now) rows.now (length gains.old) }
-{
-    prepare(bars, prices, amount, worths, leasts, lifts, table);
-    fill(rows, leasts, lifts, table, gains);
+    // The rests are needed for the labels alone, and stand where the least bids will.
+    fn prepare(&self, leasts: &mut [u32], lifts: &mut [u32], table: &mut [i64])
+        requires { let m = length self.now.list.prices in (length leasts.old ≡ m) × (length lifts.old ≡ m)
+            × (table.old ≡ replicate 64 (pos 0)) }
+        ensures { Prepared self.now.list self.now.amount self.now.worths leasts.new lifts.new table.new }
+    {
+        keys::fill_rests(self.prices, u32::from(self.amount), leasts);
+        keys::fill_labels(leasts, lifts);
+        self.prepare_labelled(leasts, lifts, table);
+    }
+
+    // As many rows as there are places for gains.
+    pub fn gain_rows(&self, rows: &[u32], gains: &mut [i64])
+        requires { (length rows.now ≡ length gains.old * length self.now.list.prices)
+            × ((q : ℕ) → q < length rows.now → get_or rows.now q 0 ≤ max_price) }
+        ensures { let o = self.now in
+            gains.new ≡ gains_from o.list o.amount o.worths (length o.list.prices) rows.now (length gains.old) }
+    {
+        let m = self.prices.len();
+        let mut leasts = [0u32; MAX_STATIONS];
+        let mut lifts = [0u32; MAX_STATIONS];
+        let mut table = [0i64; LABELS];
+        let leasts = &mut leasts[..m];
+        let lifts = &mut lifts[..m];
+        self.prepare(leasts, lifts, &mut table);
+        let row_keys = RowKeys { leasts, lifts };
+        fill(rows, &row_keys, &table, gains);
+    }
 }

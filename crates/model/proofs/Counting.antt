@@ -345,7 +345,3 @@ list_suc : (n : ℕ) (f : ℕ → ℕ) → list (suc n) f ≡ list n f ++ (f n �
 unfolding list
 list_suc zero f = refl
 list_suc (suc n) f = ap (λ l. f 0 ∷ l) (list_suc n (λ k. f (suc k)))
-
--- a step of a loop that fills, in the code's j + 1
-pub list_step : (j : ℕ) (f : ℕ → ℕ) → list (j + 1) f ≡ list j f ++ (f j ∷ [])
-list_step j f = rw add-one (list_suc j f)

@@ -1,8 +1,13 @@
+pub mod ByNumber
+pub mod Compared
 pub mod Counting
 pub mod Differences
+pub mod Greater
 pub mod Loops
+pub mod Naming
 pub mod Passing
 pub mod Promises
+pub mod Scans
 pub mod Singles
 pub mod Tables
 pub mod Tests

@@ -1,5 +1,5 @@
 -- Laws for loops: one turn and the end of a loop that counts, sums, takes the greatest, scans or stores.
-use Prim.Native.Nat.{ℕ, ◌+◌, ◌*◌, ◌≤◌, ◌<◌, max, min}
+use Prim.Native.Nat.{ℕ, ◌+◌, ◌*◌, ◌≤◌, ◌<◌, max}
 use mathlib.Core.Bool.{Bool, true, false, ◌||◌, ◌&&◌}
 use mathlib.Core.List.{List}
 use mathlib.Core.Logic.{◌⊎◌, ⊎_elim}
@@ -11,10 +11,9 @@ use lib.Dec.{ltb}
 use lib.ListN.{get_or, length, set, length-set, take, replicate, length-take, length-replicate, get_or-replicate}
 use lib.Seq.{get_or-set_same, get_or-set_other, ext_get_or, get_or-take}
 use borrow.Author.Count.{below_none, below_more}
-use borrow.Author.Tests.{lt-ltb}
-use Rattle.model.specs.Counting.{◌<?◌, ◌or◌, sum, greatest, count, some, any, list}
+use Rattle.model.specs.Counting.{◌<?◌, ◌or◌, sum, greatest, count, some, list}
 use Rattle.model.specs.market.Faults.{outside}
-use Rattle.model.proofs.Tests.{clash, lt_or_le}
+use Rattle.model.proofs.Tests.{clash}
 use Rattle.model.proofs.Counting.{sum_most, count_yes, count_not, count_start, count_most, greatest_le}
 use Rattle.model.proofs.Counting.{length_list, get_d_list, list_cong}
 
@@ -107,12 +106,6 @@ pub some_turn :
     {n i : ℕ} {f : ℕ → Bool} {b c : Bool} → Folded some n f b i → i < n → c ≡ f i → Folded some n f (b || c) (i + 1)
 some_turn {i = i} {f} {b} {c} h l e = folded_turn h l (scan_turn f i b c h.so_far e)
 
-pub any_end :
-    (xs : List ℕ) (f : ℕ → Bool) {i : ℕ} {b : Bool}
-    → Folded some (length xs) (λ k. f (get_or xs k 0)) b i → length xs ≤ i → b ≡ any xs f
-unfolding any
-any_end xs f h r = folded_end h r
-
 -- the code's test of a number is the limits' one
 pub outside_is : (low high x : ℕ) → (ltb x low || ltb high x) ≡ outside low high x
 unfolding outside ◌<?◌
@@ -195,17 +188,3 @@ in_table n m i j hi hj = omega (arith, mul-le-mul_right m hi)
 pub passes_both : (a b : Bool) → (a && b) ≡ true → (a ≡ true) × (b ≡ true)
 passes_both true b e = (refl, e)
 passes_both false b e = absurd (clash e refl)
-
--- where a loop that goes on below n and below m ends
-pub ends_least :
-    (n m j : ℕ) → j ≤ n → j ≤ m → (ltb j n && ltb j m) ≡ false → j ≡ min n m
-ends_least n m j a b e = ⊎_elim
-    (λ (q : n < m). ⊎_elim
-    (λ (h : j < n). absurd (clash (ap₂ ◌&&◌ (lt-ltb j n h) (lt-ltb j m (omega arith))) e))
-    (λ (h : n ≤ j). omega arith)
-    (lt_or_le j n))
-    (λ (q : m ≤ n). ⊎_elim
-    (λ (h : j < m). absurd (clash (ap₂ ◌&&◌ (lt-ltb j n (omega arith)) (lt-ltb j m h)) e))
-    (λ (h : m ≤ j). omega arith)
-    (lt_or_le j m))
-    (lt_or_le n m)

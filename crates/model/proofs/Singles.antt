@@ -7,7 +7,7 @@ use native.Mathlib.Nat.{eq-or-lt_of_le, not-suc-le-zero, le_of_suc-le-suc}
 use native.Mathlib.Omega.{arith}
 use lib.ListN.{get_or, length, set, length-append, length-set, get_or-append}
 use lib.Seq.{get_or-append-add, get_or-set_same, get_or-set_other, ext_get_or}
-use borrow.Author.Count.{below_none, below_more}
+use borrow.Author.Count.{below_more}
 use Rattle.model.specs.Counting.{joined}
 
 module _ {A : Type 0} (f : ℕ → A) where
@@ -38,9 +38,6 @@ pub record Storing {A : Type 0} (d : A) (n : ℕ) (f : ℕ → A) (l : List A) (
   pub done : (r : ℕ) → r < k → get_or l r d ≡ f r
 
 module _ {A : Type 0} {d : A} {n : ℕ} {f : ℕ → A} {l : List A} where
-  pub storing_none : length l ≡ n → Storing d n f l 0
-  storing_none e = record { within = omega arith; long = e; done = below_none (λ r. get_or l r d ≡ f r) }
-
   pub storing_turn : {k : ℕ} {v : A} → Storing d n f l k → k < n → v ≡ f k → Storing d n f (set l k v) (k + 1)
   storing_turn {k} {v} s h e = record {
     within = omega arith;

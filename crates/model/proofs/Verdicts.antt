@@ -6,9 +6,10 @@ use mathlib.Core.Logic.{◌⊎◌, inl, inr, ⊎_elim}
 use mathlib.Core.Path.{◌≡◌, refl, sym, ap, ◌∙◌}
 use native.Mathlib.Nat.{not-suc-le-zero, eq-or-lt_of_le, le_of_suc-le-suc}
 use native.Mathlib.Omega.{arith}
+use Rattle.std.specs.Prelude.{Result}
 use Rattle.model.specs.Counting.{joined}
 use Rattle.model.specs.Numbers.{answer_of_verdict}
-use Rattle.model.specs.declared.answers.Verdict.{Verdict as Coded}
+use Rattle.model.specs.declared.refusal.Refusal.{Refusal}
 use Rattle.model.specs.Verdicts.{Row, ◌gives◌, Verdict, accepted, refused, first_fault, giving, updated, number_of}
 use Rattle.model.proofs.Counting.{up, here}
 
@@ -151,5 +152,5 @@ gave_refused (accepted _) b k e = let z : ◌≡◌ {A = ℕ} 0 1 = cc in absurd
 gave_refused (refused j) b k e = let g : j ≡ k = cc in ap refused g
 
 -- ---- in the branch of the code's verdict
-pub told : {v w : Coded} {x : Verdict} → v ≡ w → answer_of_verdict v ≡ x → answer_of_verdict w ≡ x
+pub told : {v w : Result Unit Refusal} {x : Verdict} → v ≡ w → answer_of_verdict v ≡ x → answer_of_verdict w ≡ x
 told e j = ap answer_of_verdict (sym e) ∙ j

@@ -1,19 +1,10 @@
--- Document 01's number and values for each case of the enums that calls answer with.
-use Rattle.std.specs.Prelude.{ℕ, ℤ}
+-- Document 01's number and values for each answer of a call.
+use Rattle.std.specs.Prelude.{ℕ, ℤ, Bool, Result, Ok, Err}
 use Rattle.model.specs.Counting.{only}
 use Rattle.model.specs.Verdicts.{Answer, accepted, refused}
-use Rattle.model.specs.declared.answers.Reading.{Reading}
-use Rattle.model.specs.declared.answers.Reading.TheVariants as reading
-use Rattle.model.specs.declared.answers.Writing.{Writing}
-use Rattle.model.specs.declared.answers.Writing.TheVariants as writing
-use Rattle.model.specs.declared.answers.Clearing.{Clearing}
-use Rattle.model.specs.declared.answers.Clearing.TheVariants as clearing
-use Rattle.model.specs.declared.answers.Trying.{Trying}
-use Rattle.model.specs.declared.answers.Trying.TheVariants as trying
-use Rattle.model.specs.declared.answers.Marking.{Marking}
-use Rattle.model.specs.declared.answers.Marking.TheVariants as marking
-use Rattle.model.specs.declared.answers.Verdict.{Verdict}
-use Rattle.model.specs.declared.answers.Verdict.TheVariants as verdict
+use Rattle.model.specs.declared.answers.Counts.{Counts}
+use Rattle.model.specs.declared.answers.Figures.{Figures}
+use Rattle.model.specs.declared.answers.Gains.{Gains}
 use Rattle.model.specs.declared.reason.Reason.{Reason}
 use Rattle.model.specs.declared.reason.Reason.TheVariants.{NoBid, NotOpen, BelowCut, Outbid}
 use Rattle.model.specs.declared.reason.GuestResult.{GuestResult}
@@ -57,34 +48,39 @@ number NoSuchGuest = 24
 number DeskOutOfRange = 25
 
 -- of the reader: n and m
-unfoldable pub answer_of_reading : Reading → Answer (ℕ × ℕ)
-answer_of_reading (reading.Read n m) = accepted (n, m)
-answer_of_reading (reading.Refused r) = refused (number r)
+unfoldable pub answer_of_reading : Result Counts Refusal → Answer (ℕ × ℕ)
+answer_of_reading (Ok counts) = accepted (counts.guests, counts.stations)
+answer_of_reading (Err r) = refused (number r)
 
 -- of the writer: the sheet's length
-unfoldable pub answer_of_writing : Writing → Answer ℕ
-answer_of_writing (writing.Written length) = accepted length
-answer_of_writing (writing.Refused r) = refused (number r)
+unfoldable pub answer_of_writing : Result ℕ Refusal → Answer ℕ
+answer_of_writing (Ok length) = accepted length
+answer_of_writing (Err r) = refused (number r)
 
 -- of a clearing: the cut and the margin
-unfoldable pub answer_of_clearing : Clearing → Answer (ℕ × ℕ)
-answer_of_clearing (clearing.Cleared cut margin) = accepted (cut.0, margin.0)
-answer_of_clearing (clearing.Refused r) = refused (number r)
+unfoldable pub answer_of_clearing : Result Figures Refusal → Answer (ℕ × ℕ)
+answer_of_clearing (Ok figures) = accepted (figures.cut.0, figures.margin.0)
+answer_of_clearing (Err r) = refused (number r)
 
 -- of a row that is tried: both gains
-unfoldable pub answer_of_trying : Trying → Answer (ℤ × ℤ)
-answer_of_trying (trying.Tried first second) = accepted (first, second)
-answer_of_trying (trying.Refused r) = refused (number r)
+unfoldable pub answer_of_trying : Result Gains Refusal → Answer (ℤ × ℤ)
+answer_of_trying (Ok gains) = accepted (gains.first, gains.second)
+answer_of_trying (Err r) = refused (number r)
 
 -- of a clearing that is handed in: 1 where it is correct, else 0
-unfoldable pub answer_of_marking : Marking → Answer ℕ
-answer_of_marking (marking.Marked correct) = accepted (only correct 1)
-answer_of_marking (marking.Refused r) = refused (number r)
+unfoldable pub answer_of_marking : Result Bool Refusal → Answer ℕ
+answer_of_marking (Ok correct) = accepted (only correct 1)
+answer_of_marking (Err r) = refused (number r)
 
 -- of a posting, of placing bids, and of every check
-unfoldable pub answer_of_verdict : Verdict → Answer Unit
-answer_of_verdict verdict.Accepted = accepted tt
-answer_of_verdict (verdict.Refused r) = refused (number r)
+unfoldable pub answer_of_verdict : Result Unit Refusal → Answer Unit
+answer_of_verdict (Ok done) = accepted tt
+answer_of_verdict (Err r) = refused (number r)
+
+-- of a check that gives what it has checked
+unfoldable pub answer_of_check : {A : Type 0} → Result A Refusal → Answer Unit
+answer_of_check (Ok checked) = accepted tt
+answer_of_check (Err r) = refused (number r)
 
 -- of a reason: its code (document 02, request 7)
 abbrev pub code_of : Reason → ℕ

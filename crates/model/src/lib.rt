@@ -5,6 +5,7 @@
 pub mod account;
 pub mod answers;
 pub mod cell;
+pub mod lent;
 pub mod limits;
 pub mod mechanism;
 pub mod money;
@@ -12,4 +13,3 @@ pub mod page;
 pub mod reason;
 pub mod refusal;
 pub mod rule;
-pub mod word;

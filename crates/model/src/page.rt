@@ -23,7 +23,7 @@ pub enum Page {
 
 // What the program's arguments ask for.
 #[derive(Clone, Copy)]
-pub enum Asked {
-    For { layout: Layout, page: Page },
-    Nothing,
+pub struct Asked {
+    pub layout: Layout,
+    pub page: Page,
 }

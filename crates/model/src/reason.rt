@@ -13,12 +13,12 @@ pub enum Reason {
     Outbid,
 }
 
-impl Reason {
-    // Its code in document 02.
-    pub fn code(self) -> u8
-        ensures { result ≡ code_of self }
-    {
-        match self {
+// Its code in document 02.
+impl From<Reason> for u8 {
+    ghost from_gives = { λ reason code. code ≡ code_of reason };
+
+    fn from(reason: Reason) -> u8 {
+        match reason {
             Reason::NoBid => 1,
             Reason::NotOpen => 2,
             Reason::BelowCut => 3,

@@ -32,12 +32,12 @@ pub enum Refusal {
     DeskOutOfRange,
 }
 
-impl Refusal {
-    // Its number in document 01.
-    pub fn number(self) -> u8
-        ensures { result ≡ number_of self }
-    {
-        match self {
+// Its number in document 01.
+impl From<Refusal> for u8 {
+    ghost from_gives = { λ refusal number. number ≡ number_of refusal };
+
+    fn from(refusal: Refusal) -> u8 {
+        match refusal {
             Refusal::SheetEnds => 1,
             Refusal::CountsOutOfRange => 2,
             Refusal::StrayBit => 3,

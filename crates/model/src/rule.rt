@@ -1,6 +1,8 @@
 // The rules for the position of the cut, and the numbers by which calls and postings name them.
 ghost use Rattle.std.specs.Prelude.{◌≡◌};
-ghost use Rattle.model.specs.market.Rules.{named as named_of};
+ghost use Rattle.model.specs.market.Rules.{named};
+
+use crate::refusal::Refusal;
 
 #[derive(Clone, Copy)]
 pub enum Rule {
@@ -10,23 +12,16 @@ pub enum Rule {
     TwoThirds,
 }
 
-// What a number names.
-#[derive(Clone, Copy)]
-pub enum NamedRule {
-    Known(Rule),
-    Unknown,
-}
+impl TryFrom<u8> for Rule {
+    type Error = Refusal;
 
-impl NamedRule {
-    pub fn named(number: u8) -> NamedRule
-        ensures { result ≡ named_of number }
-    {
-        if number == 1 {
-            return NamedRule::Known(Rule::Median);
+    ghost try_from_gives = { λ number rule. rule ≡ named number };
+
+    fn try_from(number: u8) -> Result<Rule, Refusal> {
+        match number {
+            1 => Ok(Rule::Median),
+            2 => Ok(Rule::TwoThirds),
+            _ => Err(Refusal::UnknownRule),
         }
-        if number == 2 {
-            return NamedRule::Known(Rule::TwoThirds);
-        }
-        NamedRule::Unknown
     }
 }

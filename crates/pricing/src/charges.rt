@@ -9,7 +9,7 @@ use model::money::{Mills, UnitPrice};
 fn least_charge(cut: UnitPrice, amount: u16) -> Mills
     ensures { result.0 ≡ cut.0 * amount }
 {
-    cut.times(amount as u32)
+    cut.times(u32::from(amount))
 }
 
 // Cut times amount for each guest, where both are within their limits.
@@ -19,10 +19,8 @@ pub fn least_charges(amounts: &[u16], cut: UnitPrice, least: &mut [u32])
     ensures { least.new
         ≡ list (length amounts.now) (least_at amounts.now cut.0) }
 {
-    let mut i = 0;
-    while i < amounts.len() {
-        least[i] = least_charge(cut, amounts[i]).narrow();
-        i += 1;
+    for (i, amount) in amounts.iter().enumerate() {
+        least[i] = least_charge(cut, *amount).narrow();
     }
 }
 
@@ -31,7 +29,7 @@ fn charge_at(station: u32, least: Mills, critical: Mills) -> Mills
     ensures { result.0 ≡ only (0 <? station) (max least.0 critical.0) }
 {
     if 0 < station {
-        least.larger(critical)
+        least.max(critical)
     } else {
         Mills(0)
     }
@@ -50,12 +48,9 @@ pub fn charge_guests(
     ensures { Charged chosen.now least.now criticals.now
         stations.new charges.new }
 {
-    let mut i = 0;
-    while i < chosen.len() {
-        let s = chosen[i];
-        let critical = Mills::wide(criticals[s as usize]);
-        stations[i] = s as u16;
-        charges[i] = charge_at(s, Mills::wide(least[i]), critical).narrow();
-        i += 1;
+    for (i, s) in chosen.iter().enumerate() {
+        let critical = Mills::from(criticals[*s as usize]);
+        stations[i] = *s as u16;
+        charges[i] = charge_at(*s, Mills::from(least[i]), critical).narrow();
     }
 }

@@ -13,12 +13,10 @@ fn count_below(asks: &[u32], x: UnitPrice) -> u32
     ensures { result ≡ under asks.now x.0 }
 {
     let mut n: u32 = 0;
-    let mut i = 0;
-    while i < asks.len() {
-        if UnitPrice(asks[i]).below(x) {
+    for ask in asks {
+        if UnitPrice(*ask) < x {
             n += 1;
         }
-        i += 1;
     }
     n
 }
@@ -29,11 +27,7 @@ fn raised(asks: &[u32], r: UnitPrice, x: UnitPrice, position: usize) -> UnitPric
     ensures { result.0 ≡ max r.0 (eligible asks.now position x.0) }
 {
     let below = count_below(asks, x) as usize;
-    if below < position {
-        if r.below(x) { x } else { r }
-    } else {
-        r
-    }
+    if below < position { r.max(x) } else { r }
 }
 
 // The position of the cut among m asks, from 1.
@@ -55,10 +49,8 @@ pub fn cut(rule: Rule, asks: &[u32]) -> UnitPrice
 {
     let position = position(rule, asks.len());
     let mut r = UnitPrice(0);
-    let mut i = 0;
-    while i < asks.len() {
-        r = raised(asks, r, UnitPrice(asks[i]), position);
-        i += 1;
+    for ask in asks {
+        r = raised(asks, r, UnitPrice(*ask), position);
     }
     r
 }

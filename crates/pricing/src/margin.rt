@@ -8,7 +8,7 @@ use model::money::Mills;
 fn excess(charge: Mills, least: Mills) -> Mills
     ensures { result.0 ≡ charge.0 - least.0 }
 {
-    charge.larger(least).less(least)
+    charge.max(least) - least
 }
 
 // What the charges exceed the least charges by, in all: whoever is charged nothing adds nothing. There is a least
@@ -19,10 +19,8 @@ pub fn margin(charges: &[u32], least: &[u32]) -> Mills
         (λ i. get_or charges.now i 0 - get_or least.now i 0) }
 {
     let mut r = Mills(0);
-    let mut i = 0;
-    while i < charges.len() {
-        r = r.plus(excess(Mills::wide(charges[i]), Mills::wide(least[i])));
-        i += 1;
+    for (i, charge) in charges.iter().enumerate() {
+        r = r + excess(Mills::from(*charge), Mills::from(least[i]));
     }
     r
 }

@@ -1,8 +1,8 @@
 // What each station sold and is paid.
-ghost use Rattle.std.specs.Prelude.{ℕ, ◌<◌, ◌≤◌, ◌≡◌, length, get_or};
-ghost use Rattle.model.specs.Limits.{max_guests, max_stations, max_amount};
+ghost use Rattle.std.specs.Prelude.{◌<◌, ◌≤◌, ◌≡◌, length, get_or};
+ghost use Rattle.model.specs.Limits.{max_stations};
 ghost use Rattle.model.specs.Counting.{list};
-ghost use Rattle.pricing.specs.Sales.{kwh_at, slots, slot_of, kwh_in, PaidOut};
+ghost use Rattle.pricing.specs.Sales.{kwh_at, slots, slot_of, kwh_in, Sellable, PaidOut};
 
 use model::limits::MAX_STATIONS;
 use model::money::UnitPrice;
@@ -18,18 +18,13 @@ fn slot(s: usize, i: usize) -> usize
 
 // The kWh of each place: kwh[s] is what the guests with station number s take.
 fn tally_sales(stations: &[u16], amounts: &[u16], kwh: &mut [u32])
-    requires stations_len { (length stations.now ≡ length amounts.now) × (length amounts.now ≤ max_guests) }
-    requires by_index { (k : ℕ) → k < length amounts.now → get_or amounts.now k 0 ≤ max_amount }
-    requires by_index_2 { (k : ℕ) → k < length amounts.now → get_or stations.now k 0 ≤ max_stations }
+    requires sellable { Sellable stations.now amounts.now }
     requires kwh_value { kwh.old ≡ list slots (λ _. 0) }
     ensures { kwh.new ≡ list slots (kwh_in stations.now amounts.now) }
 {
-    let mut i = 0;
-    while i < amounts.len() {
-        let s = slot(stations[i] as usize, i);
-        let x = amounts[i] as u32;
-        kwh[s] = kwh[s] + x;
-        i += 1;
+    for (i, amount) in amounts.iter().enumerate() {
+        let s = slot(usize::from(stations[i]), i);
+        kwh[s] += u32::from(*amount);
     }
 }
 
@@ -39,22 +34,16 @@ fn pay_out(kwh: &[u32], cut: UnitPrice, sold: &mut [u32], paid: &mut [u64])
     ensures { PaidOut (λ s. get_or kwh.now s 0) cut.0
         (length sold.old) sold.new paid.new }
 {
-    let mut j = 0;
-    while j < sold.len() {
+    for j in 0..sold.len() {
         let x = kwh[j + 1];
         sold[j] = x;
-        let payment = cut.times(x);
-        paid[j] = payment.0;
-        j += 1;
+        paid[j] = cut.times(x).0;
     }
 }
 
-// What each station sold and is paid, from each guest's station number. Amounts and numbers are within their limits, so
-// that the sums fit.
+// What each station sold and is paid, from each guest's station number.
 pub fn sell(stations: &[u16], amounts: &[u16], cut: UnitPrice, sold: &mut [u32], paid: &mut [u64])
-    requires stations_len { (length stations.now ≡ length amounts.now) × (length amounts.now ≤ max_guests) }
-    requires by_index { (k : ℕ) → k < length amounts.now → get_or amounts.now k 0 ≤ max_amount }
-    requires by_index_2 { (k : ℕ) → k < length amounts.now → get_or stations.now k 0 ≤ max_stations }
+    requires sellable { Sellable stations.now amounts.now }
     requires sold_len_bound { (length sold.old ≤ max_stations) × (length paid.old ≡ length sold.old) }
     ensures { PaidOut (kwh_at stations.now amounts.now) cut.0
         (length sold.old) sold.new paid.new }

@@ -1,12 +1,12 @@
 -- Serving guests one at a time, on the way to a stable assignment. Document 02, request 4.
-use Rattle.std.specs.Prelude.{◌≡◌, ℕ, suc, ◌+◌, ◌*◌, ◌<◌, ◌≤◌, Bool, true, not, ◌⊎◌, List, length, ◌≢◌, slice_index}
-use Rattle.model.specs.Limits.{max_stations, max_price, max_amount}
+use Rattle.std.specs.Prelude.{◌≡◌, ℕ, suc, ◌+◌, ◌<◌, ◌≤◌, Bool, true, not, ◌⊎◌, List, length, ◌≢◌, slice_index}
+use Rattle.model.specs.Limits.{max_stations, max_price}
 use Rattle.model.specs.Counting.{◌<?◌, ◌≤?◌, ◌=?◌, ◌and◌, ◌or◌, sum, count, list, only}
 use Rattle.model.specs.market.Market.{Tables, Screened}
 use Rattle.model.specs.market.Mechanism.{at, best}
 use Rattle.model.specs.market.Stable.{sooner, turned_away, Stable, turned_away_at}
 use Rattle.allocation.specs.Screens.{screened_at}
-use Rattle.model.specs.claims.Meaning.{Differ, WithinLimits}
+use Rattle.model.specs.claims.Meaning.{WithinLimits}
 
 -- a market within the limits, and a cut
 pub record Priced (t : Tables) (c : ℕ) : Type 0 where
@@ -16,31 +16,6 @@ pub record Priced (t : Tables) (c : ℕ) : Type 0 where
 -- the element at an index, 0 beyond
 abbrev pub of : List ℕ → ℕ → ℕ
 of l k = slice_index l k
-
--- guest i's bid times amount at station j of m
-abbrev pub product : (bids amounts : List ℕ) (m i j : ℕ) → ℕ
-product bids amounts m i j = slice_index bids (i * m + j) * slice_index amounts i
-
--- the order that amounts, tickets and bids state: what else there is to a market does not matter to it
-unfoldable pub stated : (amounts tickets bids : List ℕ) (m : ℕ) → Screened
-stated amounts tickets bids m = record {
-  guest_count = length amounts;
-  station_count = m;
-  cut = 0;
-  bays = λ _. 0;
-  amount = of amounts;
-  key = of tickets;
-  candidate = λ _ _. true;
-  total = product bids amounts m;
-}
-
--- lists of n guests and rows of m bids, within the limits
-pub record Listed (amounts tickets bids : List ℕ) (m : ℕ) : Type 0 where
-  pub tickets_long : length tickets ≡ length amounts
-  pub bids_long : length bids ≡ length amounts * m
-  pub bid_most : (q : ℕ) → q < length bids → slice_index bids q ≤ max_price
-  pub amount_most : (i : ℕ) → i < length amounts → slice_index amounts i ≤ max_amount
-  pub differ : Differ tickets
 
 -- how many hold a bay of station j, and how many of them stand before guest i there
 unfoldable pub holders : Screened → (a : ℕ → ℕ) → ℕ → ℕ

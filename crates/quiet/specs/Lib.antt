@@ -1,3 +1,4 @@
 pub mod Criticals
 pub mod Efficient
+pub mod Rounds
 pub mod Seating

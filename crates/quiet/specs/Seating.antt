@@ -1,9 +1,7 @@
 -- The lists that serving guests keeps: seats, slots, last holders and bars. Document 02, request 4.
 use Rattle.std.specs.Prelude.{◌≡◌, ℕ, zero, suc, ◌+◌, ◌-◌, ◌*◌, ◌%◌, ◌^◌, ◌<◌, ◌≤◌, Bool, true, ◌⊎◌, List, length, ◌≢◌}
-use Rattle.std.specs.Prelude.{slice_set}
-use denote.MutBor.{MutBor}
-use Rattle.model.specs.Counting.{◌<?◌, ◌≤?◌, ◌and◌, only}
-use Rattle.model.specs.clauses.Lent.{MutLent}
+use Rattle.std.specs.Prelude.{slice_set, Option, Some, None}
+use Rattle.model.specs.Counting.{◌<?◌, ◌≤?◌, ◌=?◌, ◌and◌, only, some}
 use Rattle.model.specs.market.Market.{Tables, Screened}
 use Rattle.model.specs.market.Mechanism.{best}
 use Rattle.allocation.specs.Screens.{screened_at}
@@ -27,7 +25,7 @@ pub record GuestLine (n : ℕ) (line : List ℕ) : Type 0 where
 -- the open stations
 pub record Opened (asks : List ℕ) (c : ℕ) (opened : List ℕ) : Type 0 where
   pub stations : (q : ℕ) → q < length opened → (of opened q < length asks) × (of asks (of opened q) < c)
-  pub all : (j : ℕ) → j < length asks → of asks j < c → (q : ℕ) × (q < length opened) × (of opened q ≡ j)
+  pub all : (j : ℕ) → j < length asks → of asks j < c → some (length opened) (λ q. of opened q =? j) ≡ true
 
 -- the bars of m stations
 pub record Bars (m : ℕ) (bars : List ℕ) : Type 0 where
@@ -101,22 +99,6 @@ pub record LastOf (S : Screened) (j n h first : ℕ) (nexts : List ℕ) (guest b
   pub at : At slot h guest before
   pub last : (q : ℕ) → q < h → (slot q ≡ guest) ⊎ (sooner S (slot q) j guest j ≡ true)
 
--- station j is full: its last holder, the one before it and its bar are entered
-pub record Closed (S : Screened) (n h j first : ℕ) (nexts lasts befores bars lasts' befores' bars' : List ℕ)
-    : Type 0 where
-  pub guest : ℕ
-  pub before : ℕ
-  pub last : LastOf S j n h first nexts guest before
-  pub lasts_are : lasts' ≡ slice_set lasts j guest
-  pub befores_are : befores' ≡ slice_set befores j before
-  pub bars_are : bars' ≡ slice_set bars j (suc (priority S guest j))
-
--- guest x is in the chain of station j in the place of y, after the guest of number before, or first
-pub record Relinked (j x y before : ℕ) (firsts nexts firsts' nexts' : List ℕ) : Type 0 where
-  pub links :
-      ((before ≡ 0) × (firsts' ≡ slice_set firsts j (suc x)) × (nexts' ≡ slice_set nexts x (of nexts y)))
-      ⊎ ((before ≢ 0) × (firsts' ≡ firsts) × (nexts' ≡ slice_set (slice_set nexts x (of nexts y)) (before - 1) (suc x)))
-
 -- the holders of each station are the guests of its first slots, each in one
 pub record Slotted (S : Screened) (a held : ℕ → ℕ) (slot : ℕ → ℕ → ℕ) : Type 0 where
   pub holds : (j q : ℕ) → j < S.station_count → q < held j → (slot j q < S.guest_count) × (a (slot j q) ≡ suc j)
@@ -148,20 +130,29 @@ seating chosen held firsts nexts lasts befores bars = record {
   bars = bars;
 }
 
-abbrev pub seating_of : (chosen held firsts nexts lasts befores bars : MutBor (List ℕ)) → Seating
-seating_of chosen held firsts nexts lasts befores bars =
-    seating chosen.now held.now firsts.now nexts.now lasts.now befores.now bars.now
+-- station j of n guests' market is full: its last holder, the one before it and its bar are entered
+pub record Closed (S : Screened) (n j : ℕ) (R R' : Seating) : Type 0 where
+  pub guest : ℕ
+  pub before : ℕ
+  pub last : LastOf S j n (of R.held j) (of R.firsts j) R.nexts guest before
+  pub becomes : R' ≡ seating R.chosen R.held R.firsts R.nexts (slice_set R.lasts j guest)
+      (slice_set R.befores j before) (slice_set R.bars j (suc (priority S guest j)))
 
-abbrev pub seating_out : (chosen held firsts nexts lasts befores bars : MutLent (List ℕ)) → Seating
-seating_out chosen held firsts nexts lasts befores bars =
-    seating_of chosen.exit held.exit firsts.exit nexts.exit lasts.exit befores.exit bars.exit
+-- guest x is in the chain of station j in the place of its last holder: after the guest before that, or first
+pub record Relinked (j x : ℕ) (R R' : Seating) : Type 0 where
+  pub links :
+      ((of R.befores j ≡ 0) × (R' ≡ seating R.chosen R.held (slice_set R.firsts j (suc x))
+      (slice_set R.nexts x (of R.nexts (of R.lasts j))) R.lasts R.befores R.bars))
+      ⊎ ((of R.befores j ≢ 0) × (R' ≡ seating R.chosen R.held R.firsts
+      (slice_set (slice_set R.nexts x (of R.nexts (of R.lasts j))) (of R.befores j - 1) (suc x)) R.lasts
+      R.befores R.bars))
 
 -- the least priority that station j takes: any while it has a bay left, else more than its last holder's
 unfoldable pub bar_of : Screened → (held last : ℕ → ℕ) → ℕ → ℕ
 bar_of S held last j = only (S.bays j ≤? held j) (suc (priority S (last j) j))
 
--- candidates hold bays, as the lists have them
-pub record HeldIn (t : Tables) (c : ℕ) (R : Seating) : Type 0 where
+-- the lists are as long as there are guests or stations
+pub record Sized (t : Tables) (R : Seating) : Type 0 where
   pub chosen_long : length R.chosen ≡ length t.amounts
   pub held_long : length R.held ≡ length t.asks
   pub firsts_long : length R.firsts ≡ length t.asks
@@ -169,6 +160,10 @@ pub record HeldIn (t : Tables) (c : ℕ) (R : Seating) : Type 0 where
   pub lasts_long : length R.lasts ≡ length t.asks
   pub befores_long : length R.befores ≡ length t.asks
   pub bars_long : length R.bars ≡ length t.asks
+
+-- candidates hold bays, as the lists have them
+pub record HeldIn (t : Tables) (c : ℕ) (R : Seating) : Type 0 where
+  pub sized : Sized t R
   pub holding : Holding (screened_at t c) (of R.chosen) (of R.held) (of R.lasts)
   pub slot : ℕ → ℕ → ℕ
   pub slotted : Slotted (screened_at t c) (of R.chosen) (of R.held) slot
@@ -188,3 +183,12 @@ pub record Called (t : Tables) (c : ℕ) (called : List ℕ) (R : Seating) : Typ
   pub called_long : length called ≡ length t.amounts
   pub held_in : HeldIn t c R
   pub serving : Serving (screened_at t c) (of called) 0 (of R.chosen)
+
+-- tickets are numbers of 32 bits
+abbrev pub TicketsFit : List ℕ → Type 0
+TicketsFit tickets = (i : ℕ) → of tickets i ≤ last_ticket
+
+-- a number from 1, as the tables have it, 0 for none
+abbrev pub number_of : Option ℕ → ℕ
+number_of None = 0
+number_of (Some k) = suc k

@@ -3,14 +3,15 @@
 ghost use Rattle.std.specs.Prelude.{◌≡◌, suc, ◌+◌, ◌^◌, ◌<◌, ◌≤◌, max, length};
 ghost use Rattle.model.specs.Limits.{max_stations, max_price, max_amount};
 ghost use Rattle.model.specs.Counting.{◌<?◌, only, list};
-ghost use Rattle.model.specs.clauses.Lent.{regular_of, regular_in};
 ghost use Rattle.model.specs.clauses.Rows.{row_of};
-ghost use Rattle.allocation.specs.Screens.{screened_at};
 ghost use Rattle.allocation.specs.Totals.{max_total};
-ghost use Rattle.quiet.specs.Efficient.{Priced, of, Seats, critical_of};
+ghost use Rattle.quiet.specs.Efficient.{of, Seats, critical_of};
 ghost use Rattle.quiet.specs.Criticals.{least_rank, total_from, raised_by, passed_over};
-ghost use Rattle.quiet.specs.Criticals.{Renewed, Row, Rows, Room};
+ghost use Rattle.quiet.specs.Criticals.{Renewed, Row, Room};
+ghost use Rattle.quiet.specs.Rounds.{screened, HeldAt};
 
+use crate::round::Round;
+use crate::seats::Seating;
 use allocation::signed;
 use model::money::{Mills, UnitPrice};
 
@@ -32,8 +33,8 @@ fn raised(bid: UnitPrice, j: u32, amount: u32, least: Rank, top: Mills) -> Mills
 {
     let rank = bid.0 * BID + (63 - j);
     let total = bid.times(amount);
-    let counted = (((rank + HALF - least.0) / HALF) as u64) * total.0;
-    signed::larger_small(top, Mills(counted))
+    let counted = u64::from((rank + HALF - least.0) / HALF) * total.0;
+    signed::larger(top, Mills(counted))
 }
 
 // Raises the critical totals of all stations by a row of bids.
@@ -41,16 +42,12 @@ fn raise_row(row: &[u32], amount: u32, least: Rank, criticals: &mut [u32])
     requires row { Row row.now }
     requires amount_le_max_amount { (amount ≤ max_amount) × (least.0 < 2 ^ 31) }
     requires room { Room (length row.now) criticals.old }
-    ensures { let row = row.entry.now in
-        Renewed (length row) (raised_by row amount least.0 criticals.old)
+    ensures { Renewed (length row.now) (raised_by row.now amount least.0 criticals.old)
         criticals.old criticals.new }
 {
-    let mut j = 0;
-    while j < row.len() {
-        let bid = row[j];
-        let top = Mills::wide(criticals[j + 1]);
+    for (j, &bid) in row.iter().enumerate() {
+        let top = Mills::from(criticals[j + 1]);
         criticals[j + 1] = raised(UnitPrice(bid), j as u32, amount, least, top).narrow();
-        j += 1;
     }
 }
 
@@ -69,46 +66,32 @@ fn least_rank(row: &[u32], cut: UnitPrice, seat: u32) -> Rank
 }
 
 // Raises them by guest i's row.
-fn raise(
-    amounts: &[u16],
-    bids: &[u32],
-    m: usize,
-    cut: UnitPrice,
-    chosen: &[u32],
-    i: usize,
-    criticals: &mut [u32],
-)
-    requires rows { Rows amounts.now bids.now chosen.now m cut.0 }
-    requires i_in_bounds { i < length amounts.now }
-    requires room { Room m criticals.old }
-    ensures { let row = row_of bids.now m (i + 1) in
-        Renewed m (raised_by row (of amounts.now i)
-        (least_rank row cut.0 (of chosen.now i)) criticals.old)
+fn raise(round: &Round<'_>, chosen: &[u32], i: usize, criticals: &mut [u32])
+    requires seats { Seats round.now.market.now round.now.cut.0 chosen.now }
+    requires i_in_bounds { i < length round.now.market.now.amounts }
+    requires room { Room (length round.now.market.now.asks) criticals.old }
+    ensures { let t = round.now.market.now in
+        let row = row_of t.bids (length t.asks) (i + 1) in
+        Renewed (length t.asks) (raised_by row (of t.amounts i)
+        (least_rank row round.now.cut.0 (of chosen.now i)) criticals.old)
         criticals.old criticals.new }
 {
-    let row = views::row_through_view(bids, m, i + 1);
-    let least = least_rank(row, cut, chosen[i]);
-    raise_row(row, amounts[i] as u32, least, criticals);
+    let market = round.market;
+    let row = views::row_through_view(market.bids, market.asks.len(), i + 1);
+    let least = least_rank(row, round.cut, chosen[i]);
+    raise_row(row, u32::from(market.amounts[i]), least, criticals);
 }
 
 // Raises them from nothing by every guest's row, as if all stations were open.
-fn raise_all(
-    amounts: &[u16],
-    bids: &[u32],
-    m: usize,
-    cut: UnitPrice,
-    chosen: &[u32],
-    criticals: &mut [u32],
-)
-    requires rows { Rows amounts.now bids.now chosen.now m cut.0 }
-    requires m_le_max_stations { (m ≤ max_stations) × (criticals.old ≡ list (max_stations + 1) (λ _. 0)) }
-    ensures { Renewed m (passed_over amounts.now bids.now chosen.now m
-        cut.0 (length amounts.now)) criticals.old criticals.new }
+fn raise_all(round: &Round<'_>, chosen: &[u32], criticals: &mut [u32])
+    requires seats { Seats round.now.market.now round.now.cut.0 chosen.now }
+    requires criticals_value { criticals.old ≡ list (max_stations + 1) (λ _. 0) }
+    ensures { let t = round.now.market.now in
+        Renewed (length t.asks) (passed_over t.amounts t.bids chosen.now (length t.asks)
+        round.now.cut.0 (length t.amounts)) criticals.old criticals.new }
 {
-    let mut i = 0;
-    while i < amounts.len() {
-        raise(amounts, bids, m, cut, chosen, i, criticals);
-        i += 1;
+    for i in 0..chosen.len() {
+        raise(round, chosen, i, criticals);
     }
 }
 
@@ -116,43 +99,29 @@ fn raise_all(
 fn if_open(ask: UnitPrice, cut: UnitPrice, critical: Mills) -> Mills
     ensures { (result.0 ≡ only (ask.0 <? cut.0) critical.0) × (result.0 ≤ critical.0) }
 {
-    if ask.below(cut) { critical } else { Mills(0) }
+    if ask < cut { critical } else { Mills(0) }
 }
 
 // Closed stations turn nobody away.
 fn clear_closed(asks: &[u32], cut: UnitPrice, criticals: &mut [u32])
     requires { length asks.now < length criticals.old }
-    ensures { let asks = asks.entry.now in
-        Renewed (length asks) (λ j. only (of asks j <? cut.0) (of criticals.old (suc j)))
+    ensures { Renewed (length asks.now) (λ j. only (of asks.now j <? cut.0) (of criticals.old (suc j)))
         criticals.old criticals.new }
 {
-    let mut j = 0;
-    while j < asks.len() {
-        let ask = asks[j];
-        let critical = Mills::wide(criticals[j + 1]);
+    for (j, &ask) in asks.iter().enumerate() {
+        let critical = Mills::from(criticals[j + 1]);
         criticals[j + 1] = if_open(UnitPrice(ask), cut, critical).narrow();
-        j += 1;
     }
 }
 
 // The critical total of each station, at its number.
-pub fn all_criticals(
-    asks: &[u32],
-    bays: &[u16],
-    amounts: &[u16],
-    tickets: &[u32],
-    bids: &[u32],
-    cut: UnitPrice,
-    chosen: &[u32],
-    criticals: &mut [u32],
-)
-    requires priced { Priced (regular_of asks bays amounts tickets bids) cut.0 }
-    requires seats { Seats (regular_of asks bays amounts tickets bids) cut.0 chosen.now }
+pub fn all_criticals(round: &Round<'_>, seating: &Seating<'_>, criticals: &mut [u32])
+    requires held_in { HeldAt round.now seating.now }
     requires criticals_value { criticals.old ≡ list (max_stations + 1) (λ _. 0) }
-    ensures { let t = regular_in asks bays amounts tickets bids in
-        criticals.new
-        ≡ list (max_stations + 1) (critical_of (screened_at t cut.0) (of chosen.now) (length t.asks)) }
+    ensures { let m = length round.now.market.now.asks in
+        criticals.new ≡ list (max_stations + 1) (critical_of (screened round.now) (of seating.now.chosen) m) }
 {
-    raise_all(amounts, bids, asks.len(), cut, chosen, criticals);
-    clear_closed(asks, cut, criticals);
+    raise_all(round, seating.chosen, criticals);
+    let market = round.market;
+    clear_closed(market.asks, round.cut, criticals);
 }

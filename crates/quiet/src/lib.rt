@@ -5,6 +5,7 @@ mod criticals;
 pub mod efficient;
 mod line;
 mod opening;
+mod round;
 mod seats;
 mod service;
 mod standing;

@@ -11,14 +11,11 @@ pub fn open_stations(asks: &[u32], cut: UnitPrice, opened: &mut [usize]) -> usiz
         × (result ≤ length opened.new) }
 {
     let mut k = 0;
-    let mut j = 0;
-    while j < asks.len() {
-        let ask = asks[j];
-        if UnitPrice(ask).below(cut) {
+    for (j, &ask) in asks.iter().enumerate() {
+        if UnitPrice(ask) < cut {
             opened[k] = j;
             k += 1;
         }
-        j += 1;
     }
     k
 }

@@ -1,42 +1,34 @@
-// How candidacies of one station stand: by their priorities. What is required holds in an accepted market.
-ghost use Rattle.std.specs.Prelude.{◌≡◌, ◌*◌, ◌<◌, length};
-ghost use Rattle.quiet.specs.Efficient.{product, stated, Listed};
+// How candidacies of one station stand: by their priorities.
+ghost use Rattle.std.specs.Prelude.{◌≡◌, ◌<◌, length};
 ghost use Rattle.quiet.specs.Seating.{priority};
+ghost use Rattle.quiet.specs.Rounds.{screened};
 
+use crate::round::Round;
 use model::money::{Mills, UnitPrice};
 
 // A candidacy's priority at its station: a total and, below it, how low its ticket is. The greater stands before.
-#[derive(Clone, Copy)]
+#[derive(Clone, Copy, PartialEq, Eq, PartialOrd, Ord)]
 pub struct Priority(pub u64);
 
 // A total's part of it.
 pub const TOTAL: u64 = 4_294_967_296;
 
-// Guest i's bid times amount at station j of m.
-fn product_at(bids: &[u32], amounts: &[u16], m: usize, i: usize, j: usize) -> Mills
-    requires { (length bids.now ≡ length amounts.now * m) × (i < length amounts.now) × (j < m) }
-    ensures { result.0 ≡ product bids.now amounts.now m i j }
+// Guest i's bid times amount at station j.
+fn total_at(round: &Round<'_>, i: usize, j: usize) -> Mills
+    requires { (i < length round.now.market.now.amounts) × (j < length round.now.market.now.asks) }
+    ensures { result.0 ≡ (screened round.now).total i j }
 {
-    let bid = bids[i * m + j];
-    UnitPrice(bid).times(amounts[i] as u32)
+    let market = round.market;
+    let bid = market.bids[i * market.asks.len() + j];
+    UnitPrice(bid).times(u32::from(market.amounts[i]))
 }
 
-// Guest i's priority at station j of m.
-pub fn priority_at(
-    amounts: &[u16],
-    tickets: &[u32],
-    bids: &[u32],
-    m: usize,
-    i: usize,
-    j: usize,
-) -> Priority
-    requires listed { Listed amounts.now tickets.now bids.now m }
-    requires i_in_bounds { (i < length amounts.now) × (j < m) }
-    ensures { result.0
-        ≡ priority (stated amounts.now tickets.now bids.now m) i j }
+// Guest i's priority at station j.
+pub fn priority_at(round: &Round<'_>, i: usize, j: usize) -> Priority
+    requires { (i < length round.now.market.now.amounts) × (j < length round.now.market.now.asks) }
+    ensures { result.0 ≡ priority (screened round.now) i j }
 {
-    let total = product_at(bids, amounts, m, i, j);
-    let ticket = tickets[i];
-    let priority = total.0 * TOTAL + (u32::MAX - ticket) as u64;
-    Priority(priority)
+    let total = total_at(round, i, j);
+    let market = round.market;
+    Priority(total.0 * TOTAL + u64::from(u32::MAX - market.tickets[i]))
 }

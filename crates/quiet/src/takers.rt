@@ -1,13 +1,14 @@
 // The best of a guest's candidacies at stations that would take it.
 ghost use Rattle.std.specs.Prelude.{◌≡◌, ◌+◌, ◌-◌, ◌*◌, ◌%◌, ◌^◌, ◌<◌, ◌≤◌, max, length};
 ghost use Rattle.model.specs.Counting.{◌≤?◌, only};
-ghost use Rattle.model.specs.clauses.Lent.{regular_of, regular_in};
-ghost use Rattle.allocation.specs.Screens.{screened_at};
 ghost use Rattle.allocation.specs.Ties.{last_ticket};
 ghost use Rattle.allocation.specs.Totals.{max_total};
-ghost use Rattle.quiet.specs.Efficient.{Priced, of};
-ghost use Rattle.quiet.specs.Seating.{Opened, Bars, TopChoice, station_in, best_past};
+ghost use Rattle.quiet.specs.Efficient.{of, best_taker};
+ghost use Rattle.quiet.specs.Seating.{Bars, TopChoice, station_in, number_of};
+ghost use Rattle.quiet.specs.Rounds.{screened, HeldAt};
 
+use crate::round::Round;
+use crate::seats::Seating;
 use crate::standing::{Priority, TOTAL};
 use model::money::UnitPrice;
 
@@ -15,7 +16,7 @@ use model::money::UnitPrice;
 const HALF: u64 = 9_223_372_036_854_775_808;
 
 // A station that a guest may choose: a total and, below it, how low the station is. The greater is the better one.
-#[derive(Clone, Copy)]
+#[derive(Clone, Copy, PartialEq, Eq, PartialOrd, Ord)]
 struct Choice(u64);
 
 // A choice where a priority is not below a bar, else 0. No branch: what passes cannot be foreseen.
@@ -27,87 +28,49 @@ fn passed(priority: Priority, bar: Priority, x: Choice) -> Choice
     Choice(choice)
 }
 
-fn larger(x: Choice, y: Choice) -> Choice
-    ensures { result.0 ≡ max x.0 y.0 }
-{
-    if x.0 < y.0 { y } else { x }
-}
-
 // The best choice so far against a bid at station j.
 fn better(bid: UnitPrice, j: usize, scale: u64, low: u64, bar: Priority, top: Choice) -> Choice
     requires { (bid.0 * scale ≤ max_total * 2 ^ 32) × (low ≤ last_ticket) × (bar.0 ≤ 2 ^ 63) × (j ≤ 64) }
     ensures { result.0 ≡ max top.0 (only (bar.0 ≤? bid.0 * scale + low) (bid.0 * scale + (64 - j))) }
 {
-    let total = (bid.0 as u64) * scale;
+    let total = u64::from(bid.0) * scale;
     let priority = total + low;
     let choice = total + (64 - (j as u64));
-    larger(top, passed(Priority(priority), bar, Choice(choice)))
+    top.max(passed(Priority(priority), bar, Choice(choice)))
 }
 
 // Guest x's best choice among the open stations whose bar it passes; the cut's total where there is none.
-fn best_choice(
-    asks: &[u32],
-    bays: &[u16],
-    amounts: &[u16],
-    tickets: &[u32],
-    bids: &[u32],
-    cut: UnitPrice,
-    opened: &[usize],
-    bars: &[u64],
-    x: usize,
-) -> Choice
-    requires priced { Priced (regular_of asks bays amounts tickets bids) cut.0 }
-    requires opened { Opened asks.now cut.0 opened.now }
-    requires bars { Bars (length asks.now) bars.now }
-    requires x_in_bounds { x < length amounts.now }
-    ensures { TopChoice (screened_at (regular_in asks bays amounts tickets bids) cut.0)
-        (of bars.now) x result.0 }
+fn best_choice(round: &Round<'_>, bars: &[u64], x: usize) -> Choice
+    requires bars { Bars (length round.now.market.now.asks) bars.now }
+    requires x_in_bounds { x < length round.now.market.now.amounts }
+    ensures { TopChoice (screened round.now) (of bars.now) x result.0 }
 {
-    let row = views::row_through_view(bids, asks.len(), x + 1);
-    let scale = (amounts[x] as u64) * TOTAL;
-    let ticket = tickets[x];
-    let low = (u32::MAX - ticket) as u64;
-    let none = (cut.0 as u64) * scale;
+    let market = round.market;
+    let row = views::row_through_view(market.bids, market.asks.len(), x + 1);
+    let scale = u64::from(market.amounts[x]) * TOTAL;
+    let low = u64::from(u32::MAX - market.tickets[x]);
+    let none = u64::from(round.cut.0) * scale;
     let mut top = Choice(none);
-    let mut q = 0;
-    while q < opened.len() {
-        let j = opened[q];
-        let bid = row[j];
-        let bar = bars[j];
-        top = better(UnitPrice(bid), j, scale, low, Priority(bar), top);
-        q += 1;
+    for &j in round.opened {
+        top = better(UnitPrice(row[j]), j, scale, low, Priority(bars[j]), top);
     }
     top
 }
 
-// The number of a choice's station, 0 for none.
-fn station_of(top: Choice) -> u32
-    requires { top.0 % 256 ≤ 65 }
-    ensures { result ≡ station_in top.0 }
+// A choice's station.
+fn station_of(top: Choice) -> Option<usize>
+    requires { top.0 % 256 ≤ 64 }
+    ensures { number_of result ≡ station_in top.0 }
 {
-    let low = (top.0 % 256) as u32;
-    if low == 0 { 0 } else { 65 - low }
+    let low = (top.0 % 256) as usize;
+    if low == 0 { None } else { Some(64 - low) }
 }
 
-// The number of the best of guest x's stations whose bar it passes, 0 for none.
-pub fn best_taker(
-    asks: &[u32],
-    bays: &[u16],
-    amounts: &[u16],
-    tickets: &[u32],
-    bids: &[u32],
-    cut: UnitPrice,
-    opened: &[usize],
-    bars: &[u64],
-    x: usize,
-) -> u32
-    requires priced { Priced (regular_of asks bays amounts tickets bids) cut.0 }
-    requires opened { Opened asks.now cut.0 opened.now }
-    requires bars { Bars (length asks.now) bars.now }
-    requires x_in_bounds { x < length amounts.now }
-    ensures { best_past (screened_at (regular_in asks bays amounts tickets bids) cut.0)
-        (of bars.now) x ≡ result }
+// The best of guest x's candidacies at stations that would take it: those whose bar it passes.
+pub fn best_taker(round: &Round<'_>, seating: &Seating<'_>, x: usize) -> Option<usize>
+    requires held_in { HeldAt round.now seating.now }
+    requires x_in_bounds { x < length round.now.market.now.amounts }
+    ensures { best_taker (screened round.now) (of seating.now.held) (of seating.now.lasts) x ≡ number_of result }
 {
-    let top = best_choice(asks, bays, amounts, tickets, bids, cut, opened, bars, x);
-    station_of(top)
+    station_of(best_choice(round, seating.bars, x))
 }

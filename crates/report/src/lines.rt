@@ -1,30 +1,11 @@
-// The lines of guests and stations, as bytes in a lent buffer.
+// The lines of guests and stations, as bytes in a lent buffer. Each loop names its own words and lists: one for both
+// would take three words and a closure for the numbers.
 ghost use Rattle.std.specs.Prelude.{◌<◌, ◌≤◌, ◌^◌, ◌≡◌, length};
 ghost use Rattle.model.specs.Limits.{max_guests, max_stations};
+ghost use Rattle.model.specs.text.Lines.{guest_lines, station_lines};
 ghost use Rattle.sheet.specs.Wrote.{Wrote};
-ghost use Rattle.model.specs.text.Lines.{guest_line, station_line, guest_lines, station_lines};
 
 use crate::text;
-
-fn guest_line(out: &mut [u8], at: usize, guest: u64, station: u64, charge: u64) -> usize
-    requires { at < 2 ^ 32 }
-    ensures { Wrote out.old at (guest_line guest station charge) out.new result }
-{
-    let p = text::put_field(out, at, b"guest ", guest);
-    let q = text::put_field(out, p, b" station ", station);
-    let r = text::put_field(out, q, b" charge ", charge);
-    text::put(out, r, 10)
-}
-
-fn station_line(out: &mut [u8], at: usize, station: u64, sold: u64, paid: u64) -> usize
-    requires { at < 2 ^ 32 }
-    ensures { Wrote out.old at (station_line station sold paid) out.new result }
-{
-    let p = text::put_field(out, at, b"station ", station);
-    let q = text::put_field(out, p, b" sold ", sold);
-    let r = text::put_field(out, q, b" paid ", paid);
-    text::put(out, r, 10)
-}
 
 // The lists are those of a cleared market.
 pub fn guest_lines(out: &mut [u8], at: usize, stations: &[u16], charges: &[u32]) -> usize
@@ -35,12 +16,14 @@ pub fn guest_lines(out: &mut [u8], at: usize, stations: &[u16], charges: &[u32])
         out.new result }
 {
     let mut p = at;
-    let mut k = 0;
-    while k < stations.len() {
-        let station = stations[k] as u64;
-        let charge = charges[k] as u64;
-        p = guest_line(out, p, k as u64 + 1, station, charge);
-        k += 1;
+    for k in 0..stations.len() {
+        p = text::put_three(
+            out,
+            p,
+            (b"guest ", k as u64 + 1),
+            (b" station ", u64::from(stations[k])),
+            (b" charge ", u64::from(charges[k])),
+        );
     }
     p
 }
@@ -51,12 +34,14 @@ pub fn station_lines(out: &mut [u8], at: usize, sold: &[u32], paid: &[u64]) -> u
         (station_lines sold.now paid.now (length sold.now)) out.new result }
 {
     let mut p = at;
-    let mut k = 0;
-    while k < sold.len() {
-        let kwh = sold[k] as u64;
-        let payment = paid[k];
-        p = station_line(out, p, k as u64 + 1, kwh, payment);
-        k += 1;
+    for k in 0..sold.len() {
+        p = text::put_three(
+            out,
+            p,
+            (b"station ", k as u64 + 1),
+            (b" sold ", u64::from(sold[k])),
+            (b" paid ", paid[k]),
+        );
     }
     p
 }

@@ -1,9 +1,12 @@
 // A market in either layout, read into lent tables.
+ghost use Rattle.std.specs.Prelude.{◌≤◌, IfOk};
+ghost use Rattle.model.specs.Limits.{max_guests, max_stations};
 ghost use Rattle.model.specs.clauses.Lent.{lent_tables_in, lent_tables_out};
 ghost use Rattle.report.specs.Readers.{ReadsAs};
 
-use model::answers::Reading;
+use model::answers::Counts;
 use model::page::Layout;
+use model::refusal::Refusal;
 
 pub fn read_as(
     layout: Layout,
@@ -13,8 +16,9 @@ pub fn read_as(
     asks: &mut [u32],
     bays: &mut [u16],
     bids: &mut [u32],
-) -> Reading
-    ensures { ReadsAs layout bytes.now (lent_tables_in amounts tickets asks bays bids) result
+) -> Result<Counts, Refusal>
+    ensures counts { IfOk result (λ c. (c.guests ≤ max_guests) × (c.stations ≤ max_stations)) }
+    ensures read { ReadsAs layout bytes.now (lent_tables_in amounts tickets asks bays bids) result
         (lent_tables_out amounts tickets asks bays bids) }
 {
     match layout {

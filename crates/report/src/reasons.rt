@@ -3,7 +3,7 @@ ghost use Rattle.std.specs.Prelude.{◌+◌, ◌<◌, ◌≤◌, ◌^◌};
 ghost use Rattle.model.specs.Limits.{max_guests};
 ghost use Rattle.model.specs.Counting.{joined};
 ghost use Rattle.model.specs.Numbers.{code_of};
-ghost use Rattle.model.specs.text.ReasonsText.{reason_word, win_line, loss_line};
+ghost use Rattle.model.specs.text.ReasonsText.{reason_word, loss_line};
 ghost use Rattle.sheet.specs.Wrote.{Wrote};
 ghost use Rattle.explain.specs.Outcomes.{record_at};
 ghost use Rattle.report.specs.Records.{record_line};
@@ -12,16 +12,6 @@ use crate::text;
 use explain::explained::OutcomeArrays;
 use explain::outcomes;
 use model::reason::{GuestOutcome, GuestResult, Reason};
-
-fn win_line(out: &mut [u8], at: usize, guest: u64, station: u64, charge: u64) -> usize
-    requires { at < 2 ^ 32 }
-    ensures { Wrote out.old at (win_line guest station charge) out.new result }
-{
-    let p = text::put_field(out, at, b"guest ", guest);
-    let q = text::put_field(out, p, b" wins station ", station);
-    let r = text::put_field(out, q, b" charge ", charge);
-    text::put(out, r, 10)
-}
 
 fn put_reason(out: &mut [u8], at: usize, reason: Reason) -> usize
     requires { at < 2 ^ 33 }
@@ -42,33 +32,35 @@ fn loss_line(out: &mut [u8], at: usize, guest: u64, reason: Reason) -> usize
     let p = text::put_field(out, at, b"guest ", guest);
     let q = text::put_word(out, p, b" loses: ");
     let r = put_reason(out, q, reason);
-    text::put(out, r, 10)
+    text::put(out, r, b'\n')
 }
 
 fn outcome_line(out: &mut [u8], at: usize, guest: u64, outcome: GuestOutcome) -> usize
     requires { at < 2 ^ 32 }
     ensures { Wrote out.old at (record_line guest outcome) out.new result }
 {
-    let result = outcome.result;
-    match result {
-        GuestResult::Win { station, charge } => win_line(out, at, guest, station as u64, charge.0),
+    match outcome.result {
+        GuestResult::Win { station, charge } => text::put_three(
+            out,
+            at,
+            (b"guest ", guest),
+            (b" wins station ", u64::from(station)),
+            (b" charge ", charge.0),
+        ),
         GuestResult::Loss(reason) => loss_line(out, at, guest, reason),
     }
 }
 
 // There are no more guests than a market has.
-pub fn reasons_text(e: OutcomeArrays, out: &mut [u8]) -> usize
-    requires { e.guests ≤ max_guests }
+pub fn reasons_text(told: &OutcomeArrays, out: &mut [u8]) -> usize
+    requires { told.now.guests ≤ max_guests }
     ensures { Wrote out.old 0
-        (joined e.guests (λ k. record_line (k + 1) (record_at e k))) out.new result }
+        (joined told.now.guests (λ k. record_line (k + 1) (record_at told.now k))) out.new result }
 {
-    let n = e.guests;
     let mut p = 0;
-    let mut k = 0;
-    while k < n {
-        let outcome = outcomes::outcome_at(e, k);
+    for k in 0..told.guests {
+        let outcome = outcomes::outcome_at(told, k);
         p = outcome_line(out, p, k as u64 + 1, outcome);
-        k += 1;
     }
     p
 }

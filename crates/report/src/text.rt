@@ -1,6 +1,8 @@
-// Bytes, words and numbers, written into a lent buffer as far as it reaches.
-ghost use Rattle.std.specs.Prelude.{ℕ, ◌+◌, ◌<◌, ◌^◌, ◌∷◌, [], length};
+// Bytes, words, numbers and lines, written into a lent buffer as far as it reaches. A buffer and the place reached in
+// it stay two parameters: a struct of both would not tell the buffer's owner what it holds afterwards.
+ghost use Rattle.std.specs.Prelude.{ℕ, ◌+◌, ◌<◌, ◌^◌, ◌∷◌, ◌++◌, [], length};
 ghost use Rattle.model.specs.text.Decimal.{digits, field};
+ghost use Rattle.model.specs.text.Lines.{line_end};
 ghost use Rattle.sheet.specs.Wrote.{Wrote};
 
 // A byte at a place, if the buffer reaches that far.
@@ -10,7 +12,6 @@ pub fn put(out: &mut [u8], at: usize, b: u8) -> usize
 {
     if at < out.len() {
         out[at] = b;
-        return at + 1;
     }
     at + 1
 }
@@ -20,10 +21,8 @@ pub fn put_word(out: &mut [u8], at: usize, word: &[u8]) -> usize
     ensures { Wrote out.old at word.now out.new result }
 {
     let mut p = at;
-    let mut k = 0;
-    while k < word.len() {
-        p = put(out, p, word[k]);
-        k += 1;
+    for b in word {
+        p = put(out, p, *b);
     }
     p
 }
@@ -34,7 +33,7 @@ fn put_number(out: &mut [u8], at: usize, x: u64) -> usize
     ensures { (k : ℕ) → x < 10 ^ (k + 1)
         → Wrote out.old at (digits (k + 1) x) out.new result }
 {
-    let digit = 48 + (x % 10) as u8;
+    let digit = b'0' + (x % 10) as u8;
     if x < 10 {
         return put(out, at, digit);
     }
@@ -49,4 +48,31 @@ pub fn put_field(out: &mut [u8], at: usize, word: &[u8], x: u64) -> usize
 {
     let p = put_word(out, at, word);
     put_number(out, p, x)
+}
+
+// A line of one field.
+pub fn put_line(out: &mut [u8], at: usize, word: &[u8], x: u64) -> usize
+    requires { at + length word.now + 21 < 2 ^ 64 }
+    ensures { Wrote out.old at (field word.now x ++ line_end) out.new result }
+{
+    let p = put_field(out, at, word, x);
+    put(out, p, b'\n')
+}
+
+// A line of three.
+pub fn put_three(
+    out: &mut [u8],
+    at: usize,
+    first: (&[u8], u64),
+    second: (&[u8], u64),
+    third: (&[u8], u64),
+) -> usize
+    requires { at + length first.0.now + length second.0.now + length third.0.now + 61 < 2 ^ 64 }
+    ensures { Wrote out.old at
+        (field first.entry.0.now first.entry.1 ++ field second.entry.0.now second.entry.1
+        ++ field third.entry.0.now third.entry.1 ++ line_end) out.new result }
+{
+    let p = put_field(out, at, first.0, first.1);
+    let q = put_field(out, p, second.0, second.1);
+    put_line(out, q, third.0, third.1)
 }

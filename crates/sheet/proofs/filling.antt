@@ -1,3 +1,2 @@
 pub mod Bids
-pub mod Filled
 pub mod Rows

@@ -1,4 +1,3 @@
-pub mod Answers
 pub mod Bids
 pub mod Maps
 pub mod Rooms

@@ -1,6 +1,6 @@
 pub mod Filling
 pub mod Laid
-pub mod Over
 pub mod Passes
+pub mod Put
 pub mod Taken
 pub mod Wrote

@@ -1,22 +1,32 @@
--- What taking a field promises. Nothing that `sheet::read` promises depends on this file.
-use Rattle.std.specs.Prelude.{ℕ, ◌+◌, ◌*◌, ◌≤◌, ◌<◌, List, ◌≡◌, length}
+-- What taking fields promises. Nothing that `sheet::read` promises depends on this file.
+use Rattle.std.specs.Prelude.{ℕ, ◌+◌, ◌*◌, ◌≤◌, ◌<◌, Bool, List, ◌≡◌, length}
+use Rattle.model.specs.Counting.{some}
 use Rattle.model.specs.sheet.Fields.{little_endian}
-use Rattle.model.specs.sheet.Content.{guests, stations}
+use Rattle.model.specs.sheet.Rows.{is_empty}
 use Rattle.sheet.specs.declared.fields.Cursor.{Cursor}
 
--- the field of k bytes at p is x, and `to` is the place after it
-pub record Taken (s : List ℕ) (p k x : ℕ) (to : Cursor) : Type 0 where
-  pub value : x ≡ little_endian s p k
-  pub place : to.at ≡ p + k
+-- at the start of the sheet s
+pub record Started (s : List ℕ) (to : Cursor) : Type 0 where
+  pub place : to.at ≡ 0
+  pub sheet : to.sheet.now ≡ s
 
--- the counts of a sheet, and the place after them
-pub record HeaderTaken (s : List ℕ) (n m : ℕ) (to : Cursor) : Type 0 where
-  pub n_is : n ≡ guests s
-  pub m_is : m ≡ stations s
-  pub place : to.at ≡ 4
+-- k bytes on in the same sheet
+pub record Moved (from : Cursor) (k : ℕ) (to : Cursor) : Type 0 where
+  pub place : to.at ≡ from.at + k
+  pub sheet : to.sheet.now ≡ from.sheet.now
 
--- of n fields of 4 bytes from p on the first k are whole; where these are not all, the sheet ends inside the next
-pub record Whole (s : List ℕ) (p n k : ℕ) : Type 0 where
+-- the field of the next k bytes is x
+pub record Taken (from : Cursor) (k x : ℕ) (to : Cursor) : Type 0 where
+  pub value : x ≡ little_endian from.sheet.now from.at k
+  pub moved : Moved from k to
+
+-- whether one of the next k bids is 0
+pub record Scanned (from : Cursor) (k : ℕ) (empty : Bool) (to : Cursor) : Type 0 where
+  pub found : empty ≡ some k (λ i. is_empty from.sheet.now (from.at + 4 * i))
+  pub moved : Moved from (4 * k) to
+
+-- of the next n fields of 4 bytes the first k are whole; where these are not all, the sheet ends inside the next
+pub record Whole (from : Cursor) (n k : ℕ) : Type 0 where
   pub few : k ≤ n
-  pub within : p + 4 * k ≤ length s
-  pub ends : k < n → length s < p + 4 * k + 4
+  pub within : from.at + 4 * k ≤ length from.sheet.now
+  pub ends : k < n → length from.sheet.now < from.at + 4 * k + 4

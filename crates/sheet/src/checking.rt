@@ -6,36 +6,28 @@ ghost use Rattle.model.specs.sheet.Content.{guests as guestsOf, stations as stat
 
 use crate::fields::Cursor;
 use crate::passes;
-use crate::passes::Step;
-use model::answers::Reading;
+use model::answers::Counts;
 use model::limits;
 use model::refusal::Refusal;
 
-pub fn check(s: &[u8]) -> Reading
-    ensures { answer_of_reading result ≡ giving (first_fault (sheet_faults s.now))
-        (guestsOf s.now, stationsOf s.now) }
+pub fn check(sheet: &[u8]) -> Result<Counts, Refusal>
+    ensures { answer_of_reading result ≡ giving (first_fault (sheet_faults sheet.now))
+        (guestsOf sheet.now, stationsOf sheet.now) }
 {
-    let start = Cursor::start();
-    if start.ends(s, 4) {
-        return Reading::Refused(Refusal::SheetEnds);
-    }
-    let header = start.header(s);
-    let guests = header.guests;
-    let stations = header.stations;
+    let start = Cursor::new(sheet);
+    start.needs(4)?;
+    let (guests, next) = start.two();
+    let (stations, header_end) = next.two();
+    let guests = usize::from(guests);
+    let stations = usize::from(stations);
     if limits::counts_out_of_range(guests, stations) {
-        return Reading::Refused(Refusal::CountsOutOfRange);
+        return Err(Refusal::CountsOutOfRange);
     }
-    let c = header.next;
-    if c.ends(s, 6 * stations) {
-        return Reading::Refused(Refusal::SheetEnds);
+    header_end.needs(6 * stations)?;
+    let rows = header_end.skip(6 * stations);
+    let end = passes::check_rows(rows, guests, stations)?;
+    if !end.at_end() {
+        return Err(Refusal::TrailingBytes);
     }
-    match passes::check_rows(s, c.skip(6 * stations), guests, stations) {
-        Step::Next(end) => {
-            if end.ends(s, 1) {
-                return Reading::Read { guests, stations };
-            }
-            Reading::Refused(Refusal::TrailingBytes)
-        }
-        Step::Fault(r) => Reading::Refused(r),
-    }
+    Ok(Counts { guests, stations })
 }

@@ -1,172 +1,120 @@
 // The fields of a sheet: numbers of 2 and of 4 bytes and bit maps, each with the place after it. What is required is
 // that the sheet does not end inside the field that is taken.
-ghost use Rattle.std.specs.Prelude.{◌+◌, ◌*◌, ◌^◌, ◌<◌, ◌≤◌, ◌≡◌, length};
+ghost use Rattle.std.specs.Prelude.{◌+◌, ◌*◌, ◌<◌, ◌≤◌, ◌≡◌, length, slice_range, IfErr, OnOk};
 ghost use Rattle.model.specs.Limits.{max_stations};
-ghost use Rattle.model.specs.Counting.{◌<?◌};
-ghost use Rattle.model.specs.sheet.Fields.{little_endian, map_width};
-ghost use Rattle.sheet.specs.Taken.{Taken, HeaderTaken, Whole};
+ghost use Rattle.model.specs.Counting.{◌≤?◌};
+ghost use Rattle.model.specs.declared.refusal.Refusal.TheVariants.{SheetEnds};
+ghost use Rattle.model.specs.sheet.Fields.{map_width};
 
-// The place reached in a sheet. One is made at the sheet's start; all others come from it, by what is taken.
+use model::refusal::Refusal;
+
+// A sheet, and the place reached in it. Each place comes from the one before, by what is taken there.
 #[derive(Clone, Copy)]
-pub struct Cursor {
+pub struct Cursor<'a> {
+    sheet: &'a [u8],
     at: usize,
+    ghost within: { at ≤ length sheet.now },
 }
 
-// What the cursor takes, with the place after it.
-#[derive(Clone, Copy)]
-pub struct Short {
-    pub value: u16,
-    pub next: Cursor,
-}
+impl<'a> Cursor<'a> {
+    ghost use Rattle.sheet.specs.Taken.{Started, Moved, Taken, Whole};
 
-#[derive(Clone, Copy)]
-pub struct Long {
-    pub value: u32,
-    pub next: Cursor,
-}
-
-#[derive(Clone, Copy)]
-pub struct Map {
-    pub bits: u64,
-    pub next: Cursor,
-}
-
-#[derive(Clone, Copy)]
-pub struct Header {
-    pub guests: usize,
-    pub stations: usize,
-    pub next: Cursor,
-}
-
-// A byte, wide enough to be added up.
-fn wide(x: u8) -> u64
-    ensures { (result ≡ x) × (result < 256) }
-{
-    x as u64
-}
-
-// The number that the k bytes from at hold, lowest byte first.
-fn number(s: &[u8], at: usize, k: usize) -> u64
-    requires { (k ≤ 5) × (at + k ≤ length s.now) }
-    ensures { result ≡ little_endian s.now at k }
-{
-    let mut x: u64 = 0;
-    let mut left = k;
-    while 0 < left {
-        left -= 1;
-        x = x * 256 + wide(s[at + left]);
-    }
-    x
-}
-
-// The number that the 5 bytes from at hold: they are taken at once.
-fn five(s: &[u8], at: usize) -> u64
-    requires { at + 5 ≤ length s.now }
-    ensures { result ≡ little_endian s.now at 5 }
-{
-    wide(s[at])
-        + 256 * wide(s[at + 1])
-        + 65_536 * wide(s[at + 2])
-        + 16_777_216 * wide(s[at + 3])
-        + 4_294_967_296 * wide(s[at + 4])
-}
-
-// The number that the k bytes of a map hold. The widest maps are those of large markets.
-fn map_number(s: &[u8], at: usize, k: usize) -> u64
-    requires { (k ≤ 5) × (at + k ≤ length s.now) }
-    ensures { result ≡ little_endian s.now at k }
-{
-    if k == 5 {
-        return five(s, at);
-    }
-    number(s, at, k)
-}
-
-impl Cursor {
-    pub fn start() -> Cursor
-        ensures { result.at ≡ 0 }
+    // At the sheet's start.
+    pub fn new(sheet: &'a [u8]) -> Cursor<'a>
+        ensures { Started sheet.now result }
     {
-        Cursor { at: 0 }
+        Cursor { sheet, at: 0 }
     }
 
-    // Whether the sheet ends inside the next k bytes.
-    pub fn ends(self, s: &[u8], k: usize) -> bool
-        requires { self.at ≤ length s.now }
-        ensures { result ≡ (length s.now <? self.at + k) }
+    // Refuses where the sheet ends inside the next k bytes.
+    pub fn needs(self, k: usize) -> Result<(), Refusal>
+        ensures ends { IfErr result (λ refusal. (refusal ≡ SheetEnds)
+            × (length self.entry.sheet.now < self.entry.at + k)) }
+        ensures enough { OnOk result (self.entry.at + k ≤ length self.entry.sheet.now) }
     {
-        s.len() - self.at < k
+        if self.sheet.len() - self.at < k {
+            return Err(Refusal::SheetEnds);
+        }
+        Ok(())
+    }
+
+    // Whether it ends here.
+    pub fn at_end(self) -> bool
+        ensures { result ≡ (length self.entry.sheet.now ≤? self.entry.at) }
+    {
+        self.at == self.sheet.len()
     }
 
     // How many of this many fields of 4 bytes the sheet does not end inside.
-    pub fn whole(self, s: &[u8], fields: usize) -> usize
-        requires { self.at ≤ length s.now }
-        ensures { Whole s.now self.at fields result }
+    pub fn whole(self, fields: usize) -> usize
+        ensures { Whole self.entry fields result }
     {
-        let most = (s.len() - self.at) / 4;
-        if most < fields {
-            return most;
-        }
-        fields
+        fields.min((self.sheet.len() - self.at) / 4)
     }
 
     // Past k bytes.
-    pub fn skip(self, k: usize) -> Cursor
-        requires { self.at + k < 2 ^ 64 }
-        ensures { result.at ≡ self.at + k }
+    pub fn skip(self, k: usize) -> Cursor<'a>
+        requires { self.at + k ≤ length self.sheet.now }
+        ensures { Moved self.entry k result }
     {
-        Cursor { at: self.at + k }
+        Cursor {
+            sheet: self.sheet,
+            at: self.at + k,
+        }
+    }
+
+    // The next N bytes.
+    fn bytes<const N: usize>(self) -> ([u8; N], Cursor<'a>)
+        requires { self.at + N ≤ length self.sheet.now }
+        ensures { (result.0 ≡ slice_range self.entry.sheet.now self.entry.at (self.entry.at + N))
+            × Moved self.entry N result.1 }
+    {
+        let mut bytes = [0; N];
+        bytes.copy_from_slice(&self.sheet[self.at..self.at + N]);
+        (bytes, self.skip(N))
     }
 
     // A field of 2 bytes.
-    pub fn two(self, s: &[u8]) -> Short
-        requires { self.at + 2 ≤ length s.now }
-        ensures { Taken s.now self.at 2 result.value result.next }
+    pub fn two(self) -> (u16, Cursor<'a>)
+        requires { self.at + 2 ≤ length self.sheet.now }
+        ensures { Taken self.entry 2 result.0 result.1 }
     {
-        let at = self.at;
-        Short {
-            value: (wide(s[at]) + 256 * wide(s[at + 1])) as u16,
-            next: self.skip(2),
-        }
+        let (bytes, next) = self.bytes();
+        (u16::from_le_bytes(bytes), next)
     }
 
-    // A field of 4 bytes, in one sum: a loop over fields then takes several a step.
-    pub fn four(self, s: &[u8]) -> Long
-        requires { self.at + 4 ≤ length s.now }
-        ensures { Taken s.now self.at 4 result.value result.next }
+    // A field of 4 bytes.
+    pub fn four(self) -> (u32, Cursor<'a>)
+        requires { self.at + 4 ≤ length self.sheet.now }
+        ensures { Taken self.entry 4 result.0 result.1 }
     {
-        let at = self.at;
-        let low = wide(s[at]) + 256 * wide(s[at + 1]);
-        Long {
-            value: (low + 65_536 * wide(s[at + 2]) + 16_777_216 * wide(s[at + 3])) as u32,
-            next: self.skip(4),
-        }
+        let (bytes, next) = self.bytes();
+        (u32::from_le_bytes(bytes), next)
     }
 
-    // The two counts.
-    pub fn header(self, s: &[u8]) -> Header
-        requires { (self.at ≡ 0) × (4 ≤ length s.now) }
-        ensures { HeaderTaken s.now result.guests result.stations result.next }
+    // The number that the next N bytes hold.
+    fn number<const N: usize>(self) -> (u64, Cursor<'a>)
+        requires { (N ≤ 8) × (self.at + N ≤ length self.sheet.now) }
+        ensures { Taken self.entry N result.0 result.1 }
     {
-        let n = self.two(s);
-        let m = n.next.two(s);
-        let next = m.next;
-        Header {
-            guests: n.value as usize,
-            stations: m.value as usize,
-            next,
-        }
+        let mut word = [0; 8];
+        let (bytes, next) = self.bytes::<N>();
+        word[..N].copy_from_slice(&bytes);
+        (u64::from_le_bytes(word), next)
     }
 
     // A bit map.
-    pub fn map(self, s: &[u8], stations: usize) -> Map
-        requires { (stations ≤ max_stations) × (self.at + map_width stations ≤ length s.now) }
-        ensures { Taken s.now self.at (map_width stations) result.bits result.next }
+    pub fn map(self, stations: usize) -> (u64, Cursor<'a>)
+        requires { (stations ≤ max_stations) × (self.at + map_width stations ≤ length self.sheet.now) }
+        ensures { Taken self.entry (map_width stations) result.0 result.1 }
     {
-        let at = self.at;
-        let k = map_width(stations);
-        Map {
-            bits: map_number(s, at, k),
-            next: self.skip(k),
+        match map_width(stations) {
+            0 => (0, self),
+            1 => self.number::<1>(),
+            2 => self.number::<2>(),
+            3 => self.number::<3>(),
+            4 => self.number::<4>(),
+            _ => self.number::<5>(),
         }
     }
 }
@@ -176,5 +124,5 @@ pub fn map_width(stations: usize) -> usize
     requires { stations ≤ max_stations }
     ensures { result ≡ map_width stations }
 {
-    (stations + 7) / 8
+    stations.div_ceil(8)
 }

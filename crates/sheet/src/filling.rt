@@ -4,146 +4,87 @@ ghost use Rattle.std.specs.Prelude.{◌+◌, ◌*◌, ◌^◌, ◌<◌, ◌≤�
 ghost use Rattle.model.specs.Limits.{max_stations};
 ghost use Rattle.model.specs.Counting.{count};
 ghost use Rattle.model.specs.Verdicts.{accepted, first_fault};
-ghost use Rattle.model.specs.sheet.Fields.{little_endian, has_bit};
-ghost use Rattle.model.specs.sheet.Rows.{row_at, bid_by, rows_faults};
-ghost use Rattle.sheet.specs.Filling.{placed, StationsFilled, RowFilled, RowsFilled};
+ghost use Rattle.model.specs.sheet.Fields.{has_bit};
+ghost use Rattle.model.specs.sheet.Rows.{row_at, rows_faults};
+ghost use Rattle.sheet.specs.Filling.{StationsFilled, AllFilled, RowFilled, RowsFilled};
 
 use crate::fields::Cursor;
-use model::word::Step;
 
 // The asks and bays of all stations.
-pub fn fill_stations(
-    s: &[u8],
-    c: Cursor,
-    stations: usize,
-    asks: &mut [u32],
-    bays: &mut [u16],
-) -> Cursor
-    requires { (c.at ≡ 4) × (4 + 6 * stations ≤ length s.now) × (stations ≤ length asks.old)
-        × (stations ≤ length bays.old) }
-    ensures { StationsFilled s.now stations asks.old bays.old result
-        asks.new bays.new }
+pub fn fill_stations<'a>(mut cursor: Cursor<'a>, asks: &mut [u32], bays: &mut [u16]) -> Cursor<'a>
+    requires { (length bays.old ≡ length asks.old) × (cursor.at ≡ 4)
+        × (4 + 6 * length asks.old ≤ length cursor.sheet.now) }
+    ensures { StationsFilled cursor.entry (length asks.old) asks.new bays.new result }
 {
-    let mut d = c;
-    let mut j = 0;
-    while j < stations {
-        let ask = d.four(s);
-        let bay = ask.next.two(s);
-        asks[j] = ask.value;
-        bays[j] = bay.value;
-        d = bay.next;
-        j += 1;
+    for j in 0..asks.len() {
+        let (ask, next) = cursor.four();
+        asks[j] = ask;
+        let (count, next) = next.two();
+        bays[j] = count;
+        cursor = next;
     }
-    d
+    cursor
 }
 
-// No bids at the places from base on.
-fn clear_row(stations: usize, base: usize, bids: &mut [u32])
-    requires { base + stations ≤ length bids.old }
-    ensures { bids.new ≡ placed base stations (λ _. 0) bids.old }
+// The bids of a row where the bits of all stations are set.
+fn fill_all<'a>(mut cursor: Cursor<'a>, row: &mut [u32]) -> Cursor<'a>
+    requires { cursor.at + 4 * length row.old ≤ length cursor.sheet.now }
+    ensures { AllFilled cursor.entry (length row.old) row.new result }
 {
-    let mut j = 0;
-    while j < stations {
-        bids[base + j] = 0;
-        j += 1;
+    for bid in row.iter_mut() {
+        let (value, next) = cursor.four();
+        *bid = value;
+        cursor = next;
     }
+    cursor
 }
 
-// The bids of a row whose bits are set for some stations, to the places from base on: a field for each set bit, the
-// lowest first.
-fn fill_some(
-    s: &[u8],
-    c: Cursor,
-    bits: u64,
-    stations: usize,
-    base: usize,
-    bids: &mut [u32],
-) -> Cursor
-    requires { (stations ≤ max_stations) × (bits < 2 ^ stations)
-        × (c.at + 4 * count stations (has_bit bits) ≤ length s.now) × (base + stations ≤ length bids.old) }
-    ensures { RowFilled (c.at + 4 * count stations (has_bit bits)) base stations
-        (bid_by s.now bits c.at) bids.old result bids.new }
+// The bids of a row whose bits are set for some stations: a field for each set bit, the lowest first.
+fn fill_some<'a>(mut cursor: Cursor<'a>, map: u64, row: &mut [u32]) -> Cursor<'a>
+    requires { (length row.old ≤ max_stations) × (map < 2 ^ length row.old)
+        × (cursor.at + 4 * count (length row.old) (has_bit map) ≤ length cursor.sheet.now) }
+    ensures { RowFilled cursor.entry map (length row.old) row.new result }
 {
-    clear_row(stations, base, bids);
-    let mut d = c;
-    let mut left = bits;
-    loop {
-        match words::step(left) {
-            Step::Place { place, rest } => {
-                let bid = d.four(s);
-                bids[base + place] = bid.value;
-                d = bid.next;
-                left = rest;
-            }
-            Step::End => {
-                return d;
-            }
-        }
+    row.fill(0);
+    for place in words::set_bits(map) {
+        let (bid, next) = cursor.four();
+        row[place] = bid;
+        cursor = next;
     }
+    cursor
 }
 
-// The same where the bits of all stations are set.
-fn fill_all(s: &[u8], c: Cursor, stations: usize, base: usize, bids: &mut [u32]) -> Cursor
-    requires { (c.at + 4 * stations ≤ length s.now) × (base + stations ≤ length bids.old) }
-    ensures { RowFilled (c.at + 4 * stations) base stations
-        (λ j. little_endian s.now (c.at + 4 * j) 4)
-        bids.old result bids.new }
+fn fill_row<'a>(cursor: Cursor<'a>, map: u64, row: &mut [u32]) -> Cursor<'a>
+    requires { (length row.old ≤ max_stations) × (map < 2 ^ length row.old)
+        × (cursor.at + 4 * count (length row.old) (has_bit map) ≤ length cursor.sheet.now) }
+    ensures { RowFilled cursor.entry map (length row.old) row.new result }
 {
-    let mut d = c;
-    let mut j = 0;
-    while j < stations {
-        let field = d.four(s);
-        bids[base + j] = field.value;
-        d = field.next;
-        j += 1;
+    if words::count(map) == row.len() {
+        fill_all(cursor, row)
+    } else {
+        fill_some(cursor, map, row)
     }
-    d
-}
-
-fn fill_row(
-    s: &[u8],
-    c: Cursor,
-    bits: u64,
-    stations: usize,
-    base: usize,
-    bids: &mut [u32],
-) -> Cursor
-    requires { (stations ≤ max_stations) × (bits < 2 ^ stations)
-        × (c.at + 4 * count stations (has_bit bits) ≤ length s.now) × (base + stations ≤ length bids.old) }
-    ensures { RowFilled (c.at + 4 * count stations (has_bit bits)) base stations
-        (bid_by s.now bits c.at) bids.old result bids.new }
-{
-    if words::count(bits) == stations {
-        return fill_all(s, c, stations, base, bids);
-    }
-    fill_some(s, c, bits, stations, base, bids)
 }
 
 // The amounts, tickets and bids of all guests.
 pub fn fill_rows(
-    s: &[u8],
-    c: Cursor,
-    guests: usize,
+    mut cursor: Cursor<'_>,
     stations: usize,
     amounts: &mut [u16],
     tickets: &mut [u32],
     bids: &mut [u32],
 )
-    requires { (stations ≤ max_stations) × (c.at ≡ row_at s.now stations 0)
-        × (first_fault (rows_faults s.now stations guests) ≡ accepted tt) × (guests ≤ length amounts.old)
-        × (guests ≤ length tickets.old) × (guests * stations ≤ length bids.old) }
-    ensures { RowsFilled s.now guests stations amounts.old tickets.old
-        bids.old amounts.new tickets.new bids.new }
+    requires { (stations ≤ max_stations) × (cursor.at ≡ row_at cursor.sheet.now stations 0)
+        × (first_fault (rows_faults cursor.sheet.now stations (length amounts.old)) ≡ accepted tt)
+        × (length tickets.old ≡ length amounts.old) × (length bids.old ≡ length amounts.old * stations) }
+    ensures { RowsFilled cursor.entry.sheet.now (length amounts.old) stations amounts.new tickets.new bids.new }
 {
-    let mut d = c;
-    let mut i = 0;
-    while i < guests {
-        let amount = d.two(s);
-        let ticket = amount.next.four(s);
-        let map = ticket.next.map(s, stations);
-        amounts[i] = amount.value;
-        tickets[i] = ticket.value;
-        d = fill_row(s, map.next, map.bits, stations, i * stations, bids);
-        i += 1;
+    for i in 0..amounts.len() {
+        let (amount, next) = cursor.two();
+        amounts[i] = amount;
+        let (ticket, next) = next.four();
+        tickets[i] = ticket;
+        let (map, next) = next.map(stations);
+        cursor = fill_row(next, map, &mut bids[i * stations..(i + 1) * stations]);
     }
 }

@@ -1,2 +1,4 @@
-mod Answers
+mod Asked
+mod BothRounds
+mod LaidRow
 mod TriedRow

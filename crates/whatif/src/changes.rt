@@ -2,27 +2,48 @@
 ghost use Rattle.std.specs.Prelude.{cond, ◌≡◌, length, get_or};
 ghost use Rattle.model.specs.Counting.{◌=?◌};
 ghost use Rattle.model.specs.market.Changes.{seat_change, changes as changesOf};
+ghost use Rattle.whatif.specs.Changes.{number_of};
 
-// 1 becomes seated, 2 becomes unseated, 0 neither.
-fn seat_change(before: u16, after: u16) -> u8
-    ensures { result ≡ seat_change before after }
-{
-    if before == 0 {
-        if after == 0 { 0 } else { 1 }
-    } else {
-        if after == 0 { 2 } else { 0 }
+// What happens to a guest's seat.
+#[derive(Clone, Copy)]
+enum SeatChange {
+    Neither,
+    Seated,
+    Unseated,
+}
+
+// The byte that stands for it in the lent table.
+impl From<SeatChange> for u8 {
+    ghost from_gives = { λ change number. number ≡ number_of change };
+
+    fn from(change: SeatChange) -> u8 {
+        match change {
+            SeatChange::Neither => 0,
+            SeatChange::Seated => 1,
+            SeatChange::Unseated => 2,
+        }
     }
 }
 
-// 0 for the guest whose row is another.
-fn change(guest: usize, k: usize, before: u16, after: u16) -> u8
-    ensures { result ≡ cond (k =? guest) 0 (seat_change before after) }
+fn seat_change(before: u16, after: u16) -> SeatChange
+    ensures { number_of result ≡ seat_change before after }
+{
+    match (before, after) {
+        (0, 0) => SeatChange::Neither,
+        (0, _) => SeatChange::Seated,
+        (_, 0) => SeatChange::Unseated,
+        _ => SeatChange::Neither,
+    }
+}
+
+// Neither for the guest whose row is another.
+fn change(guest: usize, k: usize, before: u16, after: u16) -> SeatChange
+    ensures { number_of result ≡ cond (k =? guest) 0 (seat_change before after) }
 {
     if k == guest {
-        0
-    } else {
-        seat_change(before, after)
+        return SeatChange::Neither;
     }
+    seat_change(before, after)
 }
 
 pub fn tell_changes(before: &[u16], after: &[u16], guest: usize, changes: &mut [u8])
@@ -30,9 +51,7 @@ pub fn tell_changes(before: &[u16], after: &[u16], guest: usize, changes: &mut [
     ensures { changes.new ≡ changesOf (length before.now)
         (λ k. get_or before.now k 0) (λ k. get_or after.now k 0) guest }
 {
-    let mut k = 0;
-    while k < before.len() {
-        changes[k] = change(guest, k, before[k], after[k]);
-        k += 1;
+    for (k, place) in changes.iter_mut().enumerate() {
+        *place = u8::from(change(guest, k, before[k], after[k]));
     }
 }

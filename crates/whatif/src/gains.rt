@@ -13,31 +13,13 @@ fn obtained(worths: &[u32], station: u16, amount: u16) -> Mills
     if station == 0 {
         return Mills(0);
     }
-    let worth = worths[(station - 1) as usize];
-    UnitPrice(worth).times(amount as u32)
+    UnitPrice(worths[usize::from(station - 1)]).times(u32::from(amount))
 }
 
 // Both terms are below 2 to the 48th, so that the difference fits.
-fn gain(worths: &[u32], station: u16, amount: u16, charge: u32) -> i64
+pub fn gain(worths: &[u32], station: u16, amount: u16, charge: u32) -> i64
     requires { station ≤ length worths.now }
     ensures { result ≡ gain_from worths.now station amount charge }
 {
-    let worth = obtained(worths, station, amount);
-    worth.0 as i64 - charge as i64
-}
-
-// Of a guest, counted from 0, in a round that came to these stations and charges.
-pub fn gain_in(
-    worths: &[u32],
-    amounts: &[u16],
-    stations: &[u16],
-    charges: &[u32],
-    guest: usize,
-) -> i64
-    requires { (guest < length amounts.now) × (length stations.now ≡ length amounts.now)
-        × (length charges.now ≡ length amounts.now) × (get_or stations.now guest 0 ≤ length worths.now) }
-    ensures { result ≡ gain_from worths.now (get_or stations.now guest 0)
-        (get_or amounts.now guest 0) (get_or charges.now guest 0) }
-{
-    gain(worths, stations[guest], amounts[guest], charges[guest])
+    obtained(worths, station, amount).0 as i64 - i64::from(charge)
 }

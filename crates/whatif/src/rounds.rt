@@ -1,46 +1,39 @@
 // The truthful rounds of two markets that differ in their bids alone, under one rule: they share the cut and the least
 // charges.
 ghost use Rattle.std.specs.Prelude.{◌≡◌, length};
-ghost use Rattle.model.specs.claims.Meaning.{WithinLimits};
 ghost use Rattle.model.specs.market.Outcome.{outcome};
-ghost use Rattle.model.specs.clauses.Lent.{regular_of, regular_in};
 ghost use Rattle.allocation.specs.Assignment.{Assigned};
 
 use allocation::assignment;
+use model::lent::AcceptedMarket;
+use model::limits::MAX_GUESTS;
 use model::rule::Rule;
 use pricing::{charges, cut};
 
-// With room for each guest's least charge, and each round's stations and charges.
+// The station and the charge of each guest there is, of a market as it is and of another. They go to places that are
+// lent: tables that are returned are copied on the stack.
 pub fn both_rounds(
     rule: Rule,
-    asks: &[u32],
-    bays: &[u16],
-    amounts: &[u16],
-    tickets: &[u32],
-    bids: &[u32],
-    other: &[u32],
-    least: &mut [u32],
+    market: &AcceptedMarket<'_>,
+    other: &AcceptedMarket<'_>,
     stations: &mut [u16],
     charges: &mut [u32],
-    stations2: &mut [u16],
-    charges2: &mut [u32],
+    other_stations: &mut [u16],
+    other_charges: &mut [u32],
 )
-    requires within_limits { WithinLimits (regular_of asks bays amounts tickets bids)
-        × WithinLimits (regular_of asks bays amounts tickets other) }
-    requires least_len { (length least.old ≡ length amounts.now) × (length stations.old ≡ length amounts.now)
-        × (length charges.old ≡ length amounts.now) × (length stations2.old ≡ length amounts.now)
-        × (length charges2.old ≡ length amounts.now) }
-    ensures { Assigned (outcome rule (regular_in asks bays amounts tickets bids)) stations.new
-        charges.new
-        × Assigned (outcome rule (regular_in asks bays amounts tickets other)) stations2.new
-        charges2.new }
+    requires other { (other.now.asks ≡ market.now.asks) × (other.now.amounts ≡ market.now.amounts) }
+    requires room { (length stations.old ≡ length market.now.amounts)
+        × (length charges.old ≡ length market.now.amounts) }
+    requires other_room { (length other_stations.old ≡ length other.now.amounts)
+        × (length other_charges.old ≡ length other.now.amounts) }
+    ensures { Assigned (outcome rule market.now) stations.new charges.new
+        × Assigned (outcome rule other.now) other_stations.new other_charges.new }
 {
-    let cut = cut::cut(rule, asks);
-    charges::least_charges(amounts, cut, least);
-    assignment::assign_all(
-        asks, bays, amounts, tickets, bids, cut, least, stations, charges,
-    );
-    assignment::assign_all(
-        asks, bays, amounts, tickets, other, cut, least, stations2, charges2,
-    );
+    let n = market.amounts.len();
+    let cut = cut::cut(rule, market.asks);
+    let mut least = [0u32; MAX_GUESTS];
+    let least = &mut least[..n];
+    charges::least_charges(market.amounts, cut, least);
+    assignment::assign_all(market, cut, least, stations, charges);
+    assignment::assign_all(other, cut, least, other_stations, other_charges);
 }

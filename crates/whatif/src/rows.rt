@@ -9,6 +9,6 @@ pub fn lay_row(bids: &[u32], row: &[u32], guest: usize, table: &mut [u32])
     ensures { table.new ≡ paste bids.now (guest * length row.now)
         row.now (length row.now) }
 {
-    copies::put32(bids, 0, table);
-    copies::put32(row, guest * row.len(), table);
+    table.copy_from_slice(bids);
+    copies::put(row, guest * row.len(), table);
 }

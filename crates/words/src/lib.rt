@@ -1,35 +1,44 @@
-// The set bits of a word of 64 bits: how many there are, and the walk over their places from the lowest on.
+// The set bits of a word of 64 bits: how many there are, and their places from the lowest on.
 #![tactic(auto)]
 
 ghost use Rattle.std.specs.Prelude.{◌≡◌};
-ghost use Rattle.model.specs.Counting.{count as count_of};
+ghost use Rattle.std.specs.Iterator.{YieldsFirst, item_count};
+ghost use Rattle.model.specs.Counting.{count as count_of, passing};
 ghost use Rattle.model.specs.sheet.Fields.{has_bit};
-ghost use Rattle.model.specs.clauses.Steps.{Steps};
-
-use model::word::Step;
-
-// A number of bits, as a place.
-fn wide(bits: u32) -> usize
-    ensures { result ≡ bits }
-{
-    bits as usize
-}
 
 // How many bits are set.
 pub fn count(word: u64) -> usize
     ensures { result ≡ count_of 64 (has_bit word) }
 {
-    wide(u64::count_ones(word))
+    word.count_ones() as usize
 }
 
-// A step of the walk. The next one is made on the rest.
-pub fn step(word: u64) -> Step
-    ensures { Steps word result }
-{
-    if word == 0 {
-        return Step::End;
+// The places of the bits that are left.
+#[derive(Drop)]
+pub struct SetBits {
+    pub left: u64,
+}
+
+impl Iterator for SetBits {
+    type Item = usize;
+
+    ghost next_gives = { YieldsFirst (λ s. passing 64 (has_bit s.left)) };
+
+    ghost remaining = { item_count (λ s. passing 64 (has_bit s.left)) };
+
+    fn next(&mut self) -> Option<usize> {
+        if self.left == 0 {
+            return None;
+        }
+        let place = self.left.trailing_zeros() as usize;
+        self.left &= self.left - 1;
+        Some(place)
     }
-    let place = wide(u64::trailing_zeros(word));
-    let rest = word & (word - 1);
-    Step::Place { place, rest }
+}
+
+// The places of the set bits.
+pub fn set_bits(word: u64) -> SetBits
+    ensures { result.left ≡ word }
+{
+    SetBits { left: word }
 }

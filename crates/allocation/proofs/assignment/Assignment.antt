@@ -1,7 +1,7 @@
 -- Before the first station, and after the last.
 use Prim.Native.Nat.{ℕ, zero, suc, ◌+◌, ◌*◌, ◌≤◌, ◌<◌, max}
 use mathlib.Core.List.{List}
-use mathlib.Core.Path.{◌≡◌, refl, sym, ap, ap₂, ◌∙◌}
+use mathlib.Core.Path.{◌≡◌, refl, sym, ap, ap₂, subst, ◌∙◌}
 use native.Mathlib.Nat.{le_refl, le_antisymm}
 use native.Mathlib.Numerals.{add-one}
 use native.Mathlib.Omega.{arith}
@@ -15,7 +15,7 @@ use Rattle.allocation.specs.Screens.{screened_at}
 use Rattle.model.specs.claims.Meaning.{WithinLimits}
 use Rattle.model.proofs.Tests.{only_yes, only_no, only_le, is_lt, not_lt}
 use Rattle.model.proofs.Counting.{greatest_le, list_cong}
-use Rattle.model.proofs.Loops.{long, element, relist, zeros_are, in_table}
+use Rattle.model.proofs.Loops.{long, element, relist, zeros_are, zeros_long, in_table}
 use Rattle.model.proofs.market.Limits.{product}
 use Rattle.model.proofs.market.Outcomes.{ComesOf, numbered}
 use Rattle.model.specs.declared.rule.Rule.{Rule}
@@ -84,11 +84,25 @@ after_none {S} {n} h e = record {
     critical_none zero = refl
     critical_none (suc k) = only_no _ _ (not_lt _ _ (omega arith))
 
+-- before the first station, with fresh tables. The market is u by its lists and t by its view
+abbrev fresh : Tables → List ℕ
+fresh u = take (length u.amounts) (replicate {A = ℕ} max_guests 0)
+
+pub starts :
+    {t u : Tables} {c : ℕ} {criticals bounds : List ℕ} → u ≡ t → WithinLimits u
+    → (criticals ≡ list (max_stations + 1) (λ _. 0)) × (length bounds ≡ max_stations + 1)
+    → Turning t c 0 (fresh u) (fresh u) (fresh u) (fresh u) criticals × BoundedIn t c 0 bounds
+starts {t} {u} {c} {criticals} {bounds} e w h = subst
+    (λ (t : Tables). Turning t c 0 (fresh u) (fresh u) (fresh u) (fresh u) criticals × BoundedIn t c 0 bounds) e (
+      turning_none (sym (zeros_long max_guests _ w.shape.guests_most)) (after_none w.shape.guests_most h.0),
+      bounded_none h.1,
+    )
+
 -- at the cut of a rule
 pub at_cut :
     (rule : Rule) (t : Tables) {c : ℕ} {least : List ℕ} → WithinLimits t → c ≡ cut_ask rule t.asks
     → least ≡ list (length t.amounts) (least_at t.amounts c) → AtCut t c least
-at_cut rule t w e l = record { within = w; cut_low = cut_low rule t _ w e; least_are = l }
+at_cut rule t w e l = record { cut_low = cut_low rule t _ w e; least_are = l }
 
 -- lists that hold a decision: each guest's number of a station, and the critical total of each
 pub record Decided (t : Tables) (D : Decision) (chosen criticals : List ℕ) : Type 0 where
@@ -131,17 +145,17 @@ module _ (t : Tables) {c : ℕ} {least chosen criticals : List ℕ} (A : AtCut t
 
   -- what charging asks of the choices, and what it leaves
   pub chargeable :
-      {stations charges : List ℕ} → length stations ≡ length t.amounts → length charges ≡ length t.amounts
-      → Chargeable chosen least criticals stations charges
+      {stations charges : List ℕ} → WithinLimits t → length stations ≡ length t.amounts
+      → length charges ≡ length t.amounts → Chargeable chosen least criticals stations charges
   unfolding screened_at
-  chargeable ls lc =
+  chargeable w ls lc =
       let n = long _ _ d.chosen_are in
       record {
         least_long = long _ _ A.least_are ∙ sym n;
         stations_long = ls ∙ sym n;
         charges_long = lc ∙ sym n;
         numbers = λ k l. let lk : k < length t.amounts = omega arith in
-            rw (choice k lk) (numbered m A.within.shape.stations_most k lk);
+            rw (choice k lk) (numbered m w.shape.stations_most k lk);
         criticals_long = d.criticals_long;
       }
 

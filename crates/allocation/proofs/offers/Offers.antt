@@ -93,6 +93,17 @@ pub gain_left :
     → get_or gains i 0 ≤ max_total + 1
 gain_left {i = i} o h l = rw (h.gains_are.filled.left i (le_refl i)) (o.gains_low i (omega (arith, o.gains_long)))
 
+-- the best gain so far and the one of this offer, of the total x
+pub gains_low :
+    {totals tickets least : List ℕ} {t e s : ℕ} {chosen₀ gains₀ : List ℕ} {i : ℕ} {chosen gains : List ℕ}
+    (w : Bool) {x z g : ℕ} (c : ℕ)
+    → Offerable totals tickets least t e chosen₀ gains₀
+    → Offering totals tickets least t e s chosen₀ gains₀ i chosen gains → i < length totals
+    → x ≡ get_or totals i 0 → z ≡ get_or gains i 0 → g ≡ gain_for w x c
+    → (z ≤ max_total + 1) × (g ≤ max_total + 1)
+gains_low {i = i} w c o h l ex ez eg =
+    (rw ez (gain_left o h l), gain_low _ _ _ (omega (arith, o.totals_low i l)) eg)
+
 picked_max : (a b : ℕ) → max a b ≡ picked (a <? b) b a
 unfolding picked
 picked_max a b = ⊎_elim (λ (l : a < b). rw (is_lt a b l) (omega arith)) (λ (l : b ≤ a). rw (not_lt a b l) (omega arith))

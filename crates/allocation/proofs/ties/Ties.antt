@@ -1,18 +1,19 @@
 -- Counts of those at the critical total, and the bound on their tickets.
 use Prim.Native.Nat.{ℕ, ◌+◌, ◌-◌, ◌≤◌, ◌<◌}
-use mathlib.Core.Bool.{true}
+use mathlib.Core.Bool.{true, ◌&&◌}
 use mathlib.Core.List.{List}
-use mathlib.Core.Logic.{inl, inr, ⊎_elim}
+use mathlib.Core.Logic.{◌⊎◌, inl, inr, ⊎_elim}
 use mathlib.Core.Path.{◌≡◌, refl, sym, ap, ◌∙◌}
 use native.Mathlib.Nat.{le_refl, eq-or-lt_of_le}
 use native.Mathlib.Omega.{arith}
 use lib.ListN.{get_or, length}
-use Rattle.model.specs.Counting.{◌<?◌, ◌=?◌, ◌and◌, only}
+use lib.Dec.{eqb, ltb}
+use Rattle.model.specs.Counting.{◌<?◌, ◌=?◌, ◌and◌}
 use Rattle.model.specs.claims.Meaning.{Differ}
 use Rattle.model.proofs.Tests.{both, first, second, and_false, same_test, lt_yes, is_lt, not_lt, eq_yes}
-use Rattle.model.proofs.Tests.{is_eq, lt_or_le}
-use Rattle.model.proofs.Counting.{count_mono, count_strict, count_or, count_none, count_one, count_cong, count_step}
-use Rattle.model.proofs.Counting.{count_start, count_first, count_most}
+use Rattle.model.proofs.Tests.{is_eq, not_eq, lt_or_le}
+use Rattle.model.proofs.Counting.{count_mono, count_strict, count_or, count_none, count_one, count_cong}
+use Rattle.model.proofs.Counting.{count_start, count_first, count_most, count_yes, count_not}
 use Rattle.model.proofs.market.Acceptance.{same_place}
 use Rattle.checks.specs.Tickets.{rising}
 use Rattle.checks.proofs.tickets.Tickets.{rises}
@@ -21,14 +22,24 @@ use Rattle.allocation.specs.Ties.{ties, ties_below, TieBound}
 
 -- ---- those at t among the first i
 
+-- the code's test of a total and a ticket
+pub tied_is : (x t k e : ℕ) → (eqb x t && ltb k e) ≡ (x =? t and k <? e)
+unfolding ◌and◌ ◌=?◌ ◌<?◌
+tied_is x t k e = refl
+
 pub ties_none : (l : List ℕ) (t : ℕ) → 0 ≡ ties l t 0
 unfolding ties
 ties_none l t = sym (count_start (λ k. get_or l k 0 =? t))
 
+-- the next one is at t, or not
 pub ties_more :
-    (l : List ℕ) (t i s r : ℕ) → s ≡ ties l t i → r ≡ s + only (get_or l i 0 =? t) 1 → r ≡ ties l t (i + 1)
+    (l : List ℕ) (t i : ℕ) {s r : ℕ} → s ≡ ties l t i
+    → ((get_or l i 0 ≡ t) × (r ≡ s + 1)) ⊎ ((get_or l i 0 ≡ t → ⊥) × (r ≡ s)) → r ≡ ties l t (i + 1)
 unfolding ties
-ties_more l t i s r e h = omega (arith, count_step i (λ k. get_or l k 0 =? t))
+ties_more l t i e h = ⊎_elim
+    (λ (q, p). omega (arith, count_yes i (λ k. get_or l k 0 =? t) (is_eq _ _ q)))
+    (λ (q, p). omega (arith, count_not i (λ k. get_or l k 0 =? t) (not_eq _ _ q)))
+    h
 
 pub ties_most : (l : List ℕ) (t i : ℕ) → ties l t i ≤ i
 unfolding ties

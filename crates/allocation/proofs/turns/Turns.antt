@@ -9,27 +9,32 @@ use native.Mathlib.Numerals.{add-one}
 use native.Mathlib.Omega.{arith}
 use lib.ListN.{get_or, length, set, length-set}
 use lib.Seq.{get_or-set_same, get_or-set_other}
-use Rattle.model.specs.Limits.{max_stations}
+use Rattle.model.specs.Limits.{max_guests, max_stations}
 use Rattle.model.specs.Counting.{◌<?◌, ◌≤?◌, ◌and◌, only, list}
 use Rattle.model.specs.market.Market.{Tables, bid_at, Screened}
 use Rattle.model.specs.market.Market.{Queue, queue, provisional, critical}
+use Rattle.model.specs.claims.Meaning.{WithinLimits}
 use Rattle.model.specs.market.Mechanism.{at, better, best, surplus}
 use Rattle.allocation.specs.Screens.{screened_at}
 use Rattle.model.proofs.Tests.{clash, first, and_no, only_yes, only_no, only_le, le_yes, le_no, is_lt, not_lt, lt_or_le}
+use Rattle.model.proofs.Tests.{lt_yes, lt_no}
 use Rattle.model.proofs.Tests.{eq_or_ne, only_cong}
 use Rattle.model.proofs.Counting.{greatest_le, list_cong}
 use Rattle.model.proofs.market.Queues.{provisional_candidate}
-use Rattle.model.proofs.Loops.{long, element, is_list, relist, in_table}
-use Rattle.allocation.specs.Ties.{TieBound}
-use Rattle.allocation.specs.Totals.{max_total, Totals, total_for, total_at, Gathered}
-use Rattle.allocation.proofs.totals.Totals.{total_yes, total_no, total_low}
+use Rattle.model.proofs.Loops.{long, element, is_list, relist}
+use Rattle.checks.specs.Tickets.{rising as rising_of}
+use Rattle.allocation.specs.Ties.{TieBound, Tying}
+use Rattle.allocation.specs.Totals.{max_total, Totals, total_for, total_at, Gathered, GatheredAt}
+use Rattle.allocation.proofs.totals.Totals.{total_yes, total_no, as_many, total_at_low}
 use Rattle.model.proofs.market.Acceptance.{same_place}
 use Rattle.model.proofs.market.Limits.{product}
 use Rattle.allocation.specs.Selection.{above, LeastFew, Selected}
 use Rattle.allocation.proofs.selection.Selection.{above_greatest, selected_low}
 use Rattle.allocation.specs.Offers.{picked, won_by, gain_for, charge_at, gain_at, taken, Offerable, Offered}
 use Rattle.allocation.proofs.offers.Offers.{gain_low}
-use Rattle.allocation.specs.Stages.{AtCut, station_by, gain_by, critical_by, After, Bounded}
+use Rattle.allocation.specs.Stages.{AtCut, station_by, gain_by, critical_by, After, AfterIn, Bounded, BoundedIn}
+use Rattle.allocation.specs.Stages.{gathered_if, turn_totals}
+use Rattle.allocation.proofs.ties.Ties.{crowded}
 use Rattle.allocation.proofs.selection.Winners.{Shows, critical_is, provisional_is}
 
 -- ---- one guest's choice: gains are kept as one more, so that 0 is no station
@@ -194,8 +199,8 @@ module _ (t : Tables) (c j : ℕ) (h : c ≤ get_or t.asks j 0) where
 
 -- ---- the queue of an open station, and the totals that the code gathers
 
-module _ (t : Tables) (c : ℕ) (least : List ℕ) (A : AtCut t c least) (j : ℕ) (lj : j < length t.asks)
-    (op : get_or t.asks j 0 < c) where
+module _ (t : Tables) (c : ℕ) (least : List ℕ) (w : WithinLimits t) (A : AtCut t c least) (j : ℕ)
+    (lj : j < length t.asks) (op : get_or t.asks j 0 < c) where
   abbrev Q : Queue
   Q = queue (screened_at t c) j
 
@@ -212,10 +217,10 @@ module _ (t : Tables) (c : ℕ) (least : List ℕ) (A : AtCut t c least) (j : �
       some = λ k lk q. element _ _ gathered k lk ∙ sym (total_yes _ _ c (le_yes _ _ (sym (candidate_is k) ∙ q)));
       none = λ k lk q. element _ _ gathered k lk ∙ sym (total_no _ _ c (le_no _ _ (sym (candidate_is k) ∙ q)));
       real = λ k lk q. let b : c ≤ bid_at t k j = le_yes _ _ (sym (candidate_is k) ∙ q) in
-          positive _ _ (omega arith) (A.within.amount_least k lk);
+          positive _ _ (omega arith) (w.amount_least k lk);
       ticket = λ k. refl;
-      distinct = λ k i lk li e. same_place t.tickets A.within.tickets_differ k i
-          (omega (arith, A.within.shape.tickets_length)) (omega (arith, A.within.shape.tickets_length)) e;
+      distinct = λ k i lk li e. same_place t.tickets w.tickets_differ k i
+          (omega (arith, w.shape.tickets_length)) (omega (arith, w.shape.tickets_length)) e;
     }
       where
         positive : (x y : ℕ) → 1 ≤ x → 1 ≤ y → 0 < x * y
@@ -224,10 +229,7 @@ module _ (t : Tables) (c : ℕ) (least : List ℕ) (A : AtCut t c least) (j : �
     pub all_low : Totals totals
     all_low k lk =
         let l : k < length t.amounts = omega (arith, long _ _ gathered) in
-        rw (element _ _ gathered k l) (total_low _ _ c
-        (A.within.bid_most _
-        (omega (arith, A.within.shape.bids_length, in_table (length t.amounts) (length t.asks) k j l lj)))
-        (A.within.amount_most k l))
+        rw (element _ _ gathered k l) (total_at_low c k j w l lj)
 
     module _ (f b e : ℕ) (eb : b ≡ get_or t.bays j 0) (few : LeastFew totals b f)
         (tied : TieBound totals t.tickets f (above totals f) b e) where
@@ -273,7 +275,7 @@ module _ (t : Tables) (c : ℕ) (least : List ℕ) (A : AtCut t c least) (j : �
           → After (screened_at t c) (length t.amounts) (j + 1) chosen gains (set criticals s f)
       after_open_turn s es h o =
           after_offers (screened_at t c) (length t.amounts) j totals t.tickets least f e s _ _ _
-          (long _ _ gathered) es (omega (arith, A.within.shape.stations_most)) gain_here critical_here all_low h o
+          (long _ _ gathered) es (omega (arith, w.shape.stations_most)) gain_here critical_here all_low h o
 
       -- the bound is stored at the station's number
       won_there :
@@ -307,23 +309,23 @@ total_covers bid amount cut p = ⊎_elim
 
 pub offerable :
     (t : Tables) (c j : ℕ) {f a b e : ℕ} {least totals chosen gains criticals : List ℕ}
-    (A : AtCut t c least) → j < length t.asks
+    → WithinLimits t → AtCut t c least → j < length t.asks
     → totals ≡ list (length t.amounts) (total_at t.bids t.amounts (length t.asks) j c) → Totals totals
     → f ≤ max_total → TieBound totals t.tickets f a b e
     → After (screened_at t c) (length t.amounts) j chosen gains criticals
     → Offerable totals t.tickets least f e chosen gains
-offerable t c j {least = least} {totals} A lj g low fl tied a =
+offerable t c j {least = least} {totals} w A lj g low fl tied a =
     let n : length totals ≡ length t.amounts = long _ _ g in
     let m : length least ≡ length t.amounts = long _ _ A.least_are in
     record {
-      few = omega (arith, A.within.shape.guests_most);
-      tickets_long = A.within.shape.tickets_length ∙ sym n;
+      few = omega (arith, w.shape.guests_most);
+      tickets_long = w.shape.tickets_length ∙ sym n;
       least_long = m ∙ sym n;
       chosen_long = long _ _ a.chosen_are ∙ sym n;
       gains_long = long _ _ a.gains_are ∙ sym n;
       totals_low = low;
       least_low = λ k lk. let l : k < length t.amounts = omega arith in
-          rw (element _ _ A.least_are k l) (product _ _ A.cut_low (A.within.amount_most k l));
+          rw (element _ _ A.least_are k l) (product _ _ A.cut_low (w.amount_most k l));
       gains_low = λ k lk. a.gains_low k (omega (arith, long _ _ a.gains_are));
       critical_low = fl;
       covers = λ k lk p. let l : k < length t.amounts = omega arith in
@@ -344,3 +346,85 @@ module _ {n : ℕ} {f : ℕ → ℕ} {totals : List ℕ} {top : ℕ} (g : Gather
 
     pub critical_low : {b t a : ℕ} → Selected totals b t a → t ≤ max_total
     critical_low s = omega (arith, selected_low {top = top} s none_above, top_low)
+
+-- a station that is open, and the totals that are gathered for it. The market is u by its lists and t by its view
+pub record Opened (u : Tables) (c : ℕ) (least : List ℕ) (j : ℕ) (totals : List ℕ) (top : ℕ) : Type 0 where
+  pub within : WithinLimits u
+  pub at_cut : AtCut u c least
+  pub number : j < length u.asks
+  pub opens : get_or u.asks j 0 < c
+  pub gathered : GatheredAt u j c totals top
+  pub low : Totals totals
+
+pub opened :
+    {t u : Tables} {c : ℕ} {least : List ℕ} {j : ℕ} {totals : List ℕ} {top : ℕ} → u ≡ t → WithinLimits u
+    → AtCut t c least → j < length t.asks → (get_or u.asks j 0 <? c) ≡ true → GatheredAt u j c totals top
+    → Opened u c least j totals top
+opened {t} {u} {c} {least} {j} e w A lj o g =
+    let lu : j < length u.asks = omega (arith, as_many e) in
+    let A' : AtCut u c least = rw (e) A in
+    record {
+      within = w;
+      at_cut = A';
+      number = lu;
+      opens = lt_yes _ _ o;
+      gathered = g;
+      low = all_low u c least w A' j lu (lt_yes _ _ o) _ g.totals_are;
+    }
+
+module _ {u : Tables} {c : ℕ} {least : List ℕ} {j : ℕ} {totals : List ℕ} {top : ℕ}
+    (o : Opened u c least j totals top) where
+  pub few : length totals ≤ max_guests
+  few = omega (arith, long _ _ o.gathered.totals_are, o.within.shape.guests_most)
+
+  module _ {b t a : ℕ} (s : Selected totals b t a) where
+    pub total_low : t ≤ max_total
+    total_low = critical_low o.gathered o.low s
+
+    pub tying :
+        {v : Tables} (rising : Bool) → u ≡ v → rising ≡ rising_of v.tickets
+        → Tying totals u.tickets rising t a b
+    tying rising v r = record {
+      few = few;
+      as_long = o.within.shape.tickets_length ∙ sym (long _ _ o.gathered.totals_are);
+      differ = o.within.tickets_differ;
+      rise = rw (v) r;
+      low = total_low;
+      above_few = rw s.counted s.least_few.few;
+      crowded = crowded _ s;
+    }
+
+    module _ {e : ℕ} (tied : TieBound totals u.tickets t a b e) where
+      pub offered :
+          {v : Tables} {chosen gains criticals : List ℕ} → u ≡ v → AfterIn v c j chosen gains criticals
+          → Offerable totals u.tickets least t e chosen gains
+      offered {chosen = chosen} {gains} {criticals} v after =
+          let a : AfterIn u c j chosen gains criticals = rw (v) after in
+          offerable u c j o.within o.at_cut o.number o.gathered.totals_are o.low total_low tied a
+
+      pub turned :
+          {v : Tables} {chosen₀ gains₀ criticals chosen gains bounds : List ℕ} (entry : List ℕ) (n x : ℕ) → u ≡ v
+          → n ≡ j + 1 → b ≡ get_or u.bays j 0 → x ≡ t → AfterIn v c j chosen₀ gains₀ criticals
+          → BoundedIn v c j bounds → Offered totals u.tickets least t e n chosen₀ gains₀ chosen gains
+          → AfterIn v c (j + 1) chosen gains (set criticals n x)
+          × (totals ≡ turn_totals v c j entry) × BoundedIn v c (j + 1) (set bounds n e)
+      unfolding turn_totals gathered_if
+      turned entry n x v en eb ex after bounded of = rw (← v) (
+        rw ex (after_open_turn u c least o.within o.at_cut j o.number o.opens totals o.gathered.totals_are t b e eb
+            s.least_few (rw (← s.counted) tied) n en (rw (v) after) of),
+        rw (is_lt _ _ o.opens) o.gathered.totals_are,
+        bounded_open u c least o.within o.at_cut j o.number o.opens totals o.gathered.totals_are t b e eb s.least_few
+            (rw (← s.counted) tied) en (omega (arith, o.number, o.within.shape.stations_most)) (rw (v) bounded),
+      )
+
+-- a station that is not
+pub left :
+    {t u : Tables} (c j : ℕ) (entry : List ℕ) {chosen gains criticals bounds : List ℕ} → u ≡ t
+    → (get_or u.asks j 0 <? c) ≡ false → AfterIn t c j chosen gains criticals → BoundedIn t c j bounds
+    → AfterIn t c (j + 1) chosen gains criticals × (entry ≡ turn_totals t c j entry) × BoundedIn t c (j + 1) bounds
+unfolding turn_totals gathered_if
+left {t} {u} c j entry e o after bounded = rw (← e) (
+  after_closed u c j (lt_no _ _ o) _ (rw (e) after),
+  rw o refl,
+  bounded_closed u c j (lt_no _ _ o) _ (rw (e) bounded),
+)

@@ -1,11 +1,11 @@
-use mathlib.Core.Path.{sym, ◌∙◌}
-use Rattle.clearing.proofs.Answers.{unknown_clears, known_clears}
+use Rattle.std.proofs.lemmas.Result.{err_from_is_err_and}
+use Rattle.clearing.proofs.Answers.{unnamed_clears, named_clears}
 use Rattle.clearing.proofs.clear.Goals as goal
 
-pub returns-in-Unknown : goal.returns-in-Unknown
-returns-in-Unknown c = unknown_clears _ _ _ _ (sym c.in-Unknown.is ∙ c.named.ensures)
+pub returns-in_err-known : goal.returns-in_err-known
+returns-in_err-known c =
+    let p = err_from_is_err_and c.from_residual.result c.from_residual.ensures.1 in
+    rw (p.1, p.2) (unnamed_clears _ _ _ _ _ c.in_err-known.ensures)
 
-pub returns-in-Known : goal.returns-in-Known
-returns-in-Known c =
-    known_clears _ _ _ _ _ _ (sym c.in-Known.is ∙ c.named.ensures)
-    c.clear_under.ensures
+pub returns : goal.returns
+returns c = named_clears _ _ _ _ _ c.in_ok-known.ensures c.clear_under.ensures

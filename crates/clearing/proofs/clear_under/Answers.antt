@@ -1,20 +1,15 @@
-use Rattle.model.proofs.Verdicts.{told}
-use Rattle.clearing.proofs.Answers.{refused_clears, clear_accepts, clear_accepted_clears}
+use Rattle.std.proofs.lemmas.Result.{err_from_is_err_and}
+use Rattle.clearing.proofs.Answers.{refused_clears, accepted_clears, lists_fit}
 use Rattle.clearing.proofs.clear_under.Goals as goal
 
+pub returns-in_err-accepted : goal.returns-in_err-accepted
+returns-in_err-accepted c =
+    let p = err_from_is_err_and c.from_residual.result c.from_residual.ensures.1 in
+    rw (p.1, p.2) (refused_clears _ _ _ _ c.in_err-accepted.ensures.fault)
+
 pub clear_accepted-requires : goal.clear_accepted-requires
-clear_accepted-requires c =
-    let a = clear_accepts _ _ _ _ _ _ _
-    (told c.in-Accepted.is c.clearing_fault-verdict.ensures)
-    c.bids_through_view-table.ensures in
-    record { within_limits = a.within; right_lengths = a.fits }
+clear_accepted-requires c = lists_fit _ _ _ c.in_ok-accepted.ensures.fault c.in_ok-accepted.ensures.same
 
-pub returns-in-Refused : goal.returns-in-Refused
-returns-in-Refused c =
-    refused_clears _ _ _ _ (told c.in-Refused.is c.clearing_fault-verdict.ensures)
-
-pub returns-in-Accepted : goal.returns-in-Accepted
-returns-in-Accepted c =
-    clear_accepted_clears _ _ _ _ _ _ _ _
-    (told c.in-Accepted.is c.clearing_fault-verdict.ensures)
-    c.bids_through_view-table.ensures c.clear_accepted.ensures
+pub returns : goal.returns
+returns c =
+    accepted_clears _ _ _ _ _ c.in_ok-accepted.ensures.fault c.in_ok-accepted.ensures.same c.clear_accepted.ensures

@@ -3,12 +3,13 @@ use Prim.Native.Nat.{ℕ, ◌+◌, ◌*◌, ◌≤◌, ◌<◌, max}
 use mathlib.Core.Bool.{Bool, true, false, not, cond}
 use mathlib.Core.List.{List, [], ◌∷◌}
 use mathlib.Core.Logic.{⊎_elim}
-use mathlib.Core.Path.{◌≡◌, refl, ap, ap₂, ◌∙◌}
+use mathlib.Core.Path.{◌≡◌, refl, sym, ap, ◌∙◌}
 use native.Mathlib.Nat.{mul-le-mul_right}
 use native.Mathlib.Numerals.{add-one}
 use native.Mathlib.Omega.{arith}
 use lib.ListN.{get_or, length, set}
-use lib.Seq.{paste}
+use borrow.Rule.Slice.PartMut.{put_mid}
+use Rattle.std.proofs.lemmas.Slice.{put_mid-paste}
 use Rattle.model.specs.Limits.{max_guests, max_stations}
 use Rattle.model.specs.Counting.{◌<?◌, ◌≤?◌, ◌=?◌, ◌and◌, only, greatest, list}
 use Rattle.model.specs.Verdicts.{◌gives◌, first_fault, number_of}
@@ -17,9 +18,9 @@ use Rattle.model.specs.market.Reasons.{conditions, code}
 use Rattle.model.specs.claims.Meaning.{WithinLimits}
 use Rattle.model.specs.declared.rule.Rule.{Rule}
 use Rattle.model.proofs.Tests.{both, is_lt, not_lt, is_le, lt_or_le}
-use Rattle.model.proofs.Counting.{greatest_cong}
+use Rattle.model.proofs.Counting.{length_list, greatest_cong}
 use Rattle.model.proofs.Loops.{long, Filling, filling_none, filling_turn, filling_end}
-use Rattle.model.proofs.Tables.{RowWritten, row_none, row_turn, row_end, RowsWritten, rows_none, rows_turn, rows_end}
+use Rattle.model.proofs.Tables.{RowsWritten, rows_none, rows_turn, rows_end}
 use Rattle.model.proofs.market.Acceptance.{product_fits}
 use Rattle.model.specs.clauses.Rows.{row_of}
 use Rattle.model.proofs.clauses.Rows.{row_long, row_shows}
@@ -29,18 +30,6 @@ use Rattle.allocation.proofs.assignment.Assignment.{critical_at_lem, critical_lo
 use Rattle.explain.specs.Codes.{code_by, code_at, row_code, RowReady, CodesAtCut}
 
 -- ---- the code of a bid
-
--- the choices, from the last test to the first
-pub code_chosen :
-    (bid ask c : ℕ) {of_candidate where_open of_bid r : ℕ} {held won below opened none : Bool}
-    → held ≡ won → of_candidate ≡ cond held 0 4 → below ≡ (bid <? c) → where_open ≡ cond below 3 of_candidate
-    → opened ≡ (ask <? c) → of_bid ≡ cond opened where_open 2 → none ≡ (bid =? 0) → r ≡ cond none 1 of_bid
-    → r ≡ code_by bid ask c won
-unfolding code_by
-code_chosen bid ask c h k b w o f n r =
-    r
-    ∙ ap₂ (λ x y. cond x 1 y) n
-    (f ∙ ap₂ (λ x y. cond x y 2) o (w ∙ ap₂ (λ x y. cond x 3 y) b (k ∙ ap (λ x. cond x 0 4) h)))
 
 -- who wins matters for candidates alone
 won_matters :
@@ -103,8 +92,8 @@ module _ (t : Tables) (c : ℕ) {criticals bounds row : List ℕ} (w : WithinLim
       (b.bounded.wins i j li lj (candidate j l h))))
 
   pub row_ready :
-      {codes : List ℕ} → length codes ≡ length t.amounts * length t.asks
-      → RowReady t.asks row (get_or t.amounts i 0) criticals bounds (i * length t.asks) codes
+      {codes : List ℕ} → length codes ≡ length t.asks
+      → RowReady t.asks row (get_or t.amounts i 0) criticals bounds codes
   row_ready {codes} room =
       let end : i * length t.asks + length t.asks ≤ length t.amounts * length t.asks
       = omega (arith, mul-le-mul_right (length t.asks) li) in
@@ -116,32 +105,30 @@ module _ (t : Tables) (c : ℕ) {criticals bounds row : List ℕ} (w : WithinLim
         criticals_long = long _ _ b.criticals_are;
         bounds_long = b.bounded.bounds_long;
         criticals_low = λ j lj. rw (add-one j, critical_at_lem t c w b.criticals_are j lj) (critical_low t c w j lj);
-        codes_room = omega arith;
+        codes_long = room;
       }
 
 -- ---- the loop over a row: its first j codes are written, and top is the highest of them
 
-pub record RowSoFar (m : ℕ) (f : ℕ → ℕ) (codes₀ codes : List ℕ) (base top j : ℕ) : Type 0 where
-  pub written : RowWritten m f codes₀ codes base j
+pub record RowSoFar (m : ℕ) (f : ℕ → ℕ) (codes₀ codes : List ℕ) (top j : ℕ) : Type 0 where
+  pub written : Filling m f codes₀ codes j
   pub highest : top ≡ greatest j f
 
-pub row_so_far_none :
-    {m : ℕ} {f : ℕ → ℕ} {codes : List ℕ} {base : ℕ} → base + m ≤ length codes → RowSoFar m f codes codes base 0 0
+pub row_so_far_none : {m : ℕ} {f : ℕ → ℕ} {codes : List ℕ} → length codes ≡ m → RowSoFar m f codes codes 0 0
 unfolding greatest
-row_so_far_none room = record { written = row_none room; highest = refl }
+row_so_far_none long = record { written = filling_none long; highest = refl }
 
-module _ {m : ℕ} {f : ℕ → ℕ} {codes₀ codes : List ℕ} {base top j : ℕ} (s : RowSoFar m f codes₀ codes base top j) where
+module _ {m : ℕ} {f : ℕ → ℕ} {codes₀ codes : List ℕ} {top j : ℕ} (s : RowSoFar m f codes₀ codes top j) where
   pub row_so_far_turn :
-      {v top' : ℕ} → j < m → v ≡ f j → top' ≡ max top v
-      → RowSoFar m f codes₀ (set codes (base + j) v) base top' (j + 1)
+      {v top' : ℕ} → j < m → v ≡ f j → top' ≡ max top v → RowSoFar m f codes₀ (set codes j v) top' (j + 1)
   unfolding greatest
   row_so_far_turn l e h =
-      record { written = row_turn s.written l e; highest = rw (add-one, ← s.highest, ← e) h }
+      record { written = filling_turn s.written l e; highest = rw (add-one, ← s.highest, ← e) h }
 
-  pub row_so_far_end : m ≤ j → (codes ≡ paste codes₀ base (list m f) m) × (top ≡ greatest m f)
+  pub row_so_far_end : m ≤ j → (codes ≡ list m f) × (top ≡ greatest m f)
   row_so_far_end l =
       let whole : j ≡ m = omega (arith, s.written.within) in
-      (row_end s.written l, s.highest ∙ ap (λ k. greatest k f) whole)
+      (filling_end s.written l, s.highest ∙ ap (λ k. greatest k f) whole)
 
 -- ---- the loop over the rows
 
@@ -168,13 +155,12 @@ module _ {t : Tables} {c : ℕ} {stations codes₀ reasons₀ codes reasons : Li
   rows_fit a b = product_fits i m (omega (arith, s.written.within)) b
 
   pub rows_so_far_turn :
-      {f : ℕ → ℕ} {codes' : List ℕ} {top v : ℕ} → i < length t.amounts
-      → ((j : ℕ) → j < m → f j ≡ code_at t c i j)
-      → (codes' ≡ paste codes (i * m) (list m f) m) × (top ≡ greatest m f)
+      {f : ℕ → ℕ} {row : List ℕ} {k top v : ℕ} → i < length t.amounts → k ≡ m
+      → ((j : ℕ) → j < m → f j ≡ code_at t c i j) → (row ≡ list m f) × (top ≡ greatest m f)
       → v ≡ only (get_or stations i 0 =? 0) top
-      → RowsSoFar t c stations codes₀ reasons₀ codes' (set reasons i v) (i + 1)
-  rows_so_far_turn {f} l h (e, q) p = record {
-    written = rows_turn s.written l h e;
+      → RowsSoFar t c stations codes₀ reasons₀ (put_mid (i * m) k codes row) (set reasons i v) (i + 1)
+  rows_so_far_turn {f} {k = k} l whole h (e, q) p = record {
+    written = rows_turn s.written l h (put_mid-paste (i * m) k _ _ (list m f) m e (sym whole) (sym (length_list m f)));
     reasons_are = filling_turn s.reasons_are l
         (p ∙ ap (only (get_or stations i 0 =? 0)) (q ∙ greatest_cong m f (code_at t c i) h));
   }

@@ -1,13 +1,20 @@
-use Rattle.model.specs.market.Market.{tables}
+use Rattle.std.proofs.lemmas.Result.{err_from_is_err_and}
+use Rattle.model.specs.Numbers.{answer_of_verdict}
 use Rattle.model.specs.book.Book.{book}
 use Rattle.model.specs.book.Posting.{posting}
-use Rattle.ledger.proofs.Posting.{posts}
+use Rattle.ledger.proofs.Posting.{refused_posts, settled_posts}
 use Rattle.ledger.proofs.post.Goals as goal
+
+pub returns-in_err-r : goal.returns-in_err-r
+unfolding answer_of_verdict
+returns-in_err-r c =
+    let a = c.args in
+    let p = err_from_is_err_and c.from_residual.result c.from_residual.ensures.1 in
+    rw (p.1, p.2) (refused_posts (posting a.rule a.market.now a.desk a.round)
+    (book a.guests.now a.stations.now a.house.now a.last.now) _ c.in_err-r.ensures)
 
 pub returns : goal.returns
 returns c =
     let a = c.args in
-    posts
-    (posting a.rule (tables a.asks.now a.bays.now a.amounts.now a.tickets.now a.bids.now a.width) a.desk a.round)
-    (book a.guests.now a.stations.now a.house.now a.last.now) c.plan-r.result c.stations_exceed-full.result
-    c.plan-r.ensures c.stations_exceed-full.ensures c.settle-s.result _ _ _ _ c.settle-s.ensures c.add_sales.ensures
+    settled_posts (posting a.rule a.market.now a.desk a.round)
+    (book a.guests.now a.stations.now a.house.now a.last.now) _ _ _ c.in_ok-r.ensures c.settle.ensures

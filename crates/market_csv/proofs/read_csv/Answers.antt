@@ -1,43 +1,23 @@
-use Rattle.std.proofs.Common.{◌≡◌, false, length, ap, ◌∙◌}
-use Rattle.model.specs.Verdicts.{◌gives◌}
-use Rattle.model.specs.sheet.Lent.{table_lengths}
-use Rattle.model.proofs.sheet.Tables.{lent_lengths}
-use Rattle.market_csv.specs.Parses.{Parsed}
-use Rattle.market_csv.proofs.Lending.{refused_lent, refused_text, read_all, parsed, fits}
+use Rattle.std.proofs.lemmas.Result.{err_from_is_err_and}
+use Rattle.market_csv.proofs.Lending.{refused_lent, refused_text, fits, read_all}
 use Rattle.market_csv.proofs.read_csv.Goals as goal
 
-pub returns-then-table_lengths_differ : goal.returns-then-table_lengths_differ
-returns-then-table_lengths_differ c =
-    refused_lent _ _ _ _ _ _ (c.table_lengths_differ.ensures ∙ ap (λ b. b gives 10) c.if-table_lengths_differ.true)
+pub returns-in_err-read_lengths_fault : goal.returns-in_err-read_lengths_fault
+returns-in_err-read_lengths_fault c =
+    let p = err_from_is_err_and c.from_residual.result c.from_residual.ensures.1 in
+    rw (p.1, p.2) (refused_lent _ _ c.read_lengths_fault.ensures _ c.in_err-read_lengths_fault.was)
 
-pub copy_all-requires : goal.copy_all-requires
-copy_all-requires c =
-    let found : Parsed c.args.text.now c.in-Read.guests c.in-Read.stations c.parse.new.amounts c.parse.new.tickets
-    c.parse.new.asks c.parse.new.bays c.parse.new.bids = parsed _ _ _ _ _ _ _ _ c.parse.ensures c.in-Read.is in
-    let lengths : table_lengths (length c.args.amounts.now) (length c.args.tickets.now) (length c.args.asks.now)
-    (length c.args.bays.now) (length c.args.bids.now) ≡ (false gives 10) =
-    c.table_lengths_differ.ensures ∙ ap (λ b. b gives 10) c.if-table_lengths_differ.false in (
-      fits (found) _ _ _ _ _
-          (c.parse.auto.amounts, c.parse.auto.tickets, c.parse.auto.asks, c.parse.auto.bays, c.parse.auto.bids),
-      fits (found) _ _ _ _ _ (lent_lengths _ _ _ _ _ (lengths)),
-    )
+pub returns-in_err-counts : goal.returns-in_err-counts
+returns-in_err-counts c =
+    let p = err_from_is_err_and c.from_residual-in_err-counts.result c.from_residual-in_err-counts.ensures.1 in
+    rw (p.1, p.2)
+    (refused_text _ _ c.read_lengths_fault.ensures c.in_ok-read_lengths_fault.was _ _ c.in_err-counts.ensures)
 
-pub returns-in-Read : goal.returns-in-Read
-returns-in-Read c =
-    let found : Parsed c.args.text.now c.in-Read.guests c.in-Read.stations c.parse.new.amounts c.parse.new.tickets
-    c.parse.new.asks c.parse.new.bays c.parse.new.bids = parsed _ _ _ _ _ _ _ _ c.parse.ensures c.in-Read.is in
-    let lengths : table_lengths (length c.args.amounts.now) (length c.args.tickets.now) (length c.args.asks.now)
-    (length c.args.bays.now) (length c.args.bids.now) ≡ (false gives 10) =
-    c.table_lengths_differ.ensures ∙ ap (λ b. b gives 10) c.if-table_lengths_differ.false in
-    read_all _ _ _ _ _ _ (lengths) _ _ _ _ _ _ _ (found)
-    (fits (found) _ _ _ _ _
-    (c.parse.auto.amounts, c.parse.auto.tickets, c.parse.auto.asks, c.parse.auto.bays, c.parse.auto.bids))
-    c.copy_all.ensures
+pub copy_to-requires : goal.copy_to-requires
+copy_to-requires c =
+    fits _ _ c.read_lengths_fault.ensures c.in_ok-read_lengths_fault.was _ _ c.in_ok-counts.ensures
 
-pub returns-in-Refused : goal.returns-in-Refused
-returns-in-Refused c =
-    let lengths : table_lengths (length c.args.amounts.now) (length c.args.tickets.now) (length c.args.asks.now)
-    (length c.args.bays.now) (length c.args.bids.now) ≡ (false gives 10) =
-    c.table_lengths_differ.ensures ∙ ap (λ b. b gives 10) c.if-table_lengths_differ.false in
-    refused_text _ _ _ _ _ _ (lengths) _ _ _ _ _ _ c.parse.ensures
-    c.in-Refused.is
+pub returns : goal.returns
+returns c =
+    read_all _ _ c.read_lengths_fault.ensures c.in_ok-read_lengths_fault.was _ _ c.in_ok-counts.ensures
+    c.copy_to.ensures.fit c.copy_to.ensures.lent

@@ -1,21 +1,15 @@
-use Rattle.model.proofs.Verdicts.{told}
-use Rattle.marking.proofs.Answers.{no_fault_found, lent, found_seen, refused_clears, accepted_clears}
+use Rattle.std.proofs.lemmas.Result.{err_from_is_err_and}
+use Rattle.marking.proofs.Answers.{refused_clears, accepted_clears, lists_fit}
 use Rattle.marking.proofs.clear_marked_under.Goals as goal
 
-pub clear_accepted-figures-requires : goal.clear_accepted-figures-requires
-clear_accepted-figures-requires c =
-    let a = found_seen _ _ _ _ _ _ _
-    (told c.in-Accepted.is c.marking_fault-verdict.ensures)
-    c.bids_through_view-table.ensures in
-    record { within_limits = a.0; full_lengths = a.1 }
+pub returns-in_err-accepted : goal.returns-in_err-accepted
+returns-in_err-accepted c =
+    let p = err_from_is_err_and c.from_residual.result c.from_residual.ensures.1 in
+    rw (p.1, p.2) (refused_clears _ _ _ _ c.in_err-accepted.ensures.fault)
 
-pub returns-in-Refused : goal.returns-in-Refused
-returns-in-Refused c =
-    refused_clears _ _ _ _ (told c.in-Refused.is c.marking_fault-verdict.ensures)
+pub clear_accepted-requires : goal.clear_accepted-requires
+clear_accepted-requires c = lists_fit _ _ _ c.in_ok-accepted.ensures.fault c.in_ok-accepted.ensures.same
 
-pub returns-in-Accepted : goal.returns-in-Accepted
-returns-in-Accepted c =
-    let judged = told c.in-Accepted.is c.marking_fault-verdict.ensures in
-    let seen = c.bids_through_view-table.ensures in
-    accepted_clears _ _ _ _ (no_fault_found _ _ _ _ _ _ _ judged seen) (lent _ _ _ _ _ _ _ judged seen)
-    c.clear_accepted-figures.ensures c.clearing_of.ensures
+pub returns : goal.returns
+returns c =
+    accepted_clears _ _ _ _ _ c.in_ok-accepted.ensures.fault c.in_ok-accepted.ensures.same c.clear_accepted.ensures

@@ -7,7 +7,10 @@ use mathlib.Core.Path.{◌≡◌, refl, sym, ap, ap₂, ◌∙◌}
 use native.Mathlib.Nat.{mul-le-mul_right}
 use native.Mathlib.Numerals.{add-one}
 use native.Mathlib.Omega.{arith}
+use mir.Val.{bool_byte}
 use lib.ListN.{get_or, length}
+use borrow.Rule.Slice.PartMut.{put_mid}
+use Rattle.std.proofs.lemmas.Slice.{put_mid-paste}
 use Rattle.model.specs.Counting.{◌<?◌, ◌and◌, only, list, joined}
 use Rattle.model.specs.market.Market.{Tables, bid_at, queue, provisional}
 use Rattle.model.specs.market.Marking.{place_table}
@@ -15,6 +18,8 @@ use Rattle.model.specs.claims.Meaning.{WithinLimits}
 use Rattle.model.specs.clauses.Rows.{row_of}
 use Rattle.model.proofs.Tests.{both, first, second, and_no, neither, is_lt, not_lt, is_le, not_eq, lt_yes, le_yes}
 use Rattle.model.proofs.Tests.{decide, lt_or_le}
+use Rattle.model.proofs.Counting.{length_list}
+use Rattle.model.proofs.Tables.{RowsWritten, rows_turn}
 use Rattle.model.proofs.Loops.{long, element, in_table}
 use Rattle.model.proofs.market.Limits.{product}
 use Rattle.model.proofs.market.Truthful.{candidate_held}
@@ -24,10 +29,18 @@ use Rattle.allocation.specs.Screens.{screened_at}
 use Rattle.allocation.specs.Stages.{Bars}
 use Rattle.allocation.specs.Totals.{max_total}
 use Rattle.allocation.proofs.assignment.Assignment.{critical_at_lem, critical_low}
-use Rattle.marking.proofs.comparing.Comparing.{both_are}
 use Rattle.marking.specs.Places.{bar_by, bar_at, place_by, row_place, RowReady, Barred}
 
 -- ---- a bid against a bar
+
+-- the code's and is that of the tests
+and_is : (a b : Bool) → (a && b) ≡ (a and b)
+unfolding ◌and◌
+and_is true b = refl
+and_is false b = refl
+
+pub both_are : {a b x y : Bool} → a ≡ x → b ≡ y → (a && b) ≡ (x and y)
+both_are e f = and_is _ _ ∙ ap₂ ◌and◌ e f
 
 and_true : (a : Bool) → (a and true) ≡ a
 unfolding ◌and◌
@@ -39,14 +52,19 @@ unfolding ◌and◌
 and_false true = refl
 and_false false = refl
 
+byte_is : (b : Bool) → bool_byte b ≡ only b 1
+unfolding only
+byte_is true = refl
+byte_is false = refl
+
 -- what the code finds of a bid
 pub place_is :
-    (bid amount ticket c bar bound : ℕ) {total : ℕ} {wins below : Bool} → total ≡ bid * amount
-    → wins ≡ won_by total bar ticket bound → below ≡ (bid <? c)
-    → only (wins && not below) 1 ≡ place_by bid amount ticket c bar bound
+    (bid amount ticket c bar bound : ℕ) {total byte : ℕ} {wins below : Bool} → byte ≡ bool_byte (wins && not below)
+    → total ≡ bid * amount → wins ≡ won_by total bar ticket bound → below ≡ (bid <? c)
+    → byte ≡ place_by bid amount ticket c bar bound
 unfolding place_by
-place_is bid amount ticket c bar bound e w b =
-    ap (λ h. only h 1) (both_are (w ∙ ap (λ x. won_by x bar ticket bound) e) (ap not b))
+place_is bid amount ticket c bar bound h e w b =
+    h ∙ byte_is _ ∙ ap (λ h. only h 1) (both_are (w ∙ ap (λ x. won_by x bar ticket bound) e) (ap not b))
 
 -- nobody wins past every total
 none_past : (x k e : ℕ) → x ≤ max_total → won_by x (max_total + 1) k e ≡ false
@@ -159,8 +177,7 @@ module _ (t : Tables) (c : ℕ) {bars bounds row : List ℕ} (w : WithinLimits t
   row_place_is j lj = rw (shows_bid j lj) (b.places_are i j li lj)
 
   pub row_ready :
-      {places : List ℕ} → i * length t.asks + length t.asks ≤ length places
-      → RowReady row (get_or t.amounts i 0) bars bounds (i * length t.asks) places
+      {places : List ℕ} → length places ≡ length t.asks → RowReady row (get_or t.amounts i 0) bars bounds places
   unfolding bid_at
   row_ready room = record {
     few = omega (arith, row_is_long, w.shape.stations_most);
@@ -175,7 +192,7 @@ module _ (t : Tables) (c : ℕ) {bars bounds row : List ℕ} (w : WithinLimits t
     bars_long = b.bars_long ∙ sym row_is_long;
     bars_low = λ j l. b.bars_low j (omega (arith, row_is_long));
     bounds_long = b.bounds_long;
-    room = omega (arith, row_is_long);
+    places_long = room ∙ sym row_is_long;
   }
 
 -- the place of guest i and station j at a cut
@@ -187,3 +204,13 @@ pub table_is :
     ≡ place_table (screened_at t c)
 unfolding place_table screened_at
 table_is t c = refl
+
+-- a row that is written is the table's next
+pub row_put :
+    (t : Tables) (c : ℕ) {i k : ℕ} {f : ℕ → ℕ} {places₀ places row : List ℕ} → let n = length t.amounts in
+    let m = length t.asks in RowsWritten n m (place_at t c) places₀ places i → i < n → k ≡ m
+    → ((j : ℕ) → j < m → f j ≡ place_at t c i j) → row ≡ list m f
+    → RowsWritten n m (place_at t c) places₀ (put_mid (i * m) k places row) (i + 1)
+row_put t c {i} {k} {f} s l wide h e =
+    let m = length t.asks in
+    rows_turn s l h (put_mid-paste (i * m) k _ _ (list m f) m e (sym wide) (sym (length_list m f)))

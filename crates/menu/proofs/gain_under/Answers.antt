@@ -1,25 +1,27 @@
-use Rattle.model.proofs.Verdicts.{told}
-use Rattle.menu.proofs.Answers.{gained_guest_least, refused_gains, gainable, accepted_gains}
+use mathlib.Core.Path.{sym}
+use Rattle.std.proofs.lemmas.Result.{err_from_is_err_and}
+use Rattle.model.specs.Numbers.{answer_of_check, answer_of_verdict}
+use Rattle.model.proofs.Promises.{keeps_refused}
+use Rattle.menu.specs.Accepted.{gaining_under}
+use Rattle.menu.proofs.Asked.{gained_guest_least, gainable, accepted_gains}
 use Rattle.menu.proofs.gain_under.Goals as goal
 
--- Nothing is written before the last check.
+pub returns-in_err-accepted : goal.returns-in_err-accepted
+unfolding gaining_under answer_of_check answer_of_verdict
+returns-in_err-accepted c =
+    let p = err_from_is_err_and c.from_residual.result c.from_residual.ensures.1 in
+    rw (p.1, p.2) (keeps_refused (sym c.in_err-accepted.ensures.fault))
+
 pub overflow_sub-guest : goal.overflow_sub-guest
-overflow_sub-guest c =
-    gained_guest_least _ _ _ _ _
-    (told c.in-Accepted.is c.gaining_fault.ensures)
+unfolding answer_of_check
+overflow_sub-guest c = gained_guest_least _ _ _ _ _ c.in_ok-accepted.ensures.fault
 
 pub gain_accepted-requires : goal.gain_accepted-requires
-gain_accepted-requires c =
-    gainable _ _ _ _ _ _ _ _ _ c.args.gains.now
-    (told c.in-Accepted.is c.gaining_fault.ensures)
-    c.bids_through_view-table.ensures
+unfolding answer_of_check
+gain_accepted-requires c = rw c.in_ok-accepted.ensures.same (gainable _ _ _ _ _ c.in_ok-accepted.ensures.fault)
 
-pub returns-in-Refused : goal.returns-in-Refused
-returns-in-Refused c =
-    refused_gains _ _ _ _ _ _ _ (told c.in-Refused.is c.gaining_fault.ensures)
-
-pub returns-in-Accepted : goal.returns-in-Accepted
-returns-in-Accepted c =
-    accepted_gains _ _ _ _ _ _ _ _ _ _
-    (told c.in-Accepted.is c.gaining_fault.ensures)
-    c.bids_through_view-table.ensures _ c.gain_accepted.ensures
+pub returns : goal.returns
+unfolding answer_of_check
+returns c =
+    accepted_gains _ _ _ _ _ c.in_ok-accepted.ensures.fault _
+    (rw c.in_ok-accepted.ensures.same at c.gain_accepted.ensures)

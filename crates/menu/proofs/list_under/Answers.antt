@@ -1,23 +1,27 @@
-use Rattle.model.proofs.Verdicts.{told}
-use Rattle.menu.proofs.Answers.{listed_guest_least, refused_lists, listable, accepted_lists}
+use mathlib.Core.Path.{sym}
+use Rattle.std.proofs.lemmas.Result.{err_from_is_err_and}
+use Rattle.model.specs.Numbers.{answer_of_check, answer_of_verdict}
+use Rattle.model.proofs.Promises.{keeps_refused}
+use Rattle.menu.specs.Accepted.{listing_under}
+use Rattle.menu.proofs.Asked.{listed_guest_least, listable, accepted_lists}
 use Rattle.menu.proofs.list_under.Goals as goal
 
--- Nothing is written before the last check.
+pub returns-in_err-accepted : goal.returns-in_err-accepted
+unfolding listing_under answer_of_check answer_of_verdict
+returns-in_err-accepted c =
+    let p = err_from_is_err_and c.from_residual.result c.from_residual.ensures.1 in
+    rw (p.1, p.2) (keeps_refused (sym c.in_err-accepted.ensures.fault))
+
 pub overflow_sub-guest : goal.overflow_sub-guest
-overflow_sub-guest c =
-    listed_guest_least _ _ _ _ (told c.in-Accepted.is c.listing_fault.ensures)
+unfolding answer_of_check
+overflow_sub-guest c = listed_guest_least _ _ _ c.in_ok-accepted.ensures.fault
 
 pub list_accepted-requires : goal.list_accepted-requires
-list_accepted-requires c =
-    listable _ _ _ _ _ _ _ _ (told c.in-Accepted.is c.listing_fault.ensures)
-    c.bids_through_view-table.ensures
+unfolding answer_of_check
+list_accepted-requires c = rw c.in_ok-accepted.ensures.same (listable _ _ _ c.in_ok-accepted.ensures.fault)
 
-pub returns-in-Refused : goal.returns-in-Refused
-returns-in-Refused c =
-    refused_lists _ _ _ _ _ (told c.in-Refused.is c.listing_fault.ensures)
-
-pub returns-in-Accepted : goal.returns-in-Accepted
-returns-in-Accepted c =
-    accepted_lists _ _ _ _ _ _ _ _
-    (told c.in-Accepted.is c.listing_fault.ensures)
-    c.bids_through_view-table.ensures _ c.list_accepted.ensures
+pub returns : goal.returns
+unfolding answer_of_check
+returns c =
+    accepted_lists _ _ _ c.in_ok-accepted.ensures.fault _
+    (rw c.in_ok-accepted.ensures.same at c.list_accepted.ensures)

@@ -6,7 +6,7 @@ use Rattle.model.specs.Numbers.{answer_of_verdict}
 use Rattle.model.specs.market.Faults.{Accepted as AcceptedMarket}
 use Rattle.model.specs.clauses.EntryPoints.{placing}
 use Rattle.model.specs.claims.Places.{Placed, without_bids}
-use Rattle.model.specs.declared.answers.Verdict.TheVariants.{Accepted}
+use Rattle.std.specs.Prelude.{Ok}
 use Rattle.model.specs.cases.Places.{DistancesHold, WalksHold, BidsHold, two_by_two, PlacedBidsHold, placed_market}
 use Rattle.model.specs.cases.Places.{PlacedMarketClears, PlacedInstance, PlacingsJudged}
 use Rattle.model.proofs.cases.Computing.{clearing_computes, placing_computes}
@@ -36,7 +36,7 @@ bids_were_placed : Placed two_by_two placed_market.bids
 unfolding placing_computes answer_of_verdict placing two_by_two placed_market
 bids_were_placed = record {
   entry = 9 ∷ 9 ∷ 9 ∷ 9 ∷ [];
-  answer = Accepted;
+  answer = Ok tt;
   called = record { answered = refl; left = refl };
   accepts = refl;
 }

@@ -14,10 +14,11 @@ use Rattle.model.specs.claims.Truth.{AlikeButForGuest, AlikeButForStation}
 use Rattle.model.specs.declared.rule.Rule.{Rule}
 use Rattle.model.specs.clauses.EntryPoints.{clearing, Clears}
 use Rattle.model.specs.Numbers.{answer_of_clearing}
-use Rattle.model.specs.declared.answers.Clearing.{Clearing}
+use Rattle.model.specs.declared.answers.Figures.{Figures}
+use Rattle.model.specs.declared.refusal.Refusal.{Refusal}
 use Rattle.model.specs.claims.Calls.{ClearedCallBy, ClearedCall, EfficientCall, guest_gain_in, station_gain_in}
 use Rattle.model.specs.claims.Calls.{CallWithin}
-use Rattle.model.specs.declared.answers.Clearing.TheVariants.{Cleared}
+use Rattle.std.specs.Prelude.{Result, Ok}
 use Rattle.model.proofs.cases.Computing.{clearing_computes, efficient_computes}
 use Rattle.model.proofs.claims.Calls.{guest_truthful_calls, station_truthful_calls, call_limits}
 use Rattle.model.proofs.claims.Calls.{efficient_station_truthful_calls, efficient_call_limits}
@@ -37,8 +38,8 @@ overbid = tables (2 ∷ 6 ∷ []) (1 ∷ 1 ∷ []) (3 ∷ 2 ∷ []) (1 ∷ 2 ∷
 abbrev pub overask : Tables
 overask = tables (7 ∷ 6 ∷ []) (1 ∷ 1 ∷ []) (3 ∷ 2 ∷ []) (1 ∷ 2 ∷ []) (9 ∷ 0 ∷ 10 ∷ 0 ∷ []) 2
 
-abbrev cleared : (cut margin : ℕ) → Clearing
-cleared cut margin = Cleared (record { 0 = cut }) (record { 0 = margin })
+abbrev cleared : (cut margin : ℕ) → Result Figures Refusal
+cleared cut margin = Ok (record { cut = record { 0 = cut }; margin = record { 0 = margin } })
 
 -- the three calls, by computation
 abbrev pub called :

@@ -6,20 +6,19 @@ use mathlib.Core.Path.{◌≡◌}
 use native.Mathlib.Omega.{arith}
 use lib.ListN.{get_or, length}
 use Rattle.model.specs.text.Asked.{csv_word, quiet_word, why_word, write_word, rule_word, ◌spells◌, rule_asked, by_rule}
+use Rattle.model.specs.text.Asked.{asked_for}
 use Rattle.model.specs.text.Asked.{sheet_asked, page_asked, asked, ByRuleOne, clearing, efficient, reasons, sheet}
-use Rattle.model.specs.text.Asked.{nothing, RuleOneUnlessNamed, OfSheets, of_sheet, SheetUnlessNamed}
+use Rattle.model.specs.text.Asked.{RuleOneUnlessNamed, OfSheets, of_sheet, SheetUnlessNamed}
 use Rattle.model.specs.declared.page.Layout.{Layout}
 use Rattle.model.specs.declared.page.Layout.TheVariants as layout
 use Rattle.model.specs.declared.page.Page.{Page}
 use Rattle.model.specs.declared.page.Page.TheVariants.{Clearing, Efficient, Reasons}
 use Rattle.model.specs.declared.page.Asked.{Asked}
-use Rattle.model.specs.declared.page.Asked.TheVariants.{For}
 use Rattle.model.specs.declared.rule.Rule.{Rule}
 use Rattle.model.specs.declared.rule.Rule.TheVariants.{Median}
-use Rattle.model.specs.declared.rule.NamedRule.{NamedRule}
-use Rattle.model.specs.declared.rule.NamedRule.TheVariants.{Known, Unknown}
+use Rattle.std.specs.Prelude.{Option, Some, None}
 
-either : (P : Asked → Type 0) {a b : Asked} (test : Bool) → P a → P b → P (cond test a b)
+either : (P : Option Asked → Type 0) {a b : Option Asked} (test : Bool) → P a → P b → P (cond test a b)
 either P true h k = h
 either P false h k = k
 
@@ -30,7 +29,7 @@ Unnamed words = (k : ℕ) → k < length words → get_or words k [] spells rule
 
 module _ (of : Layout) where
   ruled :
-      (page : Rule → Page) → ByRuleOne (For of (page Median)) → (words : List (List ℕ)) → Unnamed words
+      (page : Rule → Page) → ByRuleOne (asked_for of (page Median)) → (words : List (List ℕ)) → Unnamed words
       → ByRuleOne (by_rule of page (rule_asked words))
   unfolding by_rule rule_asked
   ruled page h [] n = h
@@ -62,10 +61,10 @@ rule_one_unless_named (first ∷ rest) n =
 
 -- ---- a sheet
 
-by_rule_lem : (page : Rule → Page) (named : NamedRule) → OfSheets (by_rule layout.Sheet page named)
+by_rule_lem : (page : Rule → Page) (named : Option Rule) → OfSheets (by_rule layout.Sheet page named)
 unfolding by_rule
-by_rule_lem page (Known rule) = of_sheet (page rule)
-by_rule_lem page Unknown = OfSheets.nothing
+by_rule_lem page (Some rule) = of_sheet (page rule)
+by_rule_lem page None = OfSheets.nothing
 
 sheet_alone : (words : List (List ℕ)) → OfSheets (sheet_asked layout.Sheet words)
 unfolding sheet_asked

@@ -15,7 +15,7 @@ use Rattle.model.specs.market.Outcome.{Results, Outcome, results, outcome_by, sc
 use Rattle.model.specs.market.Outcome.{efficient_decision, efficient_outcome}
 use Rattle.model.specs.market.Faults.{Accepted}
 use Rattle.model.specs.declared.rule.Rule.{Rule}
-use Rattle.model.specs.declared.answers.Clearing.TheVariants.{Cleared}
+use Rattle.std.specs.Prelude.{Ok}
 use Rattle.model.specs.market.Rules.{position, rule_of}
 use Rattle.model.specs.market.Gains.{guest_gain, station_gain}
 use Rattle.model.specs.claims.Meaning.{RightLengths}
@@ -177,7 +177,7 @@ cleared_call_exists made rule t r a =
     let o = made (rule_of rule) t in
     record {
       entry = room t;
-      answer = Cleared (record { 0 = o.cut }) (record { 0 = o.margin });
+      answer = Ok (record { cut = record { 0 = o.cut }; margin = record { 0 = o.margin } });
       cut = o.cut;
       margin = o.margin;
       exit = o.results;

@@ -15,7 +15,7 @@ use Rattle.model.specs.Promises.{KeepsOut}
 use Rattle.model.specs.Verdicts.{accepted, first_fault}
 use Rattle.model.specs.market.Market.{Tables, market_by, market, opens, screen, queue, provisional, critical}
 use Rattle.model.specs.market.Mechanism.{at, charge, truthful}
-use Rattle.model.specs.market.Outcome.{results, outcome_by, screened, decision, outcome}
+use Rattle.model.specs.market.Outcome.{outcome_by, screened, decision, outcome}
 use Rattle.model.specs.market.Reasons.{guest_outcomes}
 use Rattle.model.specs.market.Rules.{position, rule_of}
 use Rattle.model.specs.market.Faults.{Accepted, unknown_rule, verdict, market_faults, counts, lengths}

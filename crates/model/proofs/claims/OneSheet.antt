@@ -12,7 +12,7 @@ use Rattle.model.specs.clauses.EntryPoints.{reading, writing}
 use Rattle.model.specs.claims.Writings.{Gave, Took}
 use Rattle.model.specs.claims.OneSheet.{EmptyBidIsTurnedAway, StatedIsGiven, ReadFromOneSheet}
 use Rattle.model.specs.claims.OneSheet.{TakenExactlyIfGiven, ReadIsWritten, EmptyBidCallExists, TookAndGaveExist}
-use Rattle.model.specs.declared.answers.Reading.TheVariants.{Refused}
+use Rattle.std.specs.Prelude.{Err}
 use Rattle.model.specs.declared.refusal.Refusal.TheVariants.{EmptyBid}
 use Rattle.model.proofs.Verdicts.{giving_accepted, giving_refused, gave_refused, updated_accepted}
 use Rattle.model.proofs.Verdicts.{updated_refused}
@@ -59,7 +59,7 @@ pub empty_bid_call_exists : EmptyBidCallExists
 unfolding reading read_sheet answer_of_reading
 empty_bid_call_exists t set i j g l k b z =
     let v = sheet_verdict _ zeros zeros_sized ∙ gave_refused _ _ 19 (empty_bid_is_refused t set i j g l k b z) in
-    (zeros, Refused EmptyBid, zeros_sized, keeps_refused v)
+    (zeros, Err EmptyBid, zeros_sized, keeps_refused v)
 
 pub took_and_gave_exist : TookAndGaveExist
 took_and_gave_exist t a w =

@@ -7,7 +7,6 @@ use native.Mathlib.Omega.{arith}
 use lib.ListN.{get_or, length, replicate, length-replicate, get_or-replicate}
 use Rattle.model.specs.Limits.{max_price}
 use Rattle.model.specs.Numbers.{answer_of_verdict}
-use Rattle.model.specs.Verdicts.{accepted}
 use Rattle.model.specs.market.Market.{bid_at}
 use Rattle.model.specs.places.Bids.{squared_distance, bid_between, Places, guests_placed, stations_placed}
 use Rattle.model.specs.places.Bids.{placed_bid, placed_bids}
@@ -16,7 +15,7 @@ use Rattle.model.specs.claims.Places.{NearerNeverLowers, PlacesWithinLimits, Pla
 use Rattle.model.specs.claims.Places.{PlacedBidsAreRead}
 use Rattle.model.specs.claims.Places.{PlacedWithinPrice, PlacedNearerNeverLowers, without_bids}
 use Rattle.model.specs.claims.Places.{PlacedMarketAccepted}
-use Rattle.model.specs.declared.answers.Verdict.TheVariants as verdicts
+use Rattle.std.specs.Prelude.{Ok}
 use Rattle.model.proofs.Promises.{keeps_accepted, was_accepted}
 use Rattle.model.proofs.market.Acceptance.{exchanged}
 use Rattle.model.proofs.sheet.Joined.{joined_length, get_d_joined, joined_most}
@@ -75,7 +74,7 @@ placed_exists p w =
     let room : List ℕ = replicate (guests_placed p * stations_placed p) 0 in
     let v = (placing_accepted_iff_within_limits p (length room)).1
     (rw (length-replicate {A = ℕ} (guests_placed p * stations_placed p) 0) w) in
-    record { entry = room; answer = verdicts.Accepted; called = keeps_accepted v refl refl; accepts = refl }
+    record { entry = room; answer = Ok tt; called = keeps_accepted v refl refl; accepts = refl }
 
 -- ---- the statements
 

@@ -5,14 +5,14 @@ use mathlib.Core.Path.{◌≡◌, refl, sym, ap, ap₂, ◌∙◌}
 use lib.ListN.{replicate, length-replicate}
 use Rattle.model.specs.Limits.{max_guests, max_stations, max_bids}
 use Rattle.model.specs.Numbers.{answer_of_reading}
-use Rattle.model.specs.Verdicts.{accepted, first_fault, giving}
-use Rattle.model.specs.market.Market.{Tables}
+use Rattle.model.specs.Verdicts.{accepted, first_fault}
 use Rattle.model.specs.sheet.Content.{guests, stations, tables_of, sheet_faults, read_sheet}
 use Rattle.model.specs.sheet.Lent.{LentTables, lent_tables, reading_faults, table_lengths, filled}
 use Rattle.model.specs.clauses.EntryPoints.{reading, Reads}
 use Rattle.model.specs.claims.Sheets.{RightSizes, ReadAs, StatedIsRead, ReadIsStated, ReadCallExists}
-use Rattle.model.specs.declared.answers.Reading.{Reading}
-use Rattle.model.specs.declared.answers.Reading.TheVariants.{Read}
+use Rattle.model.specs.declared.answers.Counts.{Counts}
+use Rattle.model.specs.declared.refusal.Refusal.{Refusal}
+use Rattle.std.specs.Prelude.{Result, Ok}
 use Rattle.model.proofs.Counting.{length_list}
 use Rattle.model.proofs.Verdicts.{fault_later, no_fault, giving_accepted, gave_accepted, updated_accepted}
 use Rattle.model.proofs.Promises.{keeps_accepted, was_accepted}
@@ -20,7 +20,7 @@ use Rattle.model.proofs.clauses.Reads.{lent_good}
 use Rattle.model.proofs.sheet.Bytes.{stated_is_bytes}
 use Rattle.model.proofs.sheet.Truth.{reads_exactly_what_is_stated, states_read}
 
-module _ (s : List ℕ) (entry exit : LentTables) (answer : Reading) (c : Reads s entry answer exit)
+module _ (s : List ℕ) (entry exit : LentTables) (answer : Result Counts Refusal) (c : Reads s entry answer exit)
     (v : first_fault (reading_faults entry s) ≡ accepted tt) where
   read_as : ReadAs (tables_of s) entry answer exit
   unfolding reading tables_of
@@ -74,13 +74,13 @@ unfolding reading read_sheet answer_of_reading
 read_call_exists s t w =
     let v = sheet_verdict s zeros zeros_sized
     ∙ (gave_accepted (first_fault (sheet_faults s)) (tables_of s) t (states_read s t w)).0 in
-    let called : Reads s zeros (Read (guests s) (stations s)) (filled (tables_of s) zeros)
+    let called : Reads s zeros (Ok (record { guests = guests s; stations = stations s })) (filled (tables_of s) zeros)
     = keeps_accepted v refl refl in
     record {
       bytes = stated_is_bytes s t w;
       entry = zeros;
       right_sizes = zeros_sized;
-      answer = Read (guests s) (stations s);
+      answer = Ok (record { guests = guests s; stations = stations s });
       exit = filled (tables_of s) zeros;
       call = called;
       read = stated_is_read s t _ _ _ zeros_sized called w;

@@ -17,7 +17,7 @@ use Rattle.model.specs.sheet.Lent.{LentTables, reading_faults, table_lengths, fi
 use Rattle.model.specs.clauses.EntryPoints.{reading, writing}
 use Rattle.model.specs.claims.Writings.{WritingAcceptedIffWithinLimits, Gave, market_in, Took, WrittenIsRead}
 use Rattle.model.specs.claims.Writings.{WrittenAsRead, SecondAltersNothing, GaveExists, TookExists}
-use Rattle.model.specs.declared.answers.Writing.TheVariants.{Written}
+use Rattle.std.specs.Prelude.{Ok}
 use Rattle.model.proofs.Tests.{lt_no, not_lt}
 use Rattle.model.proofs.Verdicts.{fault_none, no_fault, no_faults, fault_second, fault_free, giving_accepted}
 use Rattle.model.proofs.Promises.{keeps_accepted, was_accepted}
@@ -108,7 +108,7 @@ gave_exists t a w =
       tickets_are = w;
       entry = shortest t;
       exit = written t (shortest t);
-      answer = Written (length (shortest t));
+      answer = Ok (length (shortest t));
       called = keeps_accepted v refl refl;
       answered = refl;
       is = sym (first_places (shortest t) (shortest t) (length (shortest t)) refl);

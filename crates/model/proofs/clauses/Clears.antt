@@ -10,8 +10,6 @@ use Rattle.model.specs.Numbers.{number, answer_of_clearing}
 use Rattle.model.specs.Verdicts.{Row, ◌gives◌, accepted, refused, first_fault}
 use Rattle.model.proofs.Promises.{was_accepted, was_refused}
 use Rattle.model.specs.declared.refusal.Refusal.{Refusal}
-use Rattle.model.specs.declared.money.UnitPrice.{UnitPrice}
-use Rattle.model.specs.declared.money.Mills.{Mills}
 use Rattle.model.specs.market.Market.{Tables}
 use Rattle.model.specs.market.Outcome.{Results, Outcome, results}
 use Rattle.model.specs.market.Faults.{list_lengths, market_faults, verdict, table_faults}
@@ -19,8 +17,8 @@ use Rattle.model.specs.claims.Meaning.{RightLengths}
 use Rattle.model.proofs.Tests.{neither, is_eq}
 use Rattle.model.proofs.Loops.{zeros_long}
 use Rattle.model.specs.clauses.EntryPoints.{clearing_under, ClearsUnder}
-use Rattle.model.specs.declared.answers.Clearing.{Clearing}
-use Rattle.model.specs.declared.answers.Clearing.TheVariants.{Cleared, Refused}
+use Rattle.model.specs.declared.answers.Figures.{Figures}
+use Rattle.std.specs.Prelude.{Result, Ok, Err}
 
 without_third :
     (a b : Row) (x : Bool) (r : ℕ) (rows : List Row) → x ≡ false
@@ -58,15 +56,15 @@ pub record ClearedAs (made : Tables → Outcome) (t : Tables) (k m : ℕ) (exit 
   pub margin_is : m ≡ (made t).margin
   pub results_are : exit ≡ (made t).results
 
-module _ (made : Tables → Outcome) (t : Tables) (entry exit : Results) (answer : Clearing)
+module _ (made : Tables → Outcome) (t : Tables) (entry exit : Results) (answer : Result Figures Refusal)
     (c : ClearsUnder made t entry answer exit) (l : RightLengths t entry) where
-  pub clear_refused : (x : Refusal) → answer ≡ Refused x → verdict t ≡ refused (number x)
+  pub clear_refused : (x : Refusal) → answer ≡ Err x → verdict t ≡ refused (number x)
   unfolding answer_of_clearing clearing_under
   clear_refused x q = sym (same_verdict t entry l) ∙ (was_refused c (ap answer_of_clearing q)).0
 
-  pub clear_cleared : (k : UnitPrice) (m : Mills) → answer ≡ Cleared k m → ClearedAs made t k.0 m.0 exit
+  pub clear_cleared : (f : Figures) → answer ≡ Ok f → ClearedAs made t f.cut.0 f.margin.0 exit
   unfolding answer_of_clearing clearing_under
-  clear_cleared k m q =
+  clear_cleared f q =
       let (v, e, left) = was_accepted c (ap answer_of_clearing q) in
       record {
         is_accepted = sym (same_verdict t entry l) ∙ v;

@@ -20,8 +20,8 @@ use Rattle.model.proofs.Verdicts.{fault_later, no_fault, giving_accepted, giving
 use Rattle.model.specs.sheet.Rows.{bid_of}
 use Rattle.model.proofs.sheet.Joined.{joined_length}
 use Rattle.model.specs.sheet.Content.{guests, stations, tables_of, sheet_faults, read_sheet}
-use Rattle.model.specs.declared.answers.Reading.TheVariants.{Read, Refused}
-use Rattle.model.specs.declared.answers.Reading.{Reading}
+use Rattle.std.specs.Prelude.{Result, Ok, Err, IfOk}
+use Rattle.model.specs.declared.answers.Counts.{Counts}
 use Rattle.model.proofs.sheet.Faults.{sheet_sound}
 use Rattle.model.proofs.Promises.{was_accepted, was_refused}
 use Rattle.model.specs.sheet.Lent.{LentTables, table_lengths, reading_faults, filled}
@@ -88,10 +88,22 @@ filled_holds t n m entry reads shape n_is m_is full = record {
       (shape.bids_length ∙ ap₂ ◌*◌ n_is m_is);
 }
 
-module _ (s : List ℕ) (entry exit : LentTables) (r : Reading) (k : Reads s entry r exit) where
-  pub read_tables : (n m : ℕ) → r ≡ Read n m → ReadTables (read_sheet s) n m exit
+-- the counts of tables that were read are those of a market
+pub within_counts :
+    {answer : Answer Tables} {exit : LentTables} (r : Result Counts Refusal)
+    → ((c : Counts) → r ≡ Ok c → ReadTables answer c.guests c.stations exit)
+    → IfOk r (λ c. (c.guests ≤ max_guests) × (c.stations ≤ max_stations))
+within_counts (Ok c) h =
+    let t = h c refl in
+    (omega (arith, t.shape.guests_most, t.n_is), omega (arith, t.shape.stations_most, t.m_is))
+within_counts (Err x) h = tt
+
+module _ (s : List ℕ) (entry exit : LentTables) (r : Result Counts Refusal) (k : Reads s entry r exit) where
+  pub read_tables : (c : Counts) → r ≡ Ok c → ReadTables (read_sheet s) c.guests c.stations exit
   unfolding answer_of_reading reading reading_faults table_lengths read_sheet tables_of
-  read_tables n m e =
+  read_tables c e =
+      let n : ℕ = c.guests in
+      let m : ℕ = c.stations in
       let (v, p, full) = was_accepted k (ap answer_of_reading e) in
       let f : n ≡ guests s = sym (ap (λ p. p.0) p) in
       let g : m ≡ stations s = sym (ap (λ p. p.1) p) in
@@ -119,10 +131,14 @@ module _ (s : List ℕ) (entry exit : LentTables) (r : Reading) (k : Reads s ent
   pub read_fault :
       (x : Refusal) → length entry.amounts ≡ max_guests → length entry.tickets ≡ max_guests
       → length entry.asks ≡ max_stations → length entry.bays ≡ max_stations → length entry.bids ≡ max_bids
-      → r ≡ Refused x
+      → r ≡ Err x
       → read_sheet s ≡ refused (number x)
   unfolding answer_of_reading reading reading_faults read_sheet table_lengths
   read_fault x la lk lb lc ld e =
       let l = lent_good _ _ _ _ _ la lk lb lc ld in
       let w = (was_refused k (ap answer_of_reading e)).0 in
       giving_refused _ _ (sym (fault_later 10 (sheet_faults s) l) ∙ w)
+
+  -- what is read is no larger than a market may be
+  pub read_counts : IfOk r (λ c. (c.guests ≤ max_guests) × (c.stations ≤ max_stations))
+  read_counts = within_counts r (λ c e. read_tables c e)

@@ -8,20 +8,19 @@ use Rattle.model.specs.Verdicts.{accepted, refused, first_fault}
 use Rattle.model.specs.market.Market.{Tables}
 use Rattle.model.specs.sheet.Shortest.{shortest, writing_faults, written}
 use Rattle.model.specs.declared.refusal.Refusal.{Refusal}
-use Rattle.model.specs.declared.answers.Writing.{Writing}
-use Rattle.model.specs.declared.answers.Writing.TheVariants as cases
+use Rattle.std.specs.Prelude.{Result, Ok, Err}
 use Rattle.model.specs.clauses.EntryPoints.{writing, Writes}
 use Rattle.model.proofs.Promises.{was_accepted, was_refused}
 
-module _ (t : Tables) (entry exit : List ℕ) (answer : Writing) (k : Writes t entry answer exit) where
+module _ (t : Tables) (entry exit : List ℕ) (answer : Result ℕ Refusal) (k : Writes t entry answer exit) where
   pub told_refused :
-      (x : Refusal) → answer ≡ cases.Refused x
+      (x : Refusal) → answer ≡ Err x
       → (first_fault (writing_faults t (length entry)) ≡ refused (number x)) × (exit ≡ entry)
   unfolding answer_of_writing writing
   told_refused x q = was_refused k (ap answer_of_writing q)
 
   pub told_written :
-      (n : ℕ) → answer ≡ cases.Written n
+      (n : ℕ) → answer ≡ Ok n
       → (first_fault (writing_faults t (length entry)) ≡ accepted tt) × (length (shortest t) ≡ n)
       × (exit ≡ written t entry)
   unfolding answer_of_writing writing

@@ -11,12 +11,13 @@ use borrow.Author.Tests.{not-false}
 use Rattle.model.specs.Limits.{max_guests, max_stations, max_price}
 use Rattle.model.specs.Counting.{◌<?◌, ◌=?◌, ◌or◌, any}
 use Rattle.model.specs.Verdicts.{accepted, first_fault}
-use Rattle.model.specs.market.Market.{Tables, tables, regular}
+use Rattle.model.specs.market.Market.{Tables, tables}
 use Rattle.model.specs.market.Faults.{outside, repeats, counts, lengths, list_lengths, values, market_faults}
 use Rattle.model.specs.market.Faults.{unknown_rule, verdict, Accepted, table_faults, clearing_faults}
 use Rattle.model.specs.market.Rules.{named, is_unknown, rule_in, rule_of}
 use Rattle.model.specs.declared.rule.Rule.TheVariants.{Median, TwoThirds}
-use Rattle.model.specs.declared.rule.NamedRule.TheVariants.{Known, Unknown}
+use Rattle.model.specs.declared.refusal.Refusal.TheVariants.{UnknownRule}
+use Rattle.std.specs.Prelude.{Ok, Err}
 use Rattle.model.specs.book.PlainBook.{PlainBook, entered, over_limit, book_size, no_desk, out_of_turn}
 use Rattle.model.specs.book.PlainBook.{posting_faults}
 use Rattle.model.specs.market.Outcome.{Results}
@@ -156,20 +157,13 @@ exchanged t bids long low a =
       bid_most = low;
     }
 
--- the row width is the number of stations
-pub width_of :
-    (asks bays amounts tickets bids : List ℕ) (width : ℕ)
-    → WithinLimits (tables asks bays amounts tickets bids width)
-    → tables asks bays amounts tickets bids width ≡ regular asks bays amounts tickets bids
-width_of asks bays amounts tickets bids width w = ap (tables asks bays amounts tickets bids) w.shape.width_is
-
 -- a number that names a rule, and one that names none
 pub known : (k : ℕ) → is_unknown (named k) ≡ false → NamesRule k
 unfolding named is_unknown
 known k = go (k =? 1) refl (k =? 2) refl
   where
     go : (x : Bool) → (k =? 1) ≡ x → (y : Bool) → (k =? 2) ≡ y
-        → is_unknown (cond x (Known Median) (cond y (Known TwoThirds) Unknown)) ≡ false → NamesRule k
+        → is_unknown (cond x (Ok Median) (cond y (Ok TwoThirds) (Err UnknownRule))) ≡ false → NamesRule k
     go true e y f h = inl (eq_yes _ _ e)
     go false e true f h = inr (eq_yes _ _ f)
     go false e false f h = absurd (clash refl h)

@@ -9,8 +9,6 @@ use Rattle.model.specs.market.Stable.{Stable}
 use Rattle.model.specs.market.Efficient.{efficient}
 use Rattle.model.specs.market.Outcome.{Outcome, outcome_by}
 use Rattle.model.specs.claims.Efficient.{decided_by}
-use Rattle.model.specs.declared.mechanism.Mechanism.{Mechanism}
-use Rattle.model.specs.declared.mechanism.Mechanism.TheVariants.{Truthful, Efficient}
 use Rattle.model.proofs.market.Decisions.{Candidates}
 use Rattle.model.proofs.market.Truthful.{Keys, truthful_candidates}
 use Rattle.model.proofs.market.Efficient.{efficient_candidates, outcome_of_stable}

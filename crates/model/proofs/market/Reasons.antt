@@ -1,11 +1,11 @@
 -- Laws of codes and outcomes: each code with its fact.
-use Prim.Native.Nat.{ℕ, zero, ◌≤◌, ◌<◌}
-use mathlib.Core.Bool.{true, false, not}
+use Prim.Native.Nat.{ℕ, ◌≤◌, ◌<◌}
+use mathlib.Core.Bool.{true, false}
 use mathlib.Core.Logic.{⊎_elim}
 use mathlib.Core.Path.{◌≡◌, refl}
 use native.Mathlib.Omega.{arith}
 use lib.ListN.{length}
-use Rattle.model.specs.Counting.{◌<?◌, ◌=?◌, ◌and◌, only, greatest}
+use Rattle.model.specs.Counting.{◌<?◌, ◌=?◌, ◌and◌, only}
 use Rattle.model.specs.Verdicts.{first_fault, number_of}
 use Rattle.model.specs.market.Market.{Tables, bid_at, market_by, market, cut, opens, screen, queue, provisional}
 use Rattle.model.specs.market.Outcome.{screened, decision}

@@ -7,7 +7,7 @@ use native.Mathlib.Nat.{le_trans, mul-le-mul_right}
 use native.Mathlib.Omega.{arith}
 use lib.ListN.{get_or, length}
 use Rattle.model.specs.market.Market.{Tables, bid_at, Market, market_by, market, cut, opens, Screened}
-use Rattle.model.specs.market.Market.{screen, queue, provisional, critical}
+use Rattle.model.specs.market.Market.{screen, queue, provisional}
 use Rattle.model.specs.market.Mechanism.{at, charge, charged, obtained, served, paid, surplus, truthful}
 use Rattle.model.specs.market.Outcome.{screened, decision}
 use Rattle.model.specs.declared.rule.Rule.{Rule}

@@ -3,7 +3,6 @@ use Prim.Native.Nat.{ℕ}
 use mathlib.Core.List.{List}
 use mathlib.Core.Path.{◌≡◌, ◌∙◌}
 use native.Mathlib.Omega.{arith}
-use lib.ListN.{length}
 use Rattle.model.specs.Limits.{max_price}
 use Rattle.model.specs.Verdicts.{accepted, first_fault}
 use Rattle.model.specs.market.Market.{Tables}

@@ -15,7 +15,6 @@ use Rattle.model.proofs.Verdicts.{fault_here, fault_later, fault_none, no_fault,
 use Rattle.model.proofs.Verdicts.{no_faults}
 use Rattle.model.specs.sheet.Rows.{row_at, rows_faults}
 use Rattle.model.proofs.sheet.Rows.{first_row}
-use Rattle.model.proofs.sheet.Fields.{narrow}
 use Rattle.model.specs.sheet.Content.{guests, stations, sheet_faults}
 
 pub sheet_short : (s : List ℕ) → length s < 4 → first_fault (sheet_faults s) ≡ refused 1

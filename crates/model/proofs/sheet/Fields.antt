@@ -1,5 +1,5 @@
 -- Laws of fields and bit maps.
-use Prim.Native.Nat.{ℕ, zero, suc, ◌+◌, ◌*◌, ◌-◌, ◌/◌, ◌%◌, ◌^◌, ◌≤◌, ◌<◌}
+use Prim.Native.Nat.{ℕ, zero, suc, ◌+◌, ◌*◌, ◌/◌, ◌%◌, ◌^◌, ◌≤◌, ◌<◌}
 use mathlib.Core.Bool.{true, false}
 use mathlib.Core.List.{List}
 use mathlib.Core.Logic.{⊎_elim}
@@ -7,36 +7,14 @@ use mathlib.Core.Path.{◌≡◌, refl, sym, ap, ◌∙◌}
 use native.Mathlib.Nat.{div-lt_iff_lt-mul, div-div-eq-div-mul}
 use native.Mathlib.Omega.{arith}
 use lib.Count.{ones, ones_in, ones_step}
-use lib.Dec.{ltb}
 use lib.ListN.{get_or}
 use lib.Pow.{pow_mono, pow-add}
-use borrow.Author.Tests.{lt-ltb, le-ltb}
-use Rattle.model.specs.Counting.{◌<?◌, ◌=?◌, only, count}
+use Rattle.model.specs.Counting.{◌=?◌, only, count}
 use Rattle.model.proofs.Counting.{count_start, count_cong, count_front}
-use Rattle.model.proofs.Tests.{decide, lt_or_le, eq_yes, eq_no, only_yes, only_no}
+use Rattle.model.proofs.Tests.{decide, eq_yes, eq_no, only_yes, only_no}
 use Rattle.model.specs.sheet.Fields.{little_endian, has_bit}
 
 -- ---- numbers
-
-pub number_none : (s : List ℕ) (p k : ℕ) → 0 ≡ little_endian s p (k - k)
-unfolding little_endian
-number_none s p k = let e : k - k ≡ 0 = omega arith in rw e refl
-
--- one turn of the loop that goes down from the highest byte
-pub number_turn : (s : List ℕ) (at left k x b : ℕ) → 0 < left → left ≤ k → x ≡ little_endian s (at + left) (k - left)
-    → b ≡ get_or s (at + (left - 1)) 0 → x * 256 + b ≡ little_endian s (at + (left - 1)) (k - (left - 1))
-unfolding little_endian
-number_turn s at left k x b h l e f =
-    let e1 : k - (left - 1) ≡ suc (k - left) = omega arith in
-    let e2 : at + (left - 1) + 1 ≡ at + left = omega arith in
-    rw (e1, e2) (omega arith)
-
-pub number_end :
-    (s : List ℕ) (at left k x : ℕ) → left ≤ 0 → x ≡ little_endian s (at + left) (k - left) → x ≡ little_endian s at k
-number_end s at left k x h e =
-    let e1 : at + left ≡ at = omega arith in
-    let e2 : k - left ≡ k = omega arith in
-    rw (e1, e2) at e
 
 pub number_low : (s : List ℕ) → ((i : ℕ) → get_or s i 0 < 256) → (p k : ℕ) → little_endian s p k < 256 ^ k
 unfolding little_endian
@@ -48,30 +26,8 @@ bytes_pow zero = refl
 bytes_pow (suc k) =
     let e : 8 * suc k ≡ 8 + 8 * k = omega arith in rw e (pow-add 2 8 (8 * k) ∙ omega (arith, bytes_pow k))
 
--- what a 64-bit word holds of a map while it is read
-pub number_four : (s : List ℕ) → ((i : ℕ) → get_or s i 0 < 256) → (p k : ℕ) → k ≤ 4 → little_endian s p k < 4294967296
-number_four s h p k l = omega (arith, number_low s h p k, bytes_pow k, pow_mono {i = 8 * k} {j = 32} (omega arith))
-
-pub number_bytes :
-    (s : List ℕ) (p a b c d : ℕ) → a ≡ get_or s p 0 → b ≡ get_or s (p + 1) 0 → c ≡ get_or s (p + 2) 0
-    → d ≡ get_or s (p + 3) 0
-    → a + 256 * b + 65536 * c + 16777216 * d ≡ little_endian s p 4
-unfolding little_endian
-number_bytes s p a b c d e f g h =
-    let e1 : p + 1 + 1 ≡ p + 2 = omega arith in
-    let e2 : p + 2 + 1 ≡ p + 3 = omega arith in
-    rw (e1, e2) (omega arith)
-
 pub moved : (s : List ℕ) (k p q : ℕ) {v : ℕ} → v ≡ little_endian s p k → p ≡ q → v ≡ little_endian s q k
 moved s k p q e f = rw (← f) e
-
--- the code subtracts where the definition adds
-pub ends_test : (n at k : ℕ) → at ≤ n → ltb (n - at) k ≡ (n <? at + k)
-unfolding ◌<?◌
-ends_test n at k h = ⊎_elim
-    (λ (l : n < at + k). lt-ltb (n - at) k (omega arith) ∙ sym (lt-ltb n (at + k) l))
-    (λ (l : at + k ≤ n). le-ltb (n - at) k (omega arith) ∙ sym (le-ltb n (at + k) l))
-    (lt_or_le n (at + k))
 
 -- ---- bit maps
 

@@ -18,8 +18,8 @@ use Rattle.model.specs.declared.refusal.Refusal.{Refusal}
 use Rattle.model.specs.declared.refusal.Refusal.TheVariants.{LentLengths}
 use Rattle.model.specs.sheet.Rows.{ask_of, bays_of, amount_of, ticket_of, bid_of, rows_faults}
 use Rattle.model.specs.sheet.Content.{guests, stations, tables_of, sheet_faults}
-use Rattle.model.specs.declared.answers.Reading.TheVariants.{Read, Refused}
-use Rattle.model.specs.declared.answers.Reading.{Reading}
+use Rattle.model.specs.declared.answers.Counts.{Counts}
+use Rattle.std.specs.Prelude.{Result, Ok, Err}
 use Rattle.model.proofs.sheet.Faults.{Sound}
 use Rattle.model.proofs.sheet.Answers.{Checked, told_refused}
 use Rattle.model.specs.sheet.Lent.{LentTables, lent_tables, table_lengths, reading_faults, filled}
@@ -62,13 +62,13 @@ module _ (s a k b c d : List ℕ) where
   entry = lent_tables a k b c d
 
   refused_by : (x : Refusal) → first_fault (reading_faults entry s) ≡ refused (number x)
-      → Reads s entry (Refused x) entry
+      → Reads s entry (Err x) entry
   unfolding answer_of_reading reading
   refused_by x e = keeps_refused e
 
   pub refused_lent :
       table_lengths (length a) (length k) (length b) (length c) (length d) ≡ (true gives 10)
-      → Reads s entry (Refused LentLengths) entry
+      → Reads s entry (Err LentLengths) entry
   unfolding reading_faults
   refused_lent e = refused_by LentLengths (rw e (fault_here _ refl))
 
@@ -77,7 +77,8 @@ module _ (s a k b c d : List ℕ) where
     unfolding reading_faults
     as_sheet = rw l (fault_later _ _ refl)
 
-    pub refused_sheet : (x : Refusal) (r : Reading) → Checked s r → r ≡ Refused x → Reads s entry (Refused x) entry
+    pub refused_sheet :
+        (x : Refusal) (r : Result Counts Refusal) → Checked s r → r ≡ Err x → Reads s entry (Err x) entry
     refused_sheet x r e f = refused_by x (as_sheet ∙ told_refused _ _ x r e f)
 
     pub read_all :
@@ -85,7 +86,7 @@ module _ (s a k b c d : List ℕ) where
         → a' ≡ first_places (list n (amount_of s m)) a → k' ≡ first_places (list n (ticket_of s m)) k
         → b' ≡ first_places (list m (ask_of s)) b → c' ≡ first_places (list m (bays_of s)) c
         → d' ≡ first_places (joined n (λ i. list m (bid_of s m i))) d
-        → Reads s entry (Read n m) (lent_tables a' k' b' c' d')
+        → Reads s entry (Ok (record { guests = n; stations = m })) (lent_tables a' k' b' c' d')
     unfolding answer_of_reading reading filled tables_of
     read_all n m a' k' b' c' d' e f g i ti j q l =
         keeps_accepted (as_sheet ∙ e) (rw (f, g) refl) (rw (i, ti, j, q, l, f, g) refl)

@@ -8,7 +8,7 @@ use native.Mathlib.Nat.{eq-or-lt_of_le, le_of_suc-le-suc, le_antisymm}
 use native.Mathlib.Omega.{arith}
 use lib.ListN.{length, get_or}
 use lib.Seq.{ext_get_or}
-use Rattle.model.specs.Counting.{only, count, list, joined}
+use Rattle.model.specs.Counting.{only, count, list}
 use Rattle.model.specs.market.Market.{Tables, bid_at}
 use Rattle.model.specs.Verdicts.{◌gives◌, accepted, refused, first_fault}
 use Rattle.model.specs.market.Faults.{counts}

@@ -1,53 +1,46 @@
 -- Laws of the walk over the set bits of a word: of a step, and of a walk over a map.
 use Prim.Native.Nat.{ℕ, zero, suc, ◌+◌, ◌-◌, ◌^◌, ◌≤◌, ◌<◌}
 use mathlib.Core.Bool.{Bool, true, false}
+use mathlib.Core.List.{[]}
 use mathlib.Core.Logic.{⊎_elim}
-use mathlib.Core.Path.{◌≡◌, refl, sym, ap, ◌∙◌}
+use mathlib.Core.Path.{◌≡◌, refl, sym, ◌∙◌}
 use native.Mathlib.Nat.{eq-or-lt_of_le, le_of_suc-le-suc, not-suc-le-zero}
 use native.Mathlib.Numerals.{add-one}
 use native.Mathlib.Omega.{arith}
 use lib.Bits.{bit_and}
 use lib.Count.{count_trailing_zeros}
-use lib.ListN.{length}
-use Rattle.model.specs.Counting.{count}
+use Rattle.model.specs.Counting.{count, passing}
 use Rattle.model.specs.sheet.Fields.{has_bit}
-use Rattle.model.specs.clauses.Steps.{places_of_step, Steps}
-use Rattle.model.specs.declared.word.Step.TheVariants.{Place, End}
+use Rattle.model.specs.clauses.Steps.{Steps}
+use Rattle.std.specs.Prelude.{Some, None}
 use Rattle.model.proofs.Counting.{count_not}
-use Rattle.model.proofs.Passing.{First, first_listed, listed_first, listed, passing_none, passing_length}
+use Rattle.model.proofs.Passing.{First, first_listed, listed_first, listed, passing_none}
 use Rattle.model.proofs.Tests.{decide, clash, lt_or_le}
 use Rattle.model.proofs.sheet.Bits.{clear_zero, lowest_first, set_within, without_lowest}
 
 -- ---- a step
 
-pub step_end : (x : ℕ) → x ≡ 0 → Steps x End
-unfolding places_of_step
-step_end x e = rw e (record { given = sym (passing_none 64 (has_bit 0) (λ i _. clear_zero i)) })
+pub step_end : (x rest : ℕ) → x ≡ 0 → rest ≡ 0 → Steps x None rest
+step_end x rest e f = record { given = (none x e, none rest f) }
+  where
+    none : (x : ℕ) → x ≡ 0 → passing 64 (has_bit x) ≡ []
+    none x e = rw e (passing_none 64 (has_bit 0) (λ i _. clear_zero i))
 
 -- as code makes it
 pub step_lowest :
     (x j rest : ℕ) → 0 < x → x < 2 ^ 64 → j ≡ count_trailing_zeros 64 x → rest ≡ bit_and x (x - 1)
-    → Steps x (Place j rest)
-unfolding places_of_step
+    → Steps x (Some j) rest
 step_lowest x j rest p h e f =
-    rw (e, f ∙ without_lowest 64 x p h) (record { given = first_listed 64 _ _ _ (lowest_first 64 x p h) })
+    rw (e, f ∙ without_lowest 64 x p h) (record { given = sym (first_listed 64 _ _ _ (lowest_first 64 x p h)) })
 
-pub step_first : {x j rest : ℕ} → Steps x (Place j rest) → First 64 (has_bit x) (has_bit rest) j
-unfolding places_of_step
-step_first s = listed_first 64 _ _ _ s.given
+pub step_first : {x j rest : ℕ} → Steps x (Some j) rest → First 64 (has_bit x) (has_bit rest) j
+step_first s = listed_first 64 _ _ _ (sym s.given)
 
-pub none_set : {x : ℕ} → Steps x End → (i : ℕ) → i < 64 → has_bit x i ≡ false
-unfolding places_of_step
+pub none_set : {x rest : ℕ} → Steps x None rest → (i : ℕ) → i < 64 → has_bit x i ≡ false
 none_set {x} s i l = ⊎_elim
-    (λ (b : has_bit x i ≡ true). absurd (not-suc-le-zero ((rw (← s.given) at (listed 64 (has_bit x))).each i l b).1))
+    (λ (b : has_bit x i ≡ true). absurd (not-suc-le-zero ((rw s.given.0 at (listed 64 (has_bit x))).each i l b).1))
     (λ (b : has_bit x i ≡ false). b)
     (decide (has_bit x i))
-
--- a step leaves one fewer
-pub step_less : {x j rest : ℕ} → Steps x (Place j rest) → count 64 (has_bit rest) < count 64 (has_bit x)
-unfolding places_of_step
-step_less {x} {j} {rest} s =
-    omega (arith, ap length s.given, passing_length 64 (has_bit rest), passing_length 64 (has_bit x))
 
 -- ---- the walk over a map of m bits
 
@@ -82,7 +75,7 @@ pub record Next (map p j : ℕ) : Type 0 where
   pub number : count j (has_bit map) ≡ count p (has_bit map)
 
 module _ {map m left : ℕ} (t : Walk map m left) where
-  module _ {j rest : ℕ} (s : Steps left (Place j rest)) where
+  module _ {j rest : ℕ} (s : Steps left (Some j) rest) where
     onward : t.p ≤ j
     onward = ⊎_elim
         (λ (l : j < t.p). absurd (clash (step_first s).passes (t.passed j l)))
@@ -113,5 +106,5 @@ module _ {map m left : ℕ} (t : Walk map m left) where
     }
 
   -- no bit is left
-  pub walk_done : Steps left End → (k : ℕ) → t.p ≤ k → k < 64 → has_bit map k ≡ false
+  pub walk_done : {rest : ℕ} → Steps left None rest → (k : ℕ) → t.p ≤ k → k < 64 → has_bit map k ≡ false
   walk_done s k l w = sym (t.ahead k l w) ∙ none_set s k w

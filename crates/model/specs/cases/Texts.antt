@@ -1,6 +1,6 @@
 -- What is printed of case E, of its sheet and that with a bid of 0, of a comma-separated market and of a market that is
 -- refused, byte by byte; and which page some arguments ask for.
-use Rattle.std.specs.Prelude.{ℕ, List, [], ◌∷◌, ◌++◌, map, ◌≡◌}
+use Rattle.std.specs.Prelude.{ℕ, List, [], ◌∷◌, ◌++◌, map, ◌≡◌, Option, None}
 use Rattle.model.specs.cases.Cases.{case_e, single}
 use Rattle.model.specs.cases.Sheets.{sheet_e, sheet_e0}
 use Rattle.model.specs.cases.Csv.{csv_e}
@@ -8,13 +8,12 @@ use Rattle.model.specs.market.Outcome.{outcome}
 use Rattle.model.specs.text.MarketText.{market_text_of}
 use Rattle.model.specs.text.Printed.{printed}
 use Rattle.model.specs.text.Asked.{csv_word, quiet_word, why_word, write_word, rule_word, one_word, two_word}
-use Rattle.model.specs.text.Asked.{asked}
+use Rattle.model.specs.text.Asked.{asked, asked_for}
 use Rattle.model.specs.declared.rule.Rule.TheVariants.{Median, TwoThirds}
 use Rattle.model.specs.declared.page.Layout.TheVariants as layout
 use Rattle.model.specs.declared.page.Page.{Page}
 use Rattle.model.specs.declared.page.Page.TheVariants.{Clearing, Efficient, Reasons, Sheet}
 use Rattle.model.specs.declared.page.Asked.{Asked}
-use Rattle.model.specs.declared.page.Asked.TheVariants.{For, Nothing}
 
 -- cut 6
 -- guest 1 station 1 charge 24
@@ -58,11 +57,11 @@ pub record TextsHold : Type 0 where
   pub bid_too_high : market_text_of (outcome Median) (single 1 1 1 1_000_001) ≡ text_nine
 
 -- of a sheet, and of a comma-separated market
-unfoldable pub on_sheet : Page → Asked
-on_sheet page = For layout.Sheet page
+unfoldable pub on_sheet : Page → Option Asked
+on_sheet page = asked_for layout.Sheet page
 
-unfoldable pub on_csv : Page → Asked
-on_csv page = For layout.Csv page
+unfoldable pub on_csv : Page → Option Asked
+on_csv page = asked_for layout.Csv page
 
 -- none; each page; a rule alone and after a page; a number of no rule, no number, `--write` with more, another word
 abbrev pub AskedHold : Type 0
@@ -73,7 +72,7 @@ AskedHold = map asked (
     ∷ (write_word ∷ rule_word ∷ one_word ∷ []) ∷ (two_word ∷ []) ∷ [])
     ≡ map on_sheet (Clearing Median ∷ Efficient Median ∷ Reasons Median ∷ Sheet
     ∷ Clearing Median ∷ Clearing TwoThirds ∷ Efficient TwoThirds ∷ Reasons TwoThirds ∷ [])
-    ++ (Nothing ∷ Nothing ∷ Nothing ∷ Nothing ∷ [])
+    ++ (None ∷ None ∷ None ∷ None ∷ [])
 
 -- the same after `--csv`; `--csv` twice, and after the page
 abbrev pub CsvAskedHold : Type 0
@@ -84,4 +83,4 @@ CsvAskedHold = map asked (
     ∷ (quiet_word ∷ csv_word ∷ []) ∷ [])
     ≡ map on_csv (Clearing Median ∷ Efficient Median ∷ Reasons Median ∷ Sheet
     ∷ Clearing TwoThirds ∷ Efficient TwoThirds ∷ Reasons TwoThirds ∷ [])
-    ++ (Nothing ∷ Nothing ∷ [])
+    ++ (None ∷ None ∷ [])

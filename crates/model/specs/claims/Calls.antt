@@ -1,7 +1,7 @@
 -- Demand 3, first two sentences, over truthful calls of `clear`, and what of it holds of efficient ones: from the
 -- tables, the answer and the result lists at exit alone.
 -- Each statement is a type; its proof is a term of proofs/.
-use Rattle.std.specs.Prelude.{ℕ, suc, ◌+◌, ◌*◌, ◌≤◌, ◌<◌, ◌≡◌, ℤ, get_or, length, ◌≤ℤ◌}
+use Rattle.std.specs.Prelude.{ℕ, suc, ◌+◌, ◌*◌, ◌≤◌, ◌<◌, ◌≡◌, ℤ, get_or, length, ◌≤ℤ◌, Result}
 use Rattle.std.proofs.Math.IntN.{sub_ℕ}
 use Rattle.model.specs.Counting.{◌=?◌, only, sum, count}
 use Rattle.model.specs.market.Market.{Tables, bid_at}
@@ -14,12 +14,13 @@ use Rattle.model.specs.clauses.EntryPoints.{Clears}
 use Rattle.model.specs.Numbers.{answer_of_clearing}
 use Rattle.model.specs.Verdicts.{accepted}
 use Rattle.model.specs.declared.rule.Rule.{Rule}
-use Rattle.model.specs.declared.answers.Clearing.{Clearing}
+use Rattle.model.specs.declared.answers.Figures.{Figures}
+use Rattle.model.specs.declared.refusal.Refusal.{Refusal}
 
 -- a call under the rule of this number that was answered as cleared, whatever its result lists held before
 pub record ClearedCallBy (made : Rule → Tables → Outcome) (rule : ℕ) (t : Tables) : Type 0 where
   pub entry : Results
-  pub answer : Clearing
+  pub answer : Result Figures Refusal
   pub cut : ℕ
   pub margin : ℕ
   pub exit : Results

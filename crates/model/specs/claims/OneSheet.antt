@@ -1,5 +1,5 @@
 -- Document 02, request 8, over calls of `read` and `write`: a market has one sheet, and the writer makes it.
-use Rattle.std.specs.Prelude.{ℕ, ◌≤◌, ◌<◌, Bool, true, List, ◌↔◌, ◌≡◌, length}
+use Rattle.std.specs.Prelude.{ℕ, ◌≤◌, ◌<◌, Bool, true, List, ◌↔◌, ◌≡◌, length, Result}
 use Rattle.std.proofs.Math.Seq.{paste}
 use Rattle.model.specs.Numbers.{answer_of_reading, answer_of_writing}
 use Rattle.model.specs.Verdicts.{accepted, refused}
@@ -11,13 +11,13 @@ use Rattle.model.specs.sheet.Lent.{LentTables}
 use Rattle.model.specs.clauses.EntryPoints.{Reads, Writes}
 use Rattle.model.specs.claims.Sheets.{RightSizes}
 use Rattle.model.specs.claims.Writings.{Gave, Took}
-use Rattle.model.specs.declared.answers.Reading.{Reading}
-use Rattle.model.specs.declared.answers.Writing.{Writing}
+use Rattle.model.specs.declared.answers.Counts.{Counts}
+use Rattle.model.specs.declared.refusal.Refusal.{Refusal}
 
 -- a sheet with a set bit for a bid of 0 is refused, and no lent table is altered
 abbrev pub EmptyBidIsTurnedAway : Type 0
 EmptyBidIsTurnedAway =
-    (t : Tables) (set : ℕ → ℕ → Bool) (i j : ℕ) (entry exit : LentTables) (answer : Reading) → Fitting t
+    (t : Tables) (set : ℕ → ℕ → Bool) (i j : ℕ) (entry exit : LentTables) (answer : Result Counts Refusal) → Fitting t
     → i < length t.amounts → j < length t.asks → set i j ≡ true → bid_at t i j ≡ 0 → RightSizes entry
     → Reads (layout t set) entry answer exit → (answer_of_reading answer ≡ refused 19) × (exit ≡ entry)
 
@@ -36,7 +36,7 @@ TakenExactlyIfGiven = (s : List ℕ) (t : Tables) → Bytes s → (Took s t × A
 -- what was read from s and is accepted is written as s, byte for byte, wherever there is room for it
 abbrev pub ReadIsWritten : Type 0
 ReadIsWritten =
-    (s : List ℕ) (t : Tables) (entry exit : List ℕ) (answer : Writing) → Bytes s → Took s t → Accepted t
+    (s : List ℕ) (t : Tables) (entry exit : List ℕ) (answer : Result ℕ Refusal) → Bytes s → Took s t → Accepted t
     → length s ≤ length entry → Writes t entry answer exit
     → (answer_of_writing answer ≡ accepted (length s)) × (exit ≡ paste entry 0 s (length s))
 
@@ -45,7 +45,8 @@ abbrev pub EmptyBidCallExists : Type 0
 EmptyBidCallExists =
     (t : Tables) (set : ℕ → ℕ → Bool) (i j : ℕ) → Fitting t → i < length t.amounts → j < length t.asks
     → set i j ≡ true → bid_at t i j ≡ 0
-    → (entry : LentTables) × (answer : Reading) × RightSizes entry × Reads (layout t set) entry answer entry
+    → (entry : LentTables) × (answer : Result Counts Refusal) × RightSizes entry
+    × Reads (layout t set) entry answer entry
 
 -- one that reads its sheet and one that gives it, for every accepted market
 abbrev pub TookAndGaveExist : Type 0

@@ -1,7 +1,7 @@
 -- Document 02, request 3: what the definitions say, and what calls of `place_bids` give, from places, answers and bid
 -- tables alone.
 -- Each statement is a type; its proof is a term of proofs/.
-use Rattle.std.specs.Prelude.{ℕ, ◌+◌, ◌*◌, ◌≤◌, ◌<◌, List, ◌↔◌, ◌≡◌, get_or, length, replicate}
+use Rattle.std.specs.Prelude.{ℕ, ◌+◌, ◌*◌, ◌≤◌, ◌<◌, List, ◌↔◌, ◌≡◌, get_or, length, replicate, Result}
 use Rattle.model.specs.Limits.{max_guests, max_stations, max_cell, max_squared_distance, max_price}
 use Rattle.model.specs.Numbers.{answer_of_verdict}
 use Rattle.model.specs.Verdicts.{accepted, first_fault}
@@ -11,8 +11,8 @@ use Rattle.model.specs.places.Bids.{squared_distance, walk, bid_between, Places,
 use Rattle.model.specs.places.Bids.{guest_cell, station_cell, placed_bid, placed_bids}
 use Rattle.model.specs.places.Faults.{placing_faults}
 use Rattle.model.specs.clauses.EntryPoints.{PlacesBids}
-use Rattle.model.specs.declared.answers.Verdict.{Verdict}
 use Rattle.model.specs.declared.cell.Cell.{Cell}
+use Rattle.model.specs.declared.refusal.Refusal.{Refusal}
 
 -- 'the greatest whole d with d times d at most 100 times q'
 abbrev pub WalkIsGreatest : Type 0
@@ -55,7 +55,7 @@ PlacingAcceptedIffWithinLimits =
 -- an accepted call of `place_bids`, and the bids that it left
 pub record Placed (p : Places) (bids : List ℕ) : Type 0 where
   pub entry : List ℕ
-  pub answer : Verdict
+  pub answer : Result Unit Refusal
   pub called : PlacesBids p entry answer bids
   pub accepts : answer_of_verdict answer ≡ accepted tt
 

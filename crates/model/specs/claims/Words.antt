@@ -1,10 +1,9 @@
 -- Document 02, request 5: what the calls of a whole walk over a word give, for every word of 64 bits.
 -- Each statement is a type; its proof is a term of proofs/.
-use Rattle.std.specs.Prelude.{ℕ, ◌^◌, ◌<◌, true, List, [], ◌∷◌, ◌≡◌, get_or, length}
+use Rattle.std.specs.Prelude.{ℕ, ◌^◌, ◌<◌, true, List, [], ◌∷◌, ◌≡◌, get_or, length, Some, None}
 use Rattle.model.specs.Counting.{count, passing}
 use Rattle.model.specs.sheet.Fields.{has_bit}
 use Rattle.model.specs.clauses.Steps.{Steps}
-use Rattle.model.specs.declared.word.Step.TheVariants.{Place, End}
 
 -- 'the place of each once, in rising order, and no other'
 pub record PlacesOf (word : ℕ) (places : List ℕ) : Type 0 where
@@ -13,7 +12,7 @@ pub record PlacesOf (word : ℕ) (places : List ℕ) : Type 0 where
   pub no_other : (k : ℕ) → k < length places → has_bit word (get_or places k 0) ≡ true
   pub counted : length places ≡ count 64 (has_bit word)
 
--- the list that the contract of `step` cites
+-- the list that the contract of the walk over a word cites
 abbrev pub PassingArePlaces : Type 0
 PassingArePlaces = (word : ℕ) → word < 2 ^ 64 → PlacesOf word (passing 64 (has_bit word))
 
@@ -24,9 +23,9 @@ PlacesDetermineWord =
 
 -- the calls of a walk, each on the word that the one before left, up to the one that gives no place; and their places
 pub data Walked : ℕ → List ℕ → Type 0 where
-  end : {word : ℕ} → Steps word End → Walked word []
+  end : {word rest : ℕ} → Steps word None rest → Walked word []
   place :
-      {word j rest : ℕ} {places : List ℕ} → Steps word (Place j rest) → Walked rest places
+      {word j rest : ℕ} {places : List ℕ} → Steps word (Some j) rest → Walked rest places
       → Walked word (j ∷ places)
 
 abbrev pub WalkGivesPlaces : Type 0

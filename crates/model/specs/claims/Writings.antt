@@ -1,5 +1,5 @@
 -- Document 02, request 1, over calls of `read` and `write`: from tables, sheets, outputs and answers alone.
-use Rattle.std.specs.Prelude.{ℕ, ◌*◌, ◌≤◌, List, ◌≡◌, ◌↔◌, length, take}
+use Rattle.std.specs.Prelude.{ℕ, ◌*◌, ◌≤◌, List, ◌≡◌, ◌↔◌, length, take, Result}
 use Rattle.model.specs.Numbers.{answer_of_reading, answer_of_writing}
 use Rattle.model.specs.Verdicts.{accepted, first_fault}
 use Rattle.model.specs.market.Market.{Tables, tables}
@@ -9,8 +9,8 @@ use Rattle.model.specs.sheet.Shortest.{shortest, writing_faults}
 use Rattle.model.specs.sheet.Lent.{LentTables}
 use Rattle.model.specs.clauses.EntryPoints.{Reads, Writes}
 use Rattle.model.specs.claims.Sheets.{RightSizes, ReadAs}
-use Rattle.model.specs.declared.answers.Reading.{Reading}
-use Rattle.model.specs.declared.answers.Writing.{Writing}
+use Rattle.model.specs.declared.answers.Counts.{Counts}
+use Rattle.model.specs.declared.refusal.Refusal.{Refusal}
 
 -- a writing is accepted exactly where its market is and the output has room for the sheet
 abbrev pub WritingAcceptedIffWithinLimits : Type 0
@@ -23,7 +23,7 @@ pub record Gave (t : Tables) (s : List ℕ) : Type 0 where
   pub tickets_are : Words t.tickets
   pub entry : List ℕ
   pub exit : List ℕ
-  pub answer : Writing
+  pub answer : Result ℕ Refusal
   pub called : Writes t entry answer exit
   pub answered : answer_of_writing answer ≡ accepted (length s)
   pub is : s ≡ take (length s) exit
@@ -37,7 +37,7 @@ market_in l n m =
 pub record Took (s : List ℕ) (t : Tables) : Type 0 where
   pub entry : LentTables
   pub exit : LentTables
-  pub answer : Reading
+  pub answer : Result Counts Refusal
   pub n : ℕ
   pub m : ℕ
   pub called : Reads s entry answer exit
@@ -47,7 +47,7 @@ pub record Took (s : List ℕ) (t : Tables) : Type 0 where
 -- reading the writer's output returns the same market
 abbrev pub WrittenIsRead : Type 0
 WrittenIsRead =
-    (t : Tables) (s : List ℕ) (entry exit : LentTables) (answer : Reading) → Gave t s → RightSizes entry
+    (t : Tables) (s : List ℕ) (entry exit : LentTables) (answer : Result Counts Refusal) → Gave t s → RightSizes entry
     → Reads s entry answer exit → ReadAs t entry answer exit
 
 -- writing what was read is never longer than the sheet: it is that sheet

@@ -1,6 +1,6 @@
 -- What each entry point promises: faults, value, what it leaves, by what it is lent at entry (`Promise`). Its contract
 -- says that it keeps that, and the contract of its export is `KeepsOut` or `RepliesOut` of the same promise.
-use Rattle.std.specs.Prelude.{ℕ, ◌-◌, ◌/◌, List, ℤ, get_or, length}
+use Rattle.std.specs.Prelude.{ℕ, ◌-◌, ◌/◌, Bool, List, ℤ, get_or, length, Result}
 use Rattle.model.specs.Numbers.{answer_of_reading, answer_of_writing, answer_of_clearing, answer_of_verdict}
 use Rattle.model.specs.Numbers.{answer_of_trying, answer_of_marking}
 use Rattle.model.specs.Counting.{only}
@@ -25,12 +25,10 @@ use Rattle.model.specs.places.Faults.{placing_faults}
 use Rattle.model.specs.book.Book.{Book, plain}
 use Rattle.model.specs.book.PlainBook.{PlainBook, posting_faults, entered_of}
 use Rattle.model.specs.book.Posting.{Posting}
-use Rattle.model.specs.declared.answers.Reading.{Reading}
-use Rattle.model.specs.declared.answers.Writing.{Writing}
-use Rattle.model.specs.declared.answers.Clearing.{Clearing}
-use Rattle.model.specs.declared.answers.Trying.{Trying}
-use Rattle.model.specs.declared.answers.Marking.{Marking}
-use Rattle.model.specs.declared.answers.Verdict.{Verdict as Coded}
+use Rattle.model.specs.declared.answers.Counts.{Counts}
+use Rattle.model.specs.declared.answers.Figures.{Figures}
+use Rattle.model.specs.declared.answers.Gains.{Gains as BothGains}
+use Rattle.model.specs.declared.refusal.Refusal.{Refusal}
 use Rattle.model.specs.declared.rule.Rule.{Rule}
 
 -- ---- clearing, under the rule of this number, whose outcome is `made` by it: the cut and the margin
@@ -43,8 +41,8 @@ clearing made rule t entry = record {
   leaves = (made (rule_of rule) t).results;
 }
 
-abbrev pub Clears : (made : Rule → Tables → Outcome) (rule : ℕ) (t : Tables) (entry : Results) (answer : Clearing)
-    (exit : Results) → Type 0
+abbrev pub Clears : (made : Rule → Tables → Outcome) (rule : ℕ) (t : Tables) (entry : Results)
+    (answer : Result Figures Refusal) (exit : Results) → Type 0
 Clears made rule t entry answer exit = Keeps (clearing made rule t) entry (answer_of_clearing answer) exit
 
 -- of `clear_under`: the rule is known, so that the tables decide
@@ -53,7 +51,7 @@ clearing_under made t entry =
     record { faults = table_faults t entry; value = ((made t).cut, (made t).margin); leaves = (made t).results }
 
 abbrev pub ClearsUnder :
-    (made : Tables → Outcome) (t : Tables) (entry : Results) (answer : Clearing) (exit : Results) → Type 0
+    (made : Tables → Outcome) (t : Tables) (entry : Results) (answer : Result Figures Refusal) (exit : Results) → Type 0
 ClearsUnder made t entry answer exit = Keeps (clearing_under made t) entry (answer_of_clearing answer) exit
 
 -- ---- `clear_marked`, a truthful clearing with its places and floors: the cut and the margin
@@ -66,7 +64,7 @@ clearing_fully rule t entry = record {
 }
 
 abbrev pub ClearsFully :
-    (rule : ℕ) (t : Tables) (entry : FullResults) (answer : Clearing) (exit : FullResults) → Type 0
+    (rule : ℕ) (t : Tables) (entry : FullResults) (answer : Result Figures Refusal) (exit : FullResults) → Type 0
 ClearsFully rule t entry answer exit = Keeps (clearing_fully rule t) entry (answer_of_clearing answer) exit
 
 -- ---- `mark`, of what is handed in: 1 where it is correct, else 0. Nothing is lent to be written
@@ -75,7 +73,7 @@ unfoldable pub marking : (rule : ℕ) (t : Tables) (s : Submission) (entry : Uni
 marking rule t s entry =
     record { faults = marking_faults rule t s.lists; value = only (correct (rule_of rule) t s) 1; leaves = tt }
 
-abbrev pub Marks : (rule : ℕ) (t : Tables) (s : Submission) (answer : Marking) → Type 0
+abbrev pub Marks : (rule : ℕ) (t : Tables) (s : Submission) (answer : Result Bool Refusal) → Type 0
 Marks rule t s answer = Keeps (marking rule t s) tt (answer_of_marking answer) tt
 
 -- ---- `read`: n and m
@@ -87,7 +85,7 @@ reading sheet entry = record {
   leaves = filled (tables_of sheet) entry;
 }
 
-abbrev pub Reads : (sheet : List ℕ) (entry : LentTables) (answer : Reading) (exit : LentTables) → Type 0
+abbrev pub Reads : (sheet : List ℕ) (entry : LentTables) (answer : Result Counts Refusal) (exit : LentTables) → Type 0
 Reads sheet entry answer exit = Keeps (reading sheet) entry (answer_of_reading answer) exit
 
 -- ---- `read_csv`: n and m
@@ -99,7 +97,7 @@ reading_csv text entry = record {
   leaves = filled (csv_tables text) entry;
 }
 
-abbrev pub ReadsCsv : (text : List ℕ) (entry : LentTables) (answer : Reading) (exit : LentTables) → Type 0
+abbrev pub ReadsCsv : (text : List ℕ) (entry : LentTables) (answer : Result Counts Refusal) (exit : LentTables) → Type 0
 ReadsCsv text entry answer exit = Keeps (reading_csv text) entry (answer_of_reading answer) exit
 
 -- ---- `write`: the sheet's length
@@ -108,7 +106,7 @@ unfoldable pub writing : (t : Tables) (entry : List ℕ) → Promise ℕ (List �
 writing t entry =
     record { faults = writing_faults t (length entry); value = length (shortest t); leaves = written t entry }
 
-abbrev pub Writes : (t : Tables) (entry : List ℕ) (answer : Writing) (exit : List ℕ) → Type 0
+abbrev pub Writes : (t : Tables) (entry : List ℕ) (answer : Result ℕ Refusal) (exit : List ℕ) → Type 0
 Writes t entry answer exit = Keeps (writing t) entry (answer_of_writing answer) exit
 
 -- ---- `place_bids`: no value
@@ -116,10 +114,10 @@ Writes t entry answer exit = Keeps (writing t) entry (answer_of_writing answer) 
 unfoldable pub placing : (p : Places) (entry : List ℕ) → Promise Unit (List ℕ)
 placing p entry = record { faults = placing_faults p (length entry); value = tt; leaves = placed_bids p }
 
-abbrev pub PlacesBids : (p : Places) (entry : List ℕ) (answer : Coded) (exit : List ℕ) → Type 0
+abbrev pub PlacesBids : (p : Places) (entry : List ℕ) (answer : Result Unit Refusal) (exit : List ℕ) → Type 0
 PlacesBids p entry answer exit = Keeps (placing p) entry (answer_of_verdict answer) exit
 
--- ---- `explain`: no value
+-- ---- `explain`: no value. Its contract is over the arrays that it answers; the export leaves them in lent lists
 
 unfoldable pub explaining : (rule : ℕ) (t : Tables) (entry : Explanation) → Promise Unit Explanation
 explaining rule t entry = record {
@@ -133,7 +131,7 @@ explaining rule t entry = record {
 unfoldable pub joining : (t u : Tables) (entry : LentTables) → Promise Unit LentTables
 joining t u entry = record { faults = joining_faults t u entry; value = tt; leaves = joined_tables t u }
 
-abbrev pub Joins : (t u : Tables) (entry : LentTables) (answer : Coded) (exit : LentTables) → Type 0
+abbrev pub Joins : (t u : Tables) (entry : LentTables) (answer : Result Unit Refusal) (exit : LentTables) → Type 0
 Joins t u entry answer exit = Keeps (joining t u) entry (answer_of_verdict answer) exit
 
 -- ---- `try_row`, of a guest that is named from 1 on: both gains
@@ -146,8 +144,8 @@ trying rule t guest worths row entry = record {
   leaves = changes_with (rule_of rule) t (guest - 1) row;
 }
 
-abbrev pub Tries : (rule : ℕ) (t : Tables) (guest : ℕ) (worths row : List ℕ) (entry : List ℕ) (answer : Trying)
-    (exit : List ℕ) → Type 0
+abbrev pub Tries : (rule : ℕ) (t : Tables) (guest : ℕ) (worths row : List ℕ) (entry : List ℕ)
+    (answer : Result BothGains Refusal) (exit : List ℕ) → Type 0
 Tries rule t guest worths row entry answer exit =
     Keeps (trying rule t guest worths row) entry (answer_of_trying answer) exit
 
@@ -161,7 +159,7 @@ listing rule t guest entry = record {
 }
 
 abbrev pub Lists :
-    (rule : ℕ) (t : Tables) (guest : ℕ) (entry : PriceList) (answer : Coded) (exit : PriceList) → Type 0
+    (rule : ℕ) (t : Tables) (guest : ℕ) (entry : PriceList) (answer : Result Unit Refusal) (exit : PriceList) → Type 0
 Lists rule t guest entry answer exit = Keeps (listing rule t guest) entry (answer_of_verdict answer) exit
 
 -- ---- `gains`, of rows one after the other, by the guest's worths and its price list: no value
@@ -175,8 +173,8 @@ gaining rule t guest worths rows entry = record {
       (length t.asks) rows (length rows / length t.asks);
 }
 
-abbrev pub Gains : (rule : ℕ) (t : Tables) (guest : ℕ) (worths rows : List ℕ) (entry : List ℤ) (answer : Coded)
-    (exit : List ℤ) → Type 0
+abbrev pub Gains : (rule : ℕ) (t : Tables) (guest : ℕ) (worths rows : List ℕ) (entry : List ℤ)
+    (answer : Result Unit Refusal) (exit : List ℤ) → Type 0
 Gains rule t guest worths rows entry answer exit =
     Keeps (gaining rule t guest worths rows) entry (answer_of_verdict answer) exit
 

@@ -1,10 +1,10 @@
--- What a contract's parameters lend, by their names: as a `requires` has them (`.._of`), and as an `ensures` has them
--- at entry (`.._in`) and at exit (`.._out`).
+-- What a contract's parameters lend, by their names: as an `ensures` has them at entry (`.._in`) and at exit
+-- (`.._out`), and as a `requires` has them (`.._lent`).
 use Rattle.std.specs.Prelude.{ℕ, List}
 use Rattle.std.specs.Borrow.{Bor}
 use denote.MutBor.{MutBor}
 use denote.Triple.Both.{Both}
-use Rattle.model.specs.market.Market.{Tables, tables, regular}
+use Rattle.model.specs.market.Market.{Tables, tables}
 use Rattle.model.specs.market.Outcome.{Results, results}
 use Rattle.model.specs.book.Book.{Book, book}
 use Rattle.model.specs.market.Reasons.{OutcomeTable, outcome_table, Explanation, explanation}
@@ -27,23 +27,13 @@ tables_in asks bays amounts tickets bids width =
     tables asks.entry.now bays.entry.now amounts.entry.now tickets.entry.now bids.entry.now
     width
 
--- the same, with rows as wide as there are stations
-abbrev pub regular_of : (asks bays amounts tickets bids : Bor (List ℕ)) → Tables
-regular_of asks bays amounts tickets bids = regular asks.now bays.now amounts.now tickets.now bids.now
-
-abbrev pub regular_in : (asks bays amounts tickets bids : Lent (List ℕ)) → Tables
-regular_in asks bays amounts tickets bids =
-    regular_of asks.entry bays.entry amounts.entry tickets.entry bids.entry
-
 -- the result lists of a clearing
-abbrev pub results_of : (stations charges sold paid : MutBor (List ℕ)) → Results
-results_of stations charges sold paid = results stations.now charges.now sold.now paid.now
-
 abbrev pub results_in : (stations charges sold paid : MutLent (List ℕ)) → Results
-results_in stations charges sold paid = results_of stations.entry charges.entry sold.entry paid.entry
+results_in stations charges sold paid =
+    results stations.entry.now charges.entry.now sold.entry.now paid.entry.now
 
 abbrev pub results_out : (stations charges sold paid : MutLent (List ℕ)) → Results
-results_out stations charges sold paid = results_of stations.exit charges.exit sold.exit paid.exit
+results_out stations charges sold paid = results stations.exit.now charges.exit.now sold.exit.now paid.exit.now
 
 -- a book
 abbrev pub book_in : (guests : MutLent (List ℕ)) (stations : MutLent (List StationAccount)) (house : MutLent ℕ)
@@ -66,14 +56,10 @@ lent_tables_out amounts tickets asks bays bids =
     lent_tables amounts.exit.now tickets.exit.now asks.exit.now bays.exit.now bids.exit.now
 
 -- prices, falls and cells
-abbrev pub places_of : (prices falls guest_first guest_second station_first station_second : Bor (List ℕ)) → Places
-places_of prices falls guest_first guest_second station_first station_second =
-    places prices.now falls.now guest_first.now guest_second.now station_first.now station_second.now
-
 abbrev pub places_in : (prices falls guest_first guest_second station_first station_second : Lent (List ℕ)) → Places
 places_in prices falls guest_first guest_second station_first station_second =
-    places_of prices.entry falls.entry guest_first.entry guest_second.entry station_first.entry
-    station_second.entry
+    places prices.entry.now falls.entry.now guest_first.entry.now guest_second.entry.now station_first.entry.now
+    station_second.entry.now
 
 -- an outcome table in three lists, and a code table with it
 abbrev pub outcomes_in : (stations charges reasons : MutLent (List ℕ)) → OutcomeTable
@@ -88,27 +74,20 @@ explanation_in codes stations charges reasons = explanation codes.entry.now (out
 abbrev pub explanation_out : (codes stations charges reasons : MutLent (List ℕ)) → Explanation
 explanation_out codes stations charges reasons = explanation codes.exit.now (outcomes_out stations charges reasons)
 
--- the lists of a clearing with its places and floors (`.._lent` in a `requires`, `.._of` where they are only read),
--- and what is handed in
-abbrev pub full_results_of : (stations charges sold paid places floors : Bor (List ℕ)) → FullResults
-full_results_of stations charges sold paid places floors =
-    full_results (results stations.now charges.now sold.now paid.now) places.now floors.now
-
-abbrev pub full_results_lent : (stations charges sold paid places floors : MutBor (List ℕ)) → FullResults
-full_results_lent stations charges sold paid places floors =
-    full_results (results_of stations charges sold paid) places.now floors.now
-
+-- the lists of a clearing with its places and floors, and one that is handed in
 abbrev pub full_results_in : (stations charges sold paid places floors : MutLent (List ℕ)) → FullResults
 full_results_in stations charges sold paid places floors =
-    full_results_lent stations.entry charges.entry sold.entry paid.entry places.entry floors.entry
+    full_results (results_in stations charges sold paid) places.entry.now floors.entry.now
 
 abbrev pub full_results_out : (stations charges sold paid places floors : MutLent (List ℕ)) → FullResults
 full_results_out stations charges sold paid places floors =
-    full_results_lent stations.exit charges.exit sold.exit paid.exit places.exit floors.exit
+    full_results (results_out stations charges sold paid) places.exit.now floors.exit.now
 
 abbrev pub submission_in : (stations charges sold paid places floors : Lent (List ℕ)) (cut margin : ℕ) → Submission
 submission_in stations charges sold paid places floors cut margin =
-    submission (full_results_of stations.entry charges.entry sold.entry paid.entry places.entry floors.entry) cut margin
+    submission
+    (full_results (results stations.entry.now charges.entry.now sold.entry.now paid.entry.now) places.entry.now
+    floors.entry.now) cut margin
 
 -- a guest's price list (`.._lent` in a `requires`)
 abbrev pub price_list_lent : (bars prices : MutBor (List ℕ)) → PriceList

@@ -1,15 +1,10 @@
--- What `words::step` promises.
-use Rattle.std.specs.Prelude.{ℕ, List, [], ◌∷◌, ◌≡◌}
+-- What the walk over a word's set bits promises of each call of `next` (`words::SetBits`).
+use Rattle.std.specs.Prelude.{ℕ, Option}
+use Rattle.std.specs.Iterator.{YieldsFirst}
 use Rattle.model.specs.Counting.{passing}
 use Rattle.model.specs.sheet.Fields.{has_bit}
-use Rattle.model.specs.declared.word.Step.TheVariants.{Place, End}
-use Rattle.model.specs.declared.word.Step.{Step}
 
--- the place that a step gives, and the places of the bits that it leaves
-unfoldable pub places_of_step : Step → List ℕ
-places_of_step (Place j rest) = j ∷ passing 64 (has_bit rest)
-places_of_step End = []
-
--- a step from a word: together they are the places of its set bits, in rising order
-pub record Steps (word : ℕ) (step : Step) : Type 0 where
-  pub given : places_of_step step ≡ passing 64 (has_bit word)
+-- a step from a word gives the first place of its set bits, in rising order, and leaves a word with the others;
+-- where no bit is set it gives none and leaves none
+pub record Steps (word : ℕ) (place : Option ℕ) (rest : ℕ) : Type 0 where
+  pub given : YieldsFirst (λ word. passing 64 (has_bit word)) word place rest

@@ -1,6 +1,6 @@
 -- Laws of the critical totals: what rows of bids make of them, and what is left where stations are closed.
 use Rattle.std.proofs.Common.{◌≡◌, ℕ, zero, suc, ◌+◌, ◌<◌, ◌≤◌, max, Bool, true, false, List, length, set, sym, refl}
-use Rattle.std.proofs.Common.{ap, ◌∙◌, le_antisymm, add-one, arith}
+use Rattle.std.proofs.Common.{ap, ◌∙◌, add-one, arith}
 use Rattle.model.specs.Limits.{max_stations}
 use Rattle.model.specs.Counting.{◌<?◌, only, greatest, list}
 use Rattle.model.specs.clauses.Rows.{row_of}
@@ -73,9 +73,6 @@ module _ (amounts bids chosen : List ℕ) {m c : ℕ} (rows : Rows amounts bids 
         (λ j lj. ap (λ x. max x (passed_at amounts bids chosen m c n j)) (h.stations j lj)
         ∙ sym (ap (λ k. passed k j) (add-one n))) (renewed_again h k)
 
-    pub passed_end : n ≤ length amounts → length amounts ≤ n → Renewed m (passed (length amounts)) l₀ l
-    passed_end within b = rw (le_antisymm b within) h
-
 only_greatest : (b : Bool) (n : ℕ) (f : ℕ → ℕ) → only b (greatest n f) ≡ greatest n (λ k. only b (f k))
 unfolding only greatest
 only_greatest true n f = refl
@@ -130,4 +127,4 @@ module _ (t : Tables) {c : ℕ} (p : Priced t c) {chosen : List ℕ} (seats : Se
 -- seats of holders are candidacies
 pub seats_known : (t : Tables) {c : ℕ} {R : Seating} → HeldIn t c R → Seats t c R.chosen
 unfolding screened_at
-seats_known t h = record { long = h.chosen_long; candidates = h.holding.candidates }
+seats_known t h = record { long = h.sized.chosen_long; candidates = h.holding.candidates }

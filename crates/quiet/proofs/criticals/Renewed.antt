@@ -1,6 +1,6 @@
 -- Laws of lists of stations' numbers that are renewed.
-use Rattle.std.proofs.Common.{◌≡◌, ℕ, zero, suc, ◌+◌, ◌<◌, ◌≤◌, List, length, set, sym, refl, ◌∙◌, ⊎_elim, le_refl}
-use Rattle.std.proofs.Common.{le_antisymm, add-one, arith, length-set, get_or-set_other, get_or-set_same}
+use Rattle.std.proofs.Common.{◌≡◌, ℕ, zero, suc, ◌+◌, ◌<◌, ◌≤◌, List, length, set, sym, ◌∙◌, ⊎_elim, le_refl}
+use Rattle.std.proofs.Common.{add-one, arith, length-set, get_or-set_other, get_or-set_same}
 use Rattle.model.specs.Counting.{◌<?◌, only, list}
 use Rattle.model.specs.market.Mechanism.{at}
 use Rattle.model.proofs.Tests.{only_yes, only_no, is_lt, not_lt, eq_or_ne, lt_or_le}
@@ -9,14 +9,6 @@ use Rattle.quiet.specs.Efficient.{of}
 use Rattle.quiet.specs.Criticals.{Renewed}
 
 -- ---- a loop over stations: none is renewed, one more, all
-
-pub renewed_none : {f : ℕ → ℕ} {l : List ℕ} → Renewed 0 f l l
-renewed_none = record {
-  same = refl;
-  first = refl;
-  stations = λ j lj. absurd (omega arith);
-  others = λ j _. refl;
-}
 
 pub renewed_turn :
     {f : ℕ → ℕ} {l₀ l : List ℕ} {j v : ℕ} → Renewed j f l₀ l → j + 1 < length l₀ → v ≡ f j
@@ -37,10 +29,6 @@ renewed_turn {f} {l₀} {l} {j} {v} h b e = record {
 -- what is next was not renewed yet
 pub renewed_next : {f : ℕ → ℕ} {l₀ l : List ℕ} {j : ℕ} → Renewed j f l₀ l → of l (j + 1) ≡ of l₀ (suc j)
 renewed_next {j = j} h = rw add-one (h.others j (le_refl j))
-
-pub renewed_end :
-    {m j : ℕ} {f : ℕ → ℕ} {l₀ l : List ℕ} → (j ≤ m) × Renewed j f l₀ l → m ≤ j → Renewed m f l₀ l
-renewed_end (within, h) b = rw (le_antisymm b within) h
 
 -- ---- lists renewed twice, and zeros
 

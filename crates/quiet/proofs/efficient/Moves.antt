@@ -168,20 +168,6 @@ serving_none z w = record {
   settled = λ i j li called. absurd (called (z i li));
 }
 
--- a guest is called up
-pub called_up : {S : Screened} {c c' a : ℕ → ℕ} {x : ℕ} → Put c x 1 c' → Serving S c 0 a → Serving S c' (suc x) a
-called_up {S} {c} {c'} {a} {x} p s = record {
-  in_hand = λ y q z. let y_is : x ≡ y = omega arith in
-      let one : ◌≡◌ {A = ℕ} 1 0 = sym p.placed ∙ ap c' y_is ∙ z in omega arith;
-  waiting = λ i li z. s.waiting i li (sym (p.kept i (λ e. other i z e)) ∙ z);
-  settled = λ i j li called ne lj t. s.settled i j li
-      (λ z. called (p.kept i (λ e. ne (ap suc (sym e))) ∙ z))
-      (λ q. let n : ◌≡◌ {A = ℕ} 0 (suc i) = q in omega arith) lj t;
-}
-  where
-    other : (i : ℕ) → c' i ≡ 0 → i ≡ x → ⊥
-    other i z e = let one : ◌≡◌ {A = ℕ} 1 0 = sym p.placed ∙ ap c' (sym e) ∙ z in omega arith
-
 pub serving_moved :
     {S : Screened} {c : ℕ → ℕ} {x r : ℕ} {a a' : ℕ → ℕ} → Serving S c (suc x) a → Moved S x a r a' → Serving S c r a'
 serving_moved {S} {c} {x} {r} {a} {a'} s m = record {

@@ -33,13 +33,15 @@ module _ (t : Tables) (w : WithinLimits t) {chosen : List ℕ} (e : chosen ≡ l
   none_held c =
       let n = sym (zeros_long max_stations (length t.asks) w.shape.stations_most) in
       record {
-        chosen_long = long _ _ e;
-        held_long = n;
-        firsts_long = n;
-        nexts_long = sym (zeros_long max_guests (length t.amounts) w.shape.guests_most);
-        lasts_long = n;
-        befores_long = n;
-        bars_long = n;
+        sized = record {
+          chosen_long = long _ _ e;
+          held_long = n;
+          firsts_long = n;
+          nexts_long = sym (zeros_long max_guests (length t.amounts) w.shape.guests_most);
+          lasts_long = n;
+          befores_long = n;
+          bars_long = n;
+        };
         holding = record {
           candidates = λ i j li q. absurd (none_holds i j li q);
           counted = λ j lj. zero_at j lj

@@ -1,9 +1,9 @@
 -- Chains of holders, as a guest is put into a slot: at the head, or in the place of another.
 use Rattle.std.proofs.Common.{◌≡◌, ℕ, zero, suc, ◌+◌, ◌-◌, ◌<◌, ◌≤◌, List, length, set, sym, refl, ap, ◌∙◌, ⊎_elim}
-use Rattle.std.proofs.Common.{arith, length-set, get_or-set_other, get_or-set_same}
+use Rattle.std.proofs.Common.{◌⊎◌, inl, inr, arith, length-set, get_or-set_other, get_or-set_same}
 use Rattle.model.proofs.Tests.{eq_or_ne, lt_or_le, is_lt, not_lt, only_yes, only_no}
 use Rattle.quiet.specs.Efficient.{of}
-use Rattle.quiet.specs.Seating.{link, Chain, At, Relinked}
+use Rattle.quiet.specs.Seating.{link, Chain, At, Relinked, Seating, seating}
 use Rattle.quiet.proofs.seats.Slots.{link_suc, link_same}
 
 -- a chain is the same where its slots and their nexts are
@@ -98,10 +98,41 @@ module _ {n h first p x : ℕ} {nexts : List ℕ} {slot : ℕ → ℕ} (slot' : 
 
 -- ---- the lists after `relink`
 
-module _ {j x y before h : ℕ} {firsts nexts firsts' nexts' : List ℕ} {slot : ℕ → ℕ}
-    (r : Relinked j x y before firsts nexts firsts' nexts') (a : At slot h y before)
-    (lj : j < length firsts) (lx : x < length nexts) (inside : (q : ℕ) → q < h → slot q < length nexts)
+module _ {j x h : ℕ} {R R' : Seating} {slot : ℕ → ℕ}
+    (r : Relinked j x R R') (a : At slot h (of R.lasts j) (of R.befores j))
+    (lj : j < length R.firsts) (lx : x < length R.nexts) (inside : (q : ℕ) → q < h → slot q < length R.nexts)
     (not_x : (q : ℕ) → q < h → slot q ≡ x → ⊥) where
+  abbrev before : ℕ
+  before = of R.befores j
+
+  abbrev y : ℕ
+  y = of R.lasts j
+
+  abbrev firsts : List ℕ
+  firsts = R.firsts
+
+  abbrev nexts : List ℕ
+  nexts = R.nexts
+
+  abbrev firsts' : List ℕ
+  firsts' = R'.firsts
+
+  abbrev nexts' : List ℕ
+  nexts' = R'.nexts
+
+  -- what `relink` leaves, list by list
+  links :
+      ((before ≡ 0) × (firsts' ≡ set firsts j (suc x)) × (nexts' ≡ set nexts x (of nexts y)))
+      ⊎ ((before ≡ 0 → ⊥) × (firsts' ≡ firsts)
+      × (nexts' ≡ set (set nexts x (of nexts y)) (before - 1) (suc x)))
+  links = ⊎_elim
+      (λ (z, e). inl (z, ap (λ r. r.firsts) e, ap (λ r. r.nexts) e))
+      (λ (z, e). inr (z, ap (λ r. r.firsts) e, ap (λ r. r.nexts) e))
+      r.links
+
+  pub relinked_is : R' ≡ seating R.chosen R.held firsts' nexts' R.lasts R.befores R.bars
+  relinked_is = ⊎_elim (λ (_, e). rw e refl) (λ (_, e). rw e refl) r.links
+
   abbrev p : ℕ
   p = a.place
 
@@ -126,7 +157,7 @@ module _ {j x y before h : ℕ} {firsts nexts firsts' nexts' : List ℕ} {slot :
   relinked_others l ne = ⊎_elim
       (λ (_, e, _). ap (λ f. of f l) e ∙ get_or-set_other firsts j l _ 0 ne)
       (λ (_, e, _). ap (λ f. of f l) e)
-      r.links
+      links
 
   -- whoever is not x and not in this chain has its next as before
   pub relinked_elsewhere :
@@ -137,7 +168,7 @@ module _ {j x y before h : ℕ} {firsts nexts firsts' nexts' : List ℕ} {slot :
       ap (λ f. of f g) e
       ∙ get_or-set_other (set nexts x (of nexts y)) (before - 1) g _ 0 (λ w. away (suc p) l (w ∙ z))
       ∙ get_or-set_other nexts x g _ 0 ne)
-      r.links
+      links
 
   pub relinked_lengths : (length firsts' ≡ length firsts) × (length nexts' ≡ length nexts)
   relinked_lengths = ⊎_elim
@@ -146,7 +177,7 @@ module _ {j x y before h : ℕ} {firsts nexts firsts' nexts' : List ℕ} {slot :
         ap length e,
         ap length f ∙ length-set (set nexts x (of nexts y)) (before - 1) _ ∙ length-set nexts x _,
       ))
-      r.links
+      links
 
   pub relinked_chain :
       {n : ℕ} {slot' : ℕ → ℕ} → x < n → ((q k : ℕ) → q < h → k < h → slot q ≡ slot k → q ≡ k) → slot' p ≡ x
@@ -174,4 +205,4 @@ module _ {j x y before h : ℕ} {firsts nexts firsts' nexts' : List ℕ} {slot :
       ∙ get_or-set_same (set nexts x (of nexts y)) (before - 1) _ 0 low)
       (λ q lq _ ne_up. other (slot q) (λ w. ne_up (once q (suc p) lq l w))
       ∙ get_or-set_other nexts x (slot q) _ 0 (not_x q lq)))
-      r.links
+      links

@@ -1,5 +1,5 @@
--- An accepted market's lists, their rows, and the tickets that differ.
-use Rattle.std.proofs.Common.{◌≡◌, ℕ, ◌+◌, ◌<◌, List, length, arith}
+-- An accepted market's rows, and the tickets that differ.
+use Rattle.std.proofs.Common.{◌≡◌, ℕ, ◌+◌, ◌<◌, length, arith}
 use Rattle.model.specs.clauses.Rows.{row_of}
 use Rattle.model.specs.market.Market.{Tables, bid_at}
 use Rattle.allocation.specs.Screens.{screened_at}
@@ -7,16 +7,7 @@ use Rattle.model.specs.claims.Meaning.{WithinLimits}
 use Rattle.model.proofs.clauses.Rows.{rows_show_bids}
 use Rattle.model.proofs.market.Acceptance.{same_place, accepted_iff_within_limits}
 use Rattle.model.proofs.market.Truthful.{Keys}
-use Rattle.quiet.specs.Efficient.{of, stated, Listed}
-
-pub listed : (t : Tables) → WithinLimits t → Listed t.amounts t.tickets t.bids (length t.asks)
-listed t w = record {
-  tickets_long = w.shape.tickets_length;
-  bids_long = w.shape.bids_length;
-  bid_most = w.bid_most;
-  amount_most = w.amount_most;
-  differ = w.tickets_differ;
-}
+use Rattle.quiet.specs.Efficient.{of}
 
 -- a guest's row is as long as there are stations, and shows its bid at each
 pub row_shows :
@@ -31,10 +22,3 @@ pub keys : (t : Tables) (c : ℕ) → WithinLimits t → Keys (screened_at t c).
 unfolding screened_at
 keys t c w k i lk li e = same_place t.tickets w.tickets_differ k i
     (omega (arith, w.shape.tickets_length)) (omega (arith, w.shape.tickets_length)) e
-
-pub stated_keys :
-    {amounts tickets bids : List ℕ} {m : ℕ} → Listed amounts tickets bids m
-    → Keys (stated amounts tickets bids m).key (stated amounts tickets bids m).guest_count
-unfolding stated
-stated_keys {tickets = tickets} L k i lk li e =
-    same_place tickets L.differ k i (omega (arith, L.tickets_long)) (omega (arith, L.tickets_long)) e

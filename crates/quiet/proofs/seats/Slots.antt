@@ -1,17 +1,19 @@
 -- Laws of holders in slots and chains: which of them is last, and what a guest put into a slot changes.
-use Rattle.std.proofs.Common.{◌≡◌, ℕ, zero, suc, ◌+◌, ◌-◌, ◌<◌, ◌≤◌, true, cond, ◌⊎◌, List, length, get_or, sym, refl}
+use Rattle.std.proofs.Common.{◌≡◌, ℕ, zero, suc, ◌+◌, ◌-◌, ◌<◌, ◌≤◌, true, cond, ◌⊎◌, List, length, sym, refl}
 use Rattle.std.proofs.Common.{ap, ◌∙◌, inl, inr, ⊎_elim, arith}
 use Rattle.model.specs.Counting.{◌=?◌, ◌and◌}
-use Rattle.model.specs.market.Market.{Screened}
+use Rattle.model.specs.market.Market.{Tables, Screened}
 use Rattle.model.specs.market.Stable.{sooner}
 use Rattle.model.proofs.Tests.{both, eq_or_ne, lt_or_le, is_lt, not_lt, is_eq, not_eq, and_no, and_false, only_yes}
 use Rattle.model.proofs.Tests.{only_no}
-use Rattle.quiet.specs.Efficient.{of, IsLast, Listed, stated}
+use Rattle.quiet.specs.Efficient.{of, IsLast}
+use Rattle.model.specs.claims.Meaning.{WithinLimits}
+use Rattle.allocation.specs.Screens.{screened_at}
 use Rattle.allocation.specs.Ties.{last_ticket}
 use Rattle.quiet.specs.Seating.{priority, link, Chain, At, LaterOf, LastOf, Slotted}
 use Rattle.quiet.proofs.efficient.Order.{sooner_trans, sooner_total}
 use Rattle.quiet.proofs.efficient.Holding.{Reseated, no_seat}
-use Rattle.quiet.proofs.seats.Listing.{stated_keys}
+use Rattle.quiet.proofs.seats.Listing.{keys}
 use Rattle.quiet.proofs.standing.Standing.{priority_sooner}
 
 -- ---- chains
@@ -47,27 +49,24 @@ chain_unique {h = h} {nexts = nexts} {slot} {slot'} c d q l = down (h - suc q) q
 
 -- ---- the last of a chain
 
-module _ {amounts tickets bids : List ℕ} {m : ℕ} (L : Listed amounts tickets bids m) (j y before_y i before_i : ℕ)
-    (ly : y < length amounts) (li : i < length amounts) (low : (i : ℕ) → get_or tickets i 0 ≤ last_ticket) where
-  pub later_after :
-      let S = stated amounts tickets bids m in
-      priority S i j < priority S y j → LaterOf S j y before_y i before_i i before_i
-  unfolding stated
-  later_after less =
-      inl (refl, refl, sym (priority_sooner (stated amounts tickets bids m) _ _ j (low _) (low _)) ∙ is_lt _ _ less)
+module _ (t : Tables) (w : WithinLimits t) (c j y before_y i before_i : ℕ)
+    (ly : y < length t.amounts) (li : i < length t.amounts) (low : (i : ℕ) → of t.tickets i ≤ last_ticket) where
+  abbrev S : Screened
+  S = screened_at t c
 
-  pub later_before :
-      let S = stated amounts tickets bids m in
-      priority S y j ≤ priority S i j → LaterOf S j y before_y i before_i y before_y
-  unfolding stated
+  pub later_after : priority S i j < priority S y j → LaterOf S j y before_y i before_i i before_i
+  unfolding screened_at
+  later_after less = inl (refl, refl, sym (priority_sooner S _ _ j (low _) (low _)) ∙ is_lt _ _ less)
+
+  pub later_before : priority S y j ≤ priority S i j → LaterOf S j y before_y i before_i y before_y
+  unfolding screened_at
   later_before more =
-      let S = stated amounts tickets bids m in
       inr (
         refl,
         refl,
         ⊎_elim
             (λ (e : i ≡ y). inl e)
-            (λ (ne : i ≡ y → ⊥). inr (sooner_total S (stated_keys L) j _ _ ly li (λ e. ne (sym e))
+            (λ (ne : i ≡ y → ⊥). inr (sooner_total S (keys t c w) j _ _ ly li (λ e. ne (sym e))
             (sym (priority_sooner S _ _ j (low _) (low _)) ∙ not_lt _ _ more)))
             (eq_or_ne i y),
       )
@@ -105,9 +104,6 @@ last_start {h = h} {first = first} slot c l =
 
 module _ {S : Screened} {j n h first : ℕ} {nexts : List ℕ} {i number guest before q : ℕ}
     (l : LastSoFar S j n h first nexts i number guest before q) where
-  pub i_guest : i < n
-  i_guest = rw l.here (l.chain.guests q l.within)
-
   pub last_guest : guest < n
   last_guest = rw l.at.guest_is (l.chain.guests _ l.at.within)
 
@@ -165,14 +161,6 @@ module _ {S : Screened} {j n h first : ℕ} {nexts : List ℕ} {i number guest b
           (let z : k ≡ q - 1 = omega arith in ap l.slot z) ∙ sym i_is in rw k_is after)
           (λ (e : q ≤ k). l.so_far k e hk)
           (lt_or_le k q))
-
-  pub last_end : q ≤ 0 → LastOf S j n h first nexts guest before
-  last_end z = record {
-    slot = l.slot;
-    chain = l.chain;
-    at = l.at;
-    last = λ k lk. l.so_far k (omega arith) lk;
-  }
 
 pub last_of_guest :
     {S : Screened} {j n h first guest before : ℕ} {nexts : List ℕ} → LastOf S j n h first nexts guest before → guest < n

@@ -1,22 +1,22 @@
 -- Laws of bars and choices: who passes a bar is taken, and the greatest choice is the best.
 use Rattle.std.proofs.Common.{◌≡◌, ℕ, zero, suc, ◌+◌, ◌-◌, ◌*◌, ◌/◌, ◌%◌, ◌^◌, ◌<◌, ◌≤◌, max, true, false, List, length}
 use Rattle.std.proofs.Common.{sym, refl, ap, ◌∙◌, ap₂, inl, inr, ⊎_elim, le_refl, mul-le-mul, arith}
-use Rattle.model.specs.Limits.{max_price, max_amount}
 use Rattle.model.specs.Counting.{◌<?◌, ◌≤?◌, ◌and◌, only}
 use Rattle.model.specs.clauses.Rows.{row_of}
 use Rattle.model.specs.market.Market.{Tables, Screened, bid_at}
 use Rattle.allocation.specs.Screens.{screened_at}
 use Rattle.model.proofs.Tests.{decide, clash, both, first, second, only_yes, only_no, only_le, same_test, or_left}
 use Rattle.model.proofs.Tests.{or_skip}
-use Rattle.model.proofs.Tests.{lt_yes, le_yes, is_lt, not_lt, is_le, not_le, lt_or_le}
+use Rattle.model.proofs.Tests.{lt_yes, le_yes, is_lt, not_lt, is_le, not_le, lt_or_le, not_eq}
+use Rattle.model.proofs.Counting.{none_some}
 use Rattle.model.proofs.market.Choice.{best_holds, best_best, best_lowest, best_cong}
 use Rattle.allocation.specs.Totals.{max_total}
 use Rattle.quiet.specs.Efficient.{Priced, of, takes, best_taker}
 use Rattle.allocation.specs.Ties.{last_ticket}
 use Rattle.quiet.specs.Seating.{priority, Opened, Bars, passes, best_past, choice, no_choice}
 use Rattle.quiet.specs.Seating.{IsChoice, TopChoice, station_in, bar_of, Seating, HeldIn}
-use Rattle.quiet.proofs.standing.Standing.{product_low, priority_sooner, priority_low}
-use Rattle.quiet.proofs.seats.Listing.{listed, row_shows}
+use Rattle.quiet.proofs.standing.Standing.{total_low, priority_sooner, priority_low}
+use Rattle.quiet.proofs.seats.Listing.{row_shows}
 
 -- ---- bars
 
@@ -63,14 +63,13 @@ module _ (t : Tables) {c : ℕ} (p : Priced t c) {R : Seating} (h : HeldIn t c R
   pub bars_low : Bars (length t.asks) R.bars
   unfolding bar_of screened_at bid_at
   bars_low = record {
-    long = h.bars_long;
+    long = h.sized.bars_long;
     low = λ j lj. rw (h.bars_are j lj) (⊎_elim
         (λ (free : of R.held j < of t.bays j). rw (only_no _ (suc (priority (screened_at t c) (of R.lasts j) j))
         (not_le _ _ free)) (omega arith))
         (λ (full : of t.bays j ≤ of R.held j).
         rw (only_yes _ (suc (priority (screened_at t c) (of R.lasts j) j)) (is_le _ _ full))
-        (priority_low (screened_at t c) (of R.lasts j) j
-        (product_low (listed t p.within) (h.holding.lasts j lj full).guest lj refl)))
+        (priority_low t p.within c (h.holding.lasts j lj full).guest lj))
         (lt_or_le (of R.held j) (of t.bays j)));
   }
 
@@ -80,7 +79,7 @@ module _ (t : Tables) {c : ℕ} (p : Priced t c) {R : Seating} (h : HeldIn t c R
 low_byte : (total k : ℕ) → k < 256 → (total * 2 ^ 32 + k) % 256 ≡ k
 low_byte total k l = omega arith
 
-pub choice_station : (S : Screened) (x j : ℕ) → j < 64 → (choice S x j % 256 ≤ 65) × (suc j ≡ station_in (choice S x j))
+pub choice_station : (S : Screened) (x j : ℕ) → j < 64 → (choice S x j % 256 ≤ 64) × (suc j ≡ station_in (choice S x j))
 unfolding choice station_in
 choice_station S x j l =
     let byte = low_byte (S.total x j) (64 - j) (omega arith) in (
@@ -89,7 +88,7 @@ choice_station S x j l =
           number ∙ sym (only_yes _ _ (is_lt _ _ (omega arith))),
     )
 
-pub no_station : (S : Screened) (x : ℕ) → (no_choice S x % 256 ≤ 65) × (0 ≡ station_in (no_choice S x))
+pub no_station : (S : Screened) (x : ℕ) → (no_choice S x % 256 ≤ 64) × (0 ≡ station_in (no_choice S x))
 unfolding no_choice station_in
 no_station S x =
     let byte : no_choice S x % 256 ≡ 0 = omega arith in
@@ -119,7 +118,7 @@ module _ (S : Screened) {bar : ℕ → ℕ} {x top : ℕ} (m : S.station_count <
       let same : k ≡ j = omega arith in
       q ∙ ap suc same
 
-  pub top_station : (top % 256 ≤ 65) × (best_past S bar x ≡ station_in top)
+  pub top_station : (top % 256 ≤ 64) × (best_past S bar x ≡ station_in top)
   top_station = ⊎_elim
       (λ (e : top ≡ no_choice S x). rw e ((no_station S x).0, none_past e _ refl ∙ (no_station S x).1))
       (λ (j, lj, past, e). rw e (
@@ -200,12 +199,6 @@ module _ (t : Tables) {c : ℕ} (p : Priced t c) {x : ℕ} (lx : x < length t.am
   unfolding no_choice screened_at
   no_choice_is {scale} e q = q ∙ ap (λ y. c * y) e ∙ omega arith
 
-  pub no_choice_low : c * (of t.amounts x * 2 ^ 32) < 2 ^ 64
-  no_choice_low =
-      let most : c * (of t.amounts x * 2 ^ 32) ≤ max_price * (max_amount * 2 ^ 32) =
-      mul-le-mul p.cut_low (mul-le-mul (p.within.amount_most x lx) (le_refl (2 ^ 32))) in
-      omega arith
-
   -- the row that the view shows is as long as there are stations
   pub in_row : {row : List ℕ} → row ≡ row_of t.bids (length t.asks) (x + 1) → length row ≡ length t.asks
   in_row shown = ap length shown ∙ (row_shows t p.within x lx).0
@@ -215,10 +208,10 @@ module _ (t : Tables) {c : ℕ} (p : Priced t c) {x : ℕ} (lx : x < length t.am
     scaled : of row j * scale ≡ bid_at t x j * of t.amounts x * 2 ^ 32
     scaled = ap₂ ◌*◌ (ap (λ l. of l j) shown ∙ (row_shows t p.within x lx).1 j lj) e ∙ omega arith
 
-    pub total_low : of row j * scale ≤ max_total * 2 ^ 32
-    unfolding bid_at
-    total_low =
-        let low : bid_at t x j * of t.amounts x ≤ max_total = product_low (listed t p.within) lx lj refl in
+    pub scaled_low : of row j * scale ≤ max_total * 2 ^ 32
+    unfolding screened_at
+    scaled_low =
+        let low : bid_at t x j * of t.amounts x ≤ max_total = total_low t p.within c lx lj in
         omega (arith, scaled)
 
     pub choice_here : {low : ℕ} (bar top : ℕ) {r : ℕ} → low ≡ last_ticket - of t.tickets x
@@ -243,18 +236,21 @@ module _ (t : Tables) {c : ℕ} (p : Priced t c) {x : ℕ} (lx : x < length t.am
       {bar : ℕ → ℕ} {top q : ℕ} {opened : List ℕ} → Opened t.asks c opened
       → BestSoFar (screened_at t c) bar x opened top q → length opened ≤ q → TopChoice (screened_at t c) bar x top
   unfolding screened_at
-  best_end o h l = record {
+  best_end {top = top} o h l = record {
     is_choice = h.is_choice;
     greatest = λ j lj past.
         let ask : of t.asks j < c = lt_yes _ _ (first _ _ (first _ _ past)) in
-        let (r, lr, j_is) = o.all j lj ask in
-        let past_r = rw (← j_is) at past in
-        rw (← j_is) (h.so_far r (omega arith) past_r);
+        ⊎_elim
+        (λ (less : top < choice (screened_at t c) x j). absurd (clash (o.all j lj ask) (none_some _ _
+        (λ r lr. not_eq _ _ (λ j_is. let past_r = rw (← j_is) at past in
+        let low = rw j_is at (h.so_far r (omega arith) past_r) in omega (arith, low))))))
+        (λ low. low)
+        (lt_or_le top (choice (screened_at t c) x j));
   }
 
   pub best_is :
       {bar : ℕ → ℕ} {top : ℕ} → TopChoice (screened_at t c) bar x top
-      → (top % 256 ≤ 65) × (best_past (screened_at t c) bar x ≡ station_in top)
+      → (top % 256 ≤ 64) × (best_past (screened_at t c) bar x ≡ station_in top)
   unfolding screened_at bid_at
   best_is h = top_station (screened_at t c) (omega (arith, p.within.shape.stations_most))
       (λ j past. mul-le-mul (le_yes _ _ (second _ _ past)) (le_refl _)) h

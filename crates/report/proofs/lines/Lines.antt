@@ -3,6 +3,7 @@ use Prim.Native.Nat.{ℕ, zero, suc, ◌+◌, ◌*◌, ◌≤◌}
 use mathlib.Core.List.{List, ◌++◌}
 use native.Mathlib.Omega.{arith}
 use lib.ListN.{length, length-append}
+use Rattle.std.proofs.Common.{append_assoc}
 use Rattle.model.specs.Counting.{joined}
 use Rattle.model.specs.text.Decimal.{field}
 use Rattle.sheet.specs.Wrote.{Wrote}
@@ -12,14 +13,19 @@ use Rattle.model.specs.text.Lines.{guest_word, at_station_word, charge_word, sta
 use Rattle.model.specs.text.Lines.{line_end}
 use Rattle.model.specs.text.Lines.{guest_line, station_line, guest_lines, station_lines}
 
--- three fields and the line's end
-module _ (a b c : List ℕ) (x y z : ℕ) where
-  pub wrote_line :
-      {l l₁ l₂ l₃ l₄ : List ℕ} {p p₁ p₂ p₃ p₄ : ℕ} → Wrote l p (field a x) l₁ p₁ → Wrote l₁ p₁ (field b y) l₂ p₂
-      → Wrote l₂ p₂ (field c z) l₃ p₃ → Wrote l₃ p₃ line_end l₄ p₄
-      → Wrote l p (field a x ++ field b y ++ field c z ++ line_end) l₄ p₄
-  wrote_line f g h e = wrote_then (wrote_then (wrote_then f g) h) e
+-- a field and the line's end
+pub line_end_at :
+    {l l' : List ℕ} (w : List ℕ) {p q : ℕ} (x : ℕ) → Wrote l p (field w x ++ line_end) l' q → q ≤ p + length w + 21
+line_end_at w x a = omega (arith, a.next, length-append (field w x) line_end, length_field w x)
 
+-- and after another text
+pub wrote_line :
+    {l l' l'' t : List ℕ} (w : List ℕ) {p q r : ℕ} (x : ℕ) → Wrote l p t l' q
+    → Wrote l' q (field w x ++ line_end) l'' r → Wrote l p (t ++ field w x ++ line_end) l'' r
+wrote_line {t = t} w x a b = rw (append_assoc t (field w x) line_end) (wrote_then a b)
+
+-- three of them
+module _ (a b c : List ℕ) (x y z : ℕ) where
   length_line : length (field a x ++ field b y ++ field c z ++ line_end) ≤ length a + length b + length c + 61
   length_line =
       omega (

@@ -1,7 +1,7 @@
 -- A written page is what is promised: of a refusal, of a cleared market, of a written sheet.
 use Prim.Native.Nat.{ℕ, ◌≤◌}
 use mathlib.Core.List.{List, ◌++◌}
-use mathlib.Core.Path.{◌≡◌, sym, ap, ◌∙◌}
+use mathlib.Core.Path.{◌≡◌, refl, sym, ap, ◌∙◌}
 use native.Mathlib.Nat.{min-eq_left}
 use native.Mathlib.Omega.{arith}
 use lib.ListN.{length, length-append}
@@ -29,8 +29,8 @@ use Rattle.model.specs.clauses.Prints.{Prints}
 use Rattle.model.specs.Limits.{max_page}
 use Rattle.model.specs.Numbers.{number}
 use Rattle.model.specs.declared.refusal.Refusal.{Refusal}
-use Rattle.model.specs.declared.answers.Writing.{Writing}
-use Rattle.model.specs.declared.answers.Writing.TheVariants as writing
+use Rattle.std.specs.Prelude.{Result, Ok, Err}
+use Rattle.report.specs.Tried.{Tried}
 use Rattle.model.specs.sheet.Shortest.{shortest, written}
 use Rattle.model.specs.clauses.EntryPoints.{Writes}
 use Rattle.model.proofs.claims.Writings.{writing_accepted_iff_within_limits}
@@ -65,11 +65,18 @@ length_text o n m =
       length_station_lines o.results.sold o.results.paid (length o.results.sold),
     )
 
-pub prints_refused :
-    {l l' : List ℕ} {q : ℕ} (made : Tables → Outcome) (t : Tables) (x : ℕ) → verdict t ≡ refused x
-    → Wrote l 0 (refusal_text x) l' q → Prints (market_text_of made t) l q l'
-unfolding market_text_of market_text
-prints_refused made t x e w = rw e (prints w (length_refusal x))
+-- a refusal of what was tried, before anything was written
+pub prints_fault :
+    {t l l' l'' : List ℕ} {q : ℕ} (x : Refusal) → Tried t l (Err x) l' → Wrote l' 0 (refusal_text (number x)) l'' q
+    → Prints t l q l''
+unfolding Tried
+prints_fault x f w = rw f.0 (prints (rw f.1 at w) (length_refusal (number x)))
+
+pub tried_refused :
+    (l : List ℕ) (made : Tables → Outcome) (t : Tables) (x : Refusal) → verdict t ≡ refused (number x)
+    → Tried (market_text_of made t) l (Err x) l
+unfolding Tried market_text_of market_text
+tried_refused l made t x e = (rw e refl, refl)
 
 outcome_lengths_lem :
     (x : Mechanism) (rule : Rule) (t : Tables) → let r = (outcome_in x rule t).results in
@@ -78,13 +85,13 @@ unfolding outcome_in outcome efficient_outcome outcome_by screened market market
 outcome_lengths_lem Truthful rule t = (length_list _ _, length_list _ _)
 outcome_lengths_lem Efficient rule t = (length_list _ _, length_list _ _)
 
-pub prints_cleared :
+pub tried_cleared :
     {l l' : List ℕ} {q : ℕ} (x : Mechanism) (rule : Rule) (t : Tables) (k m : ℕ) (exit : Results)
     → ClearedAs (outcome_in x rule) t k m exit → length t.amounts ≤ max_guests → length t.asks ≤ max_stations
     → Wrote l 0 (text (outcome_of k m exit.stations exit.charges exit.sold exit.paid)) l' q
-    → Prints (market_text_of (outcome_in x rule) t) l q l'
-unfolding market_text_of market_text
-prints_cleared x rule t k m exit c n s w =
+    → Tried (market_text_of (outcome_in x rule) t) l (Ok q) l'
+unfolding Tried market_text_of market_text
+tried_cleared x rule t k m exit c n s w =
     let o : outcome_of k m exit.stations exit.charges exit.sold exit.paid ≡ outcome_in x rule t = λ i.
     record { cut = c.cut_is i; margin = c.margin_is i; results = c.results_are i } in
     let (a, b) = outcome_lengths_lem x rule t in
@@ -92,23 +99,16 @@ prints_cleared x rule t k m exit c n s w =
 
 -- ---- sheets
 
-module _ (t : Tables) (l l₁ : List ℕ) (answer : Writing) (c : Writes t l answer l₁) where
-  pub prints_unwritten :
-      {l' : List ℕ} {q : ℕ} (x : Refusal) → answer ≡ writing.Refused x → Wrote l₁ 0 (refusal_text (number x)) l' q
-      → Prints (sheet_page_of (length l) t) l q l'
-  unfolding sheet_page_of sheet_page
-  prints_unwritten {l'} {q} x e w =
-      let (v, same) = told_refused t l l₁ answer c x e in
-      rw v (prints (rw same at w) (length_refusal (number x)))
-
-  pub prints_written :
-      (n : ℕ) → answer ≡ writing.Written n → Prints (sheet_page_of (length l) t) l n l₁
-  unfolding sheet_page_of sheet_page written
-  prints_written n e =
-      let (v, long, is) = told_written t l l₁ answer c n e in
-      let (a, room) = (writing_accepted_iff_within_limits t (length l)).0 v in
-      rw v (record {
-        buffer_is = is ∙ ap (paste l 0 (shortest t)) (sym (min-eq_left room));
-        length_is = sym long;
-        fits = rw (← long) (shortest_fits t a);
-      })
+pub tried_sheet :
+    (t : Tables) (l l' : List ℕ) (answer : Result ℕ Refusal) → Writes t l answer l'
+    → Tried (sheet_page_of (length l) t) l answer l'
+unfolding Tried sheet_page_of sheet_page written
+tried_sheet t l l' (Ok n) c =
+    let (v, long, is) = told_written t l l' (Ok n) c n refl in
+    let (a, room) = (writing_accepted_iff_within_limits t (length l)).0 v in
+    rw v (record {
+      buffer_is = is ∙ ap (paste l 0 (shortest t)) (sym (min-eq_left room));
+      length_is = sym long;
+      fits = rw (← long) (shortest_fits t a);
+    })
+tried_sheet t l l' (Err x) c = let (v, same) = told_refused t l l' (Err x) c x refl in (rw v refl, same)

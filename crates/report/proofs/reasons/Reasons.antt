@@ -1,43 +1,43 @@
 -- The lines of guests' records, and how long they are at most.
 use Prim.Native.Nat.{ℕ, ◌+◌, ◌*◌, ◌≤◌, ◌<◌}
-use mathlib.Core.List.{List, [], ◌∷◌, ◌++◌}
+use mathlib.Core.List.{List, ◌++◌}
 use mathlib.Core.Path.{◌≡◌, refl, sym, ap, subst, ◌∙◌}
 use native.Mathlib.Omega.{arith}
 use lib.ListN.{get_or, length, length-append}
 use Rattle.model.specs.Limits.{max_guests, max_page}
 use Rattle.model.specs.Counting.{◌=?◌, joined}
-use Rattle.model.specs.Numbers.{code_of, station_of, charge_of, loss_of, number, answer_of_verdict}
-use Rattle.model.specs.Verdicts.{accepted, refused, first_fault}
+use Rattle.model.specs.Numbers.{code_of, station_of, charge_of, loss_of, number}
+use Rattle.model.specs.Verdicts.{accepted, refused}
 use Rattle.model.specs.market.Market.{Tables}
-use Rattle.model.specs.market.Faults.{verdict, explained_faults}
+use Rattle.model.specs.market.Faults.{verdict}
 use Rattle.model.specs.market.Reasons.{guest_outcomes}
 use Rattle.model.specs.text.Decimal.{field}
 use Rattle.model.specs.text.Lines.{guest_word, charge_word, line_end}
 use Rattle.model.specs.text.ReasonsText.{wins_word, loses_word}
 use Rattle.model.specs.text.ReasonsText.{reason_word, win_line, loss_line, outcome_line, outcome_lines, reasons_text}
-use Rattle.model.specs.text.Text.{refusal_text}
 use Rattle.model.specs.text.MarketText.{reasons_page, reasons_page_of}
-use Rattle.model.specs.clauses.Prints.{Prints}
 use Rattle.model.specs.declared.money.Mills.{Mills}
 use Rattle.model.specs.declared.rule.Rule.{Rule}
 use Rattle.model.specs.declared.refusal.Refusal.{Refusal}
-use Rattle.model.specs.declared.answers.Verdict.TheVariants as verdicts
+use Rattle.std.specs.Prelude.{Ok, Err}
 use Rattle.model.specs.declared.reason.Reason.{Reason}
 use Rattle.model.specs.declared.reason.Reason.TheVariants.{NoBid, NotOpen, BelowCut, Outbid}
 use Rattle.model.specs.declared.reason.GuestResult.{GuestResult}
 use Rattle.model.specs.declared.reason.GuestResult.TheVariants.{Win, Loss}
 use Rattle.model.specs.declared.reason.GuestOutcome.{GuestOutcome}
-use Rattle.model.proofs.Verdicts.{updated_accepted}
+use Rattle.model.proofs.Promises.{was_accepted, was_refused}
 use Rattle.model.proofs.sheet.Joined.{joined_cong}
 use Rattle.sheet.specs.Wrote.{Wrote}
-use Rattle.explain.specs.Explained.{told_by, ExplainedUnder}
+use Rattle.explain.specs.Explained.{told_by, answer_of_explaining, telling_under, ExplainedUnder}
 use Rattle.explain.specs.Outcomes.{record_at}
 use Rattle.explain.specs.declared.explained.OutcomeArrays.{OutcomeArrays}
-use Rattle.explain.proofs.Answers.{market_verdict, shows_station, shows_charge, shows_loss, outcomes_long}
+use Rattle.explain.proofs.Answers.{market_verdict, told_under, shows_station, shows_charge}
+use Rattle.explain.proofs.Answers.{shows_loss, outcomes_long}
 use Rattle.report.specs.Records.{record_line}
 use Rattle.report.proofs.text.Fields.{length_field}
 use Rattle.report.proofs.lines.Lines.{joined_end}
-use Rattle.report.proofs.printing.Printing.{prints, length_refusal}
+use Rattle.report.proofs.printing.Printing.{prints}
+use Rattle.report.specs.Tried.{Tried}
 
 -- ---- reasons
 
@@ -133,32 +133,28 @@ module _ (rule : Rule) (t : Tables) (e : OutcomeArrays) (few : e.guests ≤ max_
       ∙ joined_cong (length t.amounts) _ _ (λ k l. line_is k l)
       ∙ ap (outcome_lines (guest_outcomes rule t)) (sym (outcomes_long rule t).0)
 
-module _ (rule : Rule) (t : Tables) (n : ℕ) (table : List ℕ) (e : OutcomeArrays) (table' : List ℕ)
-    (codes : length table ≡ length t.amounts * length t.asks) (outcomes : n ≡ length t.amounts)
-    (s : ExplainedUnder rule t n table e table') where
-  judged : answer_of_verdict e.reply ≡ verdict t
-  judged = s.answered ∙ market_verdict t (length table) n codes outcomes
+module _ (rule : Rule) (t : Tables) (n : ℕ) (table table' : List ℕ)
+    (codes : length table ≡ length t.amounts * length t.asks) (outcomes : n ≡ length t.amounts) where
+  pub tried_unexplained :
+      (l : List ℕ) (x : Refusal) → ExplainedUnder rule t n table (Err x) table'
+      → Tried (reasons_page_of (guest_outcomes rule) t) l (Err x) l
+  unfolding Tried reasons_page_of reasons_page answer_of_explaining telling_under
+  tried_unexplained l x s =
+      let v : verdict t ≡ refused (number x)
+      = sym (market_verdict t (length table) n codes outcomes) ∙ (was_refused s refl).0 in
+      (rw v refl, refl)
 
-  pub prints_unexplained :
-      {l l' : List ℕ} {q : ℕ} (x : Refusal) → e.reply ≡ verdicts.Refused x
-      → Wrote l 0 (refusal_text (number x)) l' q → Prints (reasons_page_of (guest_outcomes rule) t) l q l'
-  unfolding reasons_page_of reasons_page answer_of_verdict
-  prints_unexplained x p w =
-      let v : verdict t ≡ refused (number x) = sym judged ∙ ap answer_of_verdict p in
-      rw v (prints w (length_refusal (number x)))
-
-  pub prints_explained :
-      {l l' : List ℕ} {q : ℕ} → e.reply ≡ verdicts.Accepted
+  pub tried_explained :
+      {l l' : List ℕ} {q : ℕ} (e : OutcomeArrays) → ExplainedUnder rule t n table (Ok e) table'
       → Wrote l 0 (joined e.guests (λ k. record_line (k + 1) (record_at e k))) l' q
-      → Prints (reasons_page_of (guest_outcomes rule) t) l q l'
-  unfolding reasons_page_of reasons_page answer_of_verdict
-  prints_explained p w =
-      let v : verdict t ≡ accepted tt = sym judged ∙ ap answer_of_verdict p in
-      let f : first_fault (explained_faults t (length table) (n ∷ [])) ≡ accepted tt
-      = market_verdict t (length table) n codes outcomes ∙ v in
-      let guests = s.guests_are ∙ updated_accepted _ _ f in
-      let lines = lines_are rule t e s.few guests (s.outcomes_told ∙ updated_accepted _ _ f) in
+      → Tried (reasons_page_of (guest_outcomes rule) t) l (Ok q) l'
+  unfolding Tried reasons_page_of reasons_page answer_of_explaining telling_under
+  tried_explained e s w =
+      let v : verdict t ≡ accepted tt
+      = sym (market_verdict t (length table) n codes outcomes) ∙ (was_accepted s refl).0 in
+      let (few, guests, told) = told_under rule t n table e s in
+      let lines = lines_are rule t e few guests told in
       let short = joined_end _ 89 (λ k. record_short _ _) e.guests w in
       let long : length (joined e.guests (λ k. record_line (k + 1) (record_at e k))) ≤ max_page
-      = omega (arith, w.next, s.few) in
+      = omega (arith, w.next, few) in
       rw v (prints (rw lines at w) (rw lines at long))

@@ -1,33 +1,39 @@
 -- Bids by the map of their row.
 use Prim.Native.Nat.{ℕ, ◌+◌, ◌*◌, ◌^◌, ◌≤◌, ◌<◌}
 use mathlib.Core.Bool.{false}
-use mathlib.Core.List.{List}
+use mathlib.Core.List.{List, [], ◌∷◌}
 use mathlib.Core.Logic.{⊎_elim}
 use mathlib.Core.Path.{◌≡◌, sym, ap, ◌∙◌}
 use native.Mathlib.Omega.{arith}
-use lib.ListN.{length, set}
-use Rattle.model.specs.Counting.{◌<?◌, only, count}
-use Rattle.model.proofs.Counting.{count_all, count_start, count_yes, count_up}
-use Rattle.model.proofs.Tests.{only_yes, only_no, is_lt, not_lt, lt_or_le}
+use lib.ListN.{length, set, length-set}
+use lib.Seq.{get_or-set_same, get_or-set_other}
+use Rattle.model.specs.Counting.{◌<?◌, only, count, list, passing}
 use Rattle.model.specs.sheet.Fields.{little_endian, has_bit}
 use Rattle.model.specs.sheet.Rows.{bid_by}
-use Rattle.model.specs.clauses.Steps.{Steps}
-use Rattle.model.specs.declared.word.Step.TheVariants.{Place, End}
+use Rattle.model.proofs.Counting.{count_all, count_start, count_yes, count_up, length_list, get_d_list, list_cong}
+use Rattle.model.proofs.Loops.{is_list}
+use Rattle.model.proofs.Tests.{only_yes, only_no, is_lt, not_lt, lt_or_le, eq_or_ne}
 use Rattle.model.proofs.sheet.Walk.{Next, count_still, Walk, walk_all, walk_next, walk_bit, walk_on, walk_done}
-use Rattle.sheet.specs.Filling.{placed}
-use Rattle.sheet.proofs.filling.Filled.{placed_cong, placed_set, placed_again}
+use Rattle.sheet.specs.Filling.{AllFilled, RowFilled}
+use Rattle.sheet.specs.Taken.{Moved, Taken}
+use Rattle.sheet.specs.declared.fields.Cursor.{Cursor}
+use Rattle.sheet.proofs.fields.Moves.{moved_none, moved_then, moved_by, room_after, taken_after}
 
 -- where all bits are set the bids follow each other
-pub bid_full :
-    (s : List ℕ) (map q m : ℕ) → count m (has_bit map) ≡ m → (j : ℕ) → j < m
-    → little_endian s (q + 4 * j) 4 ≡ bid_by s map q j
+pub all_set :
+    {from to : Cursor} {m : ℕ} {row : List ℕ} (map : ℕ) → count m (has_bit map) ≡ m → AllFilled from m row to
+    → RowFilled from map m row to
 unfolding bid_by
-bid_full s map q m e j l = let (c, b) = count_all m (has_bit map) e j l in rw c (sym (only_yes _ _ b))
+all_set {from} {m = m} map e f = record {
+  moved = moved_by f.moved (ap (λ k. 4 * k) (sym e));
+  row_is = f.row_is ∙ list_cong m _ _ (λ j l.
+      let (c, b) = count_all m (has_bit map) e j l in rw c (sym (only_yes _ _ b)));
+}
 
 -- where a bit is clear there is no bid
-pub bid_none : (s : List ℕ) (map q j : ℕ) → has_bit map j ≡ false → bid_by s map q j ≡ 0
+no_bid : (s : List ℕ) (map q j : ℕ) → has_bit map j ≡ false → bid_by s map q j ≡ 0
 unfolding bid_by
-bid_none s map q j e = only_no _ _ e
+no_bid s map q j e = only_no _ _ e
 
 -- f below p, 0 from there on
 unfoldable pub up_to : ℕ → (ℕ → ℕ) → ℕ → ℕ
@@ -41,76 +47,82 @@ beyond : (p k : ℕ) (f : ℕ → ℕ) → p ≤ k → up_to p f k ≡ 0
 unfolding up_to
 beyond p k f h = only_no _ _ (not_lt k p h)
 
--- The walk over the set bits of a row's map: l₀ has become l by those that are taken, and the cursor stands at d.
-pub record Walked (s : List ℕ) (map m base q : ℕ) (l₀ l : List ℕ) (d left : ℕ) : Type 0 where
+-- one place of a list anew
+set_list :
+    (m j v : ℕ) (f g : ℕ → ℕ) → j < m → v ≡ g j → ((k : ℕ) → k < m → (k ≡ j → ⊥) → f k ≡ g k)
+    → set (list m f) j v ≡ list m g
+set_list m j v f g l e o =
+    is_list m g _ (length-set (list m f) j v ∙ length_list m f) (λ k lk. ⊎_elim
+    (λ (q : k ≡ j). rw q (get_or-set_same (list m f) j v 0 (omega (arith, length_list m f)) ∙ e))
+    (λ (q : k ≡ j → ⊥). get_or-set_other (list m f) j k v 0 q ∙ get_d_list m f k lk ∙ o k lk q)
+    (eq_or_ne k j))
+
+-- The walk over the set bits of a row's map: the bids of those that are taken are in the row.
+pub record Walked (from : Cursor) (map m : ℕ) (row : List ℕ) (left : ℕ) (to : Cursor) : Type 0 where
   pub walk : Walk map m left
-  pub place : d ≡ q + 4 * count walk.p (has_bit map)
-  pub is : l ≡ placed base m (up_to walk.p (bid_by s map q)) l₀
+  pub moved : Moved from (4 * count walk.p (has_bit map)) to
+  pub is : row ≡ list m (up_to walk.p (bid_by from.sheet.now map from.at))
 
-module _ (s : List ℕ) (map m base q : ℕ) (l₀ : List ℕ) where
-  -- the row holds 0
-  pub walk_start :
-      (l : List ℕ) → base ≤ length l₀ → l ≡ placed base m (λ _. 0) l₀ → Walked s map m base q l l q map
-  walk_start l b e = record {
-    walk = walk_all map m;
-    place = omega (arith, count_start (has_bit map));
-    is = e ∙ sym (placed_again base m (λ _. 0) (λ _. 0) l₀ b) ∙ ap (placed base m (λ _. 0)) (sym e)
-        ∙ placed_cong base m _ _ l (λ j _. sym (beyond 0 j (bid_by s map q) (omega arith)));
+pub walk_start : (r : Cursor) (map m : ℕ) {row : List ℕ} → row ≡ list m (λ _. 0) → Walked r map m row map r
+walk_start r map m e = record {
+  walk = walk_all map m;
+  moved = moved_by (moved_none r) (omega (arith, count_start (has_bit map)));
+  is = e ∙ list_cong m _ _ (λ j _. sym (beyond 0 j (bid_by r.sheet.now map r.at) (omega arith)));
+}
+
+module _ {from to : Cursor} {map m left : ℕ} {row : List ℕ} (t : Walked from map m row left to) where
+  abbrev bid : ℕ → ℕ
+  bid = bid_by from.sheet.now map from.at
+
+  module _ (j rest : ℕ) (g : passing 64 (has_bit left) ≡ j ∷ passing 64 (has_bit rest))
+      (narrow : map < 2 ^ m) where
+    n : Next map t.walk.p j
+    n = walk_next t.walk {j = j} {rest = rest} (record { given = g })
+
+    pub walk_place : j < m
+    walk_place = walk_bit t.walk {j = j} {rest = rest} (record { given = g }) narrow
+
+    -- its field is within the row
+    pub walk_room : from.at + 4 * count m (has_bit map) ≤ length from.sheet.now → to.at + 4 ≤ length to.sheet.now
+    walk_room h = room_after t.moved 4 (omega (
+      arith,
+      n.number,
+      count_yes j (has_bit map) n.set,
+      count_up (j + 1) m (has_bit map) (omega (arith, walk_place)),
+    ))
+
+    pub walk_turn : {v : ℕ} {to' : Cursor} → Taken to 4 v to' → Walked from map m (set row j v) rest to'
+    unfolding bid_by
+    walk_turn {v} k = record {
+      walk = walk_on t.walk {j = j} {rest = rest} (record { given = g }) narrow;
+      moved = moved_by (moved_then t.moved k.moved) (omega (arith, n.number, count_yes j (has_bit map) n.set));
+      is = ap (λ y. set y j v) t.is
+          ∙ set_list m j v _ _ walk_place (value ∙ sym (below (j + 1) j bid (omega arith))) others;
+    }
+      where
+        value : v ≡ bid j
+        value = taken_after t.moved k
+            ∙ ap (λ c. little_endian from.sheet.now (from.at + 4 * c) 4) (sym n.number) ∙ sym (only_yes _ _ n.set)
+
+        others : (k : ℕ) → k < m → (k ≡ j → ⊥) → up_to t.walk.p bid k ≡ up_to (j + 1) bid k
+        others k _ o = ⊎_elim
+            (λ (a : k < t.walk.p). below t.walk.p k bid a ∙ sym (below (j + 1) k bid (omega (arith, n.onward))))
+            (λ (a : t.walk.p ≤ k). beyond t.walk.p k bid a ∙ ⊎_elim
+            (λ (c : k < j + 1). sym (below (j + 1) k bid c ∙ no_bid _ map _ k (n.gap k a (omega arith))))
+            (λ (c : j + 1 ≤ k). sym (beyond (j + 1) k bid c))
+            (lt_or_le k (j + 1)))
+            (lt_or_le k t.walk.p)
+
+  -- no bit is left
+  pub walk_end : passing 64 (has_bit left) ≡ [] → m ≤ 64 → RowFilled from map m row to
+  walk_end g few = record {
+    moved = moved_by t.moved
+        (ap (λ c. 4 * c) (sym (count_still (has_bit map) t.walk.p m t.walk.low clear)));
+    row_is = t.is ∙ list_cong m _ _ (λ k l. ⊎_elim
+        (λ (a : k < t.walk.p). below t.walk.p k bid a)
+        (λ (a : t.walk.p ≤ k). beyond t.walk.p k bid a ∙ sym (no_bid _ map _ k (clear k a l)))
+        (lt_or_le k t.walk.p));
   }
-
-  module _ {l : List ℕ} {d left : ℕ} (t : Walked s map m base q l₀ l d left) where
-    module _ {j rest : ℕ} (g : Steps left (Place j rest)) (narrow : map < 2 ^ m) where
-      -- its field is within the row
-      pub walk_field : d + 4 ≤ q + 4 * count m (has_bit map)
-      walk_field =
-          omega (
-            arith,
-            t.place,
-            (walk_next t.walk g).number,
-            count_yes j (has_bit map) (walk_next t.walk g).set,
-            count_up (j + 1) m (has_bit map) (omega (arith, walk_bit t.walk g narrow)),
-          )
-
-      pub walk_turn :
-          (v d' : ℕ) → base ≤ length l₀ → v ≡ little_endian s d 4 → d' ≡ d + 4
-          → Walked s map m base q l₀ (set l (base + j) v) d' rest
-      unfolding bid_by
-      walk_turn v d' b e f = record {
-        walk = walk_on t.walk g narrow;
-        place = omega (arith, t.place, n.number, count_yes j (has_bit map) n.set);
-        is = ap (λ y. set y (base + j) v) t.is
-            ∙ placed_set base m j v _ _ l₀ b (walk_bit t.walk g narrow)
-            (value ∙ sym (below (j + 1) j _ (omega arith))) others;
-      }
-        where
-          n : Next map t.walk.p j
-          n = walk_next t.walk g
-
-          value : v ≡ bid_by s map q j
-          value =
-              let at : d ≡ q + 4 * count j (has_bit map) = omega (arith, t.place, n.number) in
-              e ∙ ap (λ x. little_endian s x 4) at ∙ sym (only_yes _ _ n.set)
-
-          others :
-              (k : ℕ) → k < m → (k ≡ j → ⊥) → up_to t.walk.p (bid_by s map q) k ≡ up_to (j + 1) (bid_by s map q) k
-          others k _ o = ⊎_elim
-              (λ (a : k < t.walk.p). below t.walk.p k _ a ∙ sym (below (j + 1) k _ (omega (arith, n.onward))))
-              (λ (a : t.walk.p ≤ k). beyond t.walk.p k _ a ∙ ⊎_elim
-              (λ (c : k < j + 1). sym (below (j + 1) k _ c ∙ bid_none s map q k (n.gap k a (omega arith))))
-              (λ (c : j + 1 ≤ k). sym (beyond (j + 1) k _ c))
-              (lt_or_le k (j + 1)))
-              (lt_or_le k t.walk.p)
-
-    -- no bit is left
-    module _ (g : Steps left End) (few : m ≤ 64) where
+    where
       clear : (k : ℕ) → t.walk.p ≤ k → k < m → has_bit map k ≡ false
-      clear k a l = walk_done t.walk g k a (omega arith)
-
-      pub walk_place : d ≡ q + 4 * count m (has_bit map)
-      walk_place = omega (arith, t.place, count_still (has_bit map) t.walk.p m t.walk.low clear)
-
-      pub walk_end : l ≡ placed base m (bid_by s map q) l₀
-      walk_end = t.is ∙ placed_cong base m _ _ l₀ (λ k l. ⊎_elim
-          (λ (a : k < t.walk.p). below t.walk.p k _ a)
-          (λ (a : t.walk.p ≤ k). beyond t.walk.p k _ a ∙ sym (bid_none s map q k (clear k a l)))
-          (lt_or_le k t.walk.p))
+      clear k a l = walk_done t.walk {rest = left} (record { given = (g, g) }) k a (omega arith)

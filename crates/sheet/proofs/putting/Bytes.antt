@@ -1,62 +1,41 @@
--- Numbers as bytes, and their writing.
-use Prim.Native.Nat.{ℕ, zero, suc, ◌+◌, ◌*◌, ◌/◌, ◌%◌, ◌^◌, ◌<◌, ◌≤◌}
-use mathlib.Core.List.{List, [], ◌∷◌, ◌++◌}
-use mathlib.Core.Path.{◌≡◌, refl, sym, ap, ◌∙◌}
+-- Numbers as bytes.
+use Prim.Native.Nat.{ℕ, zero, suc, ◌/◌, ◌%◌, ◌^◌, ◌≤◌}
+use mathlib.Core.List.{◌∷◌}
+use mathlib.Core.Path.{◌≡◌, refl, sym, ap, ap₂, ◌∙◌}
 use native.Mathlib.Nat.{div-div-eq-div-mul}
-use native.Mathlib.Numerals.{add-one}
 use native.Mathlib.Omega.{arith}
-use lib.ListN.{length, set, length-set}
+use lib.ListN.{take}
+use Rattle.std.specs.Int.{w16, w32, w64, to_le_bytes, bytes_low_first, byte_at}
 use Rattle.model.specs.sheet.Layout.{bytes_of}
-use Rattle.sheet.specs.Wrote.{Wrote}
-use Rattle.sheet.proofs.Wrote.{wrote_byte, wrote_then}
 
--- the place after, by another name
-pub ends_at : {l t l' : List ℕ} {p q r : ℕ} → Wrote l p t l' q → q ≡ r → Wrote l p t l' r
-ends_at w e = rw e at w
+byte_is : (i x : ℕ) → byte_at i x ≡ x / 256 ^ i % 256
+byte_is zero x = let e : x / 256 ^ 0 ≡ x = omega arith in rw e refl
+byte_is (suc i) x = refl
 
--- the bytes, by other names of the number and of how many they are
-pub same_bytes :
-    {j k x y : ℕ} → j ≡ k → x ≡ y → {l l' : List ℕ} {p q : ℕ} → Wrote l p (bytes_of j x) l' q
-    → Wrote l p (bytes_of k y) l' q
-same_bytes e f w = rw (e, f) at w
-
-pub wrote_two :
-    (l : List ℕ) (p x : ℕ) → p + 2 ≤ length l → x < 65536
-    → Wrote l p (bytes_of 2 x) (set (set l p (x % 256)) (p + 1) (x / 256)) (p + 2)
+-- from byte i on
+low_first : (i k x : ℕ) → bytes_low_first i k x ≡ bytes_of k (x / 256 ^ i)
 unfolding bytes_of
-wrote_two l p x room small =
-    let high : x / 256 % 256 ≡ x / 256 = omega arith in
-    rw high (ends_at (wrote_then (wrote_byte l p (x % 256) (omega arith))
-    (wrote_byte (set l p (x % 256)) (p + 1) (x / 256) (omega (arith, length-set l p (x % 256))))) (omega arith))
+low_first i zero x = refl
+low_first i (suc k) x =
+    let next : x / 256 ^ suc i ≡ x / 256 ^ i / 256 =
+    sym (div-div-eq-div-mul x (256 ^ i) 256 ∙ ap (λ y. x / y) (omega arith)) in
+    ap₂ (λ b bs. b ∷ bs) (byte_is i x) (low_first (suc i) k x ∙ ap (bytes_of k) next)
 
-low_byte : (x low high : ℕ) → x ≡ low + 256 * high → low < 256 → x % 256 ≡ low
-low_byte x low high e h = omega arith
+all_bytes : (k x : ℕ) → bytes_low_first 0 k x ≡ bytes_of k x
+all_bytes k x = low_first 0 k x ∙ ap (bytes_of k) (omega arith)
 
-pub bytes_halves : (x : ℕ) → bytes_of 4 x ≡ bytes_of 2 (x % 65536) ++ bytes_of 2 (x / 65536)
+pub two_bytes : (x : ℕ) → to_le_bytes w16 x ≡ bytes_of 2 x
+two_bytes x = all_bytes 2 x
+
+pub four_bytes : (x : ℕ) → to_le_bytes w32 x ≡ bytes_of 4 x
+four_bytes x = all_bytes 4 x
+
+take_bytes : (k n x : ℕ) → k ≤ n → take k (bytes_of n x) ≡ bytes_of k x
 unfolding bytes_of
-bytes_halves x =
-    let a : x % 65536 % 256 ≡ x % 256 = omega arith in
-    let b : x % 65536 / 256 % 256 ≡ x / 256 % 256 =
-    low_byte (x % 65536 / 256) (x % 65536 / 256) 0 (omega arith) (omega arith)
-    ∙ sym (low_byte (x / 256) (x % 65536 / 256) (x / 65536) (omega arith) (omega arith)) in
-    let high : x / 65536 ≡ x / 256 / 256 = omega arith in
-    rw (a, b, high) refl
+take_bytes zero n x h = refl
+take_bytes (suc k) zero x h = absurd (omega arith)
+take_bytes (suc k) (suc n) x h = ap (λ bs. x % 256 ∷ bs) (take_bytes k n (x / 256) (omega arith))
 
--- one byte more
-bytes_suc : (k x : ℕ) → bytes_of (suc k) x ≡ bytes_of k x ++ (x / 256 ^ k % 256 ∷ [])
-unfolding bytes_of
-bytes_suc zero x = let e : x / 256 ^ 0 ≡ x = omega arith in rw e refl
-bytes_suc (suc k) x =
-    let q : x / 256 / 256 ^ k ≡ x / 256 ^ suc k =
-    div-div-eq-div-mul x 256 (256 ^ k) ∙ ap (λ y. x / y) (omega arith) in
-    ap (λ l. x % 256 ∷ l) (bytes_suc k (x / 256) ∙ ap (λ y. bytes_of k (x / 256) ++ (y % 256 ∷ [])) q)
-
-pub shifted : (x left i : ℕ) → left ≡ x / 256 ^ i → left / 256 ≡ x / 256 ^ (i + 1)
-shifted x left i e =
-    rw (add-one, e) (div-div-eq-div-mul x (256 ^ i) 256 ∙ ap (λ y. x / y) (omega arith))
-
-pub wrote_next_byte :
-    {l l' : List ℕ} (p x left i : ℕ) → Wrote l p (bytes_of i x) l' (p + i) → left ≡ x / 256 ^ i → p + i < length l
-    → Wrote l p (bytes_of (i + 1) x) (set l' (p + i) (left % 256)) (p + (i + 1))
-wrote_next_byte p x left i w e room =
-    rw (add-one, bytes_suc i x, ← e) (ends_at (wrote_then w (wrote_byte _ _ _ (omega (arith, w.same)))) (omega arith))
+-- the lowest k
+pub first_bytes : (k x : ℕ) → k ≤ 8 → take k (to_le_bytes w64 x) ≡ bytes_of k x
+first_bytes k x h = ap (take k) (all_bytes 8 x) ∙ take_bytes k 8 x h

@@ -1,24 +1,24 @@
 -- The bids of a row by its map.
 use Prim.Native.Nat.{ℕ, suc, ◌+◌, ◌^◌, ◌≤◌, ◌<◌}
 use mathlib.Core.Bool.{true, false}
-use mathlib.Core.List.{List, []}
-use mathlib.Core.Path.{◌≡◌, sym, ap, ◌∙◌}
+use mathlib.Core.List.{[], ◌∷◌}
+use mathlib.Core.Path.{◌≡◌, refl, sym, ap, ◌∙◌}
 use native.Mathlib.Numerals.{add-one}
 use native.Mathlib.Omega.{arith}
 use lib.ListN.{length, length-append}
-use Rattle.model.specs.Counting.{◌<?◌, count, joined}
+use Rattle.model.specs.Counting.{◌<?◌, count, joined, passing}
 use Rattle.model.specs.sheet.Fields.{has_bit}
 use Rattle.model.specs.sheet.Layout.{bytes_of, stated}
-use Rattle.model.proofs.Counting.{count_all}
-use Rattle.model.specs.clauses.Steps.{Steps}
-use Rattle.model.specs.declared.word.Step.TheVariants.{Place, End}
-use Rattle.model.proofs.sheet.Walk.{Walk, walk_all, walk_next, walk_bit, walk_on, walk_done}
-use Rattle.model.proofs.sheet.Fields.{count_narrow}
+use Rattle.model.proofs.sheet.Walk.{Walk, Next, walk_all, walk_next, walk_bit, walk_on, walk_done}
 use Rattle.model.proofs.sheet.Holds.{pack_bit, pack_low, bytes_length}
+use Rattle.model.proofs.Counting.{count_all}
+use Rattle.model.proofs.sheet.Fields.{count_narrow}
 use Rattle.model.proofs.sheet.Joined.{joined_cong, joined_gap}
 use Rattle.sheet.specs.Laid.{bid_field, bid_fields, row_map}
-use Rattle.sheet.specs.Wrote.{Wrote}
-use Rattle.sheet.proofs.Wrote.{wrote_none_joined, wrote_then, joined_up}
+use Rattle.sheet.specs.Put.{Put}
+use Rattle.sheet.specs.declared.putting.Output.{Output}
+use Rattle.sheet.proofs.putting.Puts.{put_then}
+use Rattle.sheet.proofs.Wrote.{wrote_none_joined, joined_up}
 
 module _ (m : ℕ) (bid : ℕ → ℕ) {map : ℕ} (e : map ≡ row_map m bid) where
   bit_of_bid : (j : ℕ) → j < m → has_bit map j ≡ (0 <? bid j)
@@ -46,47 +46,53 @@ module _ (m : ℕ) (bid : ℕ → ℕ) {map : ℕ} (e : map ≡ row_map m bid) w
       (count_all m (has_bit map) (sym (count_narrow m map few map_narrow) ∙ n) j l).1)
 
   -- the walk over the set bits: those that are taken are written
-  pub record Walked (l₀ : List ℕ) (at : ℕ) (l : List ℕ) (q left : ℕ) : Type 0 where
+  pub record Walked (from : Output) (to : Output) (left : ℕ) : Type 0 where
     pub walk : Walk map m left
-    pub wrote : Wrote l₀ at (joined walk.p (λ j. bid_field (bid j))) l q
+    pub put : Put from (joined walk.p (λ j. bid_field (bid j))) to
 
-  pub walked_none : (l : List ℕ) (at : ℕ) → Walked l at l at map
-  walked_none l at = record { walk = walk_all map m; wrote = wrote_none_joined _ l at }
+  pub walked_none : (o : Output) → Walked o o map
+  walked_none o =
+      record { walk = walk_all map m; put = record { wrote = wrote_none_joined _ _ _; same = refl } }
 
-  module _ {l₀ l : List ℕ} {at q left : ℕ} (t : Walked l₀ at l q left) where
-    module _ {j rest : ℕ} (g : Steps left (Place j rest)) where
+  module _ {from to : Output} {left : ℕ} (t : Walked from to left) where
+    module _ (j rest : ℕ) (g : passing 64 (has_bit left) ≡ j ∷ passing 64 (has_bit rest)) where
+      n : Next map t.walk.p j
+      n = walk_next t.walk {j = j} {rest = rest} (record { given = g })
+
+      pub walked_place : j < m
+      walked_place = walk_bit t.walk {j = j} {rest = rest} (record { given = g }) map_narrow
+
       -- nothing stands between the last and the next set bit
       skipped : joined j (λ j. bid_field (bid j)) ≡ joined t.walk.p (λ j. bid_field (bid j))
       skipped =
-          let next = walk_next t.walk g in
-          joined_gap (λ j. bid_field (bid j)) t.walk.p j next.onward
-          (λ i a b. no_field i (omega (arith, walk_bit t.walk g map_narrow)) (next.gap i a b))
+          joined_gap (λ j. bid_field (bid j)) t.walk.p j n.onward
+          (λ i a b. no_field i (omega (arith, walked_place)) (n.gap i a b))
 
       next_field : bid_field (bid j) ≡ bytes_of 4 (bid j)
-      next_field = field_there _ (walk_bit t.walk g map_narrow) (walk_next t.walk g).set
+      next_field = field_there _ walked_place n.set
 
-      pub walked_room : at + length (bid_fields m bid) ≤ length l₀ → q + 4 ≤ length l
+      pub walked_room : from.at + length (bid_fields m bid) ≤ length from.out.now → to.at + 4 ≤ length to.out.now
       unfolding bid_fields joined
       walked_room room =
           omega (
             arith,
-            t.wrote.same,
-            t.wrote.next,
+            t.put.wrote.same,
+            t.put.wrote.next,
             ap length skipped,
-            joined_up (λ j. bid_field (bid j)) m (suc j) (walk_bit t.walk g map_narrow),
+            joined_up (λ j. bid_field (bid j)) m (suc j) walked_place,
             length-append (joined j (λ j. bid_field (bid j))) (bid_field (bid j)),
             ap length next_field ∙ bytes_length 4 (bid j),
           )
 
-      pub walked_on : {l' : List ℕ} {q' : ℕ} → Wrote l q (bytes_of 4 (bid j)) l' q' → Walked l₀ at l' q' rest
+      pub walked_on : {to' : Output} → Put to (bytes_of 4 (bid j)) to' → Walked from to' rest
       unfolding joined
-      walked_on {l'} {q'} w = record {
-        walk = walk_on t.walk g map_narrow;
-        wrote = rw (add-one, skipped, next_field) (wrote_then t.wrote w);
+      walked_on p = record {
+        walk = walk_on t.walk {j = j} {rest = rest} (record { given = g }) map_narrow;
+        put = rw (add-one, skipped, next_field) (put_then t.put p);
       }
 
-    pub walked_all : Steps left End → m ≤ 64 → Wrote l₀ at (bid_fields m bid) l q
+    pub walked_all : passing 64 (has_bit left) ≡ [] → m ≤ 64 → Put from (bid_fields m bid) to
     unfolding bid_fields
     walked_all g few =
         rw (joined_gap (λ j. bid_field (bid j)) t.walk.p m t.walk.low
-        (λ i a b. no_field i b (walk_done t.walk g i a (omega arith)))) t.wrote
+        (λ i a b. no_field i b (walk_done t.walk {rest = left} (record { given = (g, g) }) i a (omega arith)))) t.put

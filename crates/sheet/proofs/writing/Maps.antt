@@ -1,16 +1,23 @@
 -- The map of a row, from the last station to the first.
 use Prim.Native.Nat.{ℕ, suc, ◌+◌, ◌*◌, ◌-◌, ◌≤◌, ◌<◌}
-use mathlib.Core.Bool.{Bool}
+use mathlib.Core.Bool.{Bool, true, false}
 use mathlib.Core.Path.{◌≡◌, refl, sym, ◌∙◌}
 use native.Mathlib.Nat.{le_refl}
 use native.Mathlib.Omega.{arith}
 use lib.Pow.{pow_mono}
+use mir.Val.{bool_byte}
 use Rattle.model.specs.Limits.{max_stations}
 use Rattle.model.specs.Counting.{◌<?◌, only}
 use Rattle.model.specs.sheet.Layout.{pack}
 use Rattle.model.proofs.Tests.{only_le}
 use Rattle.model.proofs.sheet.Holds.{pack_cong, pack_low}
 use Rattle.sheet.specs.Laid.{row_map}
+
+-- a test as a number
+pub bit_of : (b : Bool) → bool_byte b ≡ only b 1
+unfolding only
+bit_of true = refl
+bit_of false = refl
 
 -- the bits from station k on
 abbrev pub map_from : (m : ℕ) (bid : ℕ → ℕ) (k : ℕ) → ℕ

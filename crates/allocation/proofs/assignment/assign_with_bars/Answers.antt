@@ -1,33 +1,37 @@
-use mathlib.Core.Path.{sym}
-use Rattle.model.specs.Limits.{max_guests}
-use Rattle.model.proofs.Loops.{zeros_long}
-use Rattle.allocation.proofs.assignment.Assignment.{after_none, bounded_none}
+use mathlib.Core.Path.{subst}
+use native.Mathlib.Omega.{arith}
+use Rattle.model.specs.claims.Meaning.{WithinLimits}
+use Rattle.model.proofs.market.Outcomes.{of_truthful}
+use Rattle.allocation.proofs.totals.Totals.{as_many}
+use Rattle.allocation.proofs.assignment.Assignment.{starts, turning_more, turning_end, bounded_end, truthfully}
+use Rattle.allocation.proofs.assignment.Assignment.{chargeable, assigned}
 use Rattle.allocation.proofs.assignment.assign_with_bars.Goals as goal
 
-pub slice_bounds-assign-end : goal.slice_bounds-assign-end
-slice_bounds-assign-end c =
-    zeros_long max_guests _ c.requires.at_cut.within.shape.guests_most
+pub loop-j-init : goal.loop-j-init
+loop-j-init c = starts c.market.view_is c.market.invariant c.requires.criticals_value
 
-pub slice_bounds-assign-end-2 : goal.slice_bounds-assign-end-2
-slice_bounds-assign-end-2 c =
-    zeros_long max_guests _ c.requires.at_cut.within.shape.guests_most
+pub loop-j-preserved : goal.loop-j-preserved
+loop-j-preserved c =
+    let done = c.station.ensures in (
+      turning_more c.loop-j.invariant.0 (omega (arith, as_many c.market.view_is)) c.station.auto.totals
+          (done.0, done.1),
+      done.2,
+    )
 
-pub slice_bounds-assign-end-3 : goal.slice_bounds-assign-end-3
-slice_bounds-assign-end-3 c =
-    zeros_long max_guests _ c.requires.at_cut.within.shape.guests_most
-
-pub assign-requires : goal.assign-requires
-assign-requires c =
-    let most = c.requires.at_cut.within.shape.guests_most in
-    record {
-      at_cut = c.requires.at_cut;
-      rising_value = (c.rising-rising.ensures, sym (zeros_long max_guests _ most));
-      after_in = after_none most c.requires.criticals_value.0;
-      bounded_in = bounded_none c.requires.criticals_value.1;
-      stations_len = c.requires.stations_len;
-    }
+pub charge_guests-requires : goal.charge_guests-requires
+charge_guests-requires c =
+    let w = subst WithinLimits c.market.view_is c.market.invariant in
+    let turned = turning_end c.loop-j.invariant.0 (omega (arith, as_many c.market.view_is)) in
+    chargeable _ c.requires.at_cut (of_truthful _) (truthfully _ _ w turned.after) w c.requires.stations_len.0
+    c.requires.stations_len.1
 
 pub returns : goal.returns
 returns c =
-    let done = c.assign.ensures in
-    (done.1, done.2)
+    let w = subst WithinLimits c.market.view_is c.market.invariant in
+    let turned = turning_end c.loop-j.invariant.0 (omega (arith, as_many c.market.view_is)) in (
+      assigned _ c.requires.at_cut (of_truthful _) (truthfully _ _ w turned.after) c.charge_guests.ensures,
+      record {
+        bounded = bounded_end c.loop-j.invariant.0 (omega (arith, as_many c.market.view_is)) c.loop-j.invariant.1;
+        criticals_are = turned.after.criticals_are;
+      },
+    )

@@ -4,10 +4,10 @@ use Rattle.model.proofs.Tests.{only_le}
 use Rattle.allocation.proofs.holding.Holding.{held_is}
 use Rattle.allocation.proofs.holding.holds.Goals as goal
 
-pub below_small-requires : goal.below_small-requires
-below_small-requires c =
+pub below-requires : goal.below-requires
+below-requires c =
     let args = c.args in
     (omega arith, omega (arith, c.credited.ensures, only_le (args.ticket <? args.bound) 1 1 (λ _. omega arith)))
 
 pub returns : goal.returns
-returns c = held_is _ _ _ _ c.credited.ensures c.below_small.ensures
+returns c = held_is _ _ _ _ c.credited.ensures c.below.ensures

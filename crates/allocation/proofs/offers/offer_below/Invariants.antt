@@ -1,12 +1,7 @@
-use Prim.Native.Nat.{◌-◌}
-use lib.ListN.{length}
 use Rattle.allocation.proofs.offers.Offers.{Offering}
 use Rattle.allocation.proofs.offers.offer_below.Given as goal
 
 abbrev pub invariant-loop-i : goal.invariant-loop-i
 invariant-loop-i l =
-    Offering l.totals l.tickets l.least l.critical.0 l.bound l.station l.initial.chosen l.initial.gains l.i l.chosen
-    l.gains
-
-abbrev pub decreases-loop-i : goal.decreases-loop-i
-decreases-loop-i l = length l.totals - l.i
+    Offering l.totals l.tickets l.least l.bar.critical.0 l.bar.bound l.station l.initial.chosen l.initial.gains l.i
+    l.chosen l.gains

@@ -4,8 +4,8 @@ use lib.ListN.{length}
 use Rattle.allocation.specs.Ties.{ties}
 use Rattle.allocation.proofs.ties.bound_by_order.Given as goal
 
-abbrev pub invariant-loop-s : goal.invariant-loop-s
-invariant-loop-s l = (l.i ≤ length l.totals) × (l.s ≤ l.places) × (l.s ≡ ties l.totals l.t.0 l.i)
+abbrev pub invariant-loop-n : goal.invariant-loop-n
+invariant-loop-n l = (l.i ≤ length l.totals) × (l.n ≤ l.places) × (l.n ≡ ties l.totals l.t.0 l.i)
 
-abbrev pub decreases-loop-s : goal.decreases-loop-s
-decreases-loop-s l = length l.totals - l.i
+abbrev pub decreases-loop-n : goal.decreases-loop-n
+decreases-loop-n l = length l.totals - l.i

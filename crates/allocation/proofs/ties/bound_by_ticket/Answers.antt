@@ -1,6 +1,4 @@
 use Prim.Native.Nat.{◌+◌, ◌-◌, ◌/◌}
-use mathlib.Core.Path.{sym, ◌∙◌}
-use native.Mathlib.Nat.{le_antisymm}
 use native.Mathlib.Omega.{arith}
 use Rattle.allocation.specs.Ties.{last_ticket}
 use Rattle.allocation.proofs.ties.Ties.{ties_below_zero, ties_below_next, ties_below_last}
@@ -15,17 +13,9 @@ loop-low-init c = (
     arith,
     c.requires.0.crowded,
     ties_below_last c.args.totals.now c.args.tickets.now c.args.t.0 last_ticket
-        c.requires.0.as_long c.requires.1 (λ k _. omega (arith, c.shared_slice_known-2-1.given k)),
+        c.requires.0.as_long c.requires.1 (λ k _. omega (arith, c.type_inv.tickets k)),
   ),
 )
-
-pub count_ties-n-requires : goal.count_ties-n-requires
-count_ties-n-requires c =
-    let tied = c.requires.0 in
-    (tied.few, tied.as_long, tied.low)
-
-pub returns-then-n-places : goal.returns-then-n-places
-returns-then-n-places c = sym c.count_ties-n.ensures ∙ c.if-n-places.true
 
 pub loop-low-preserved-then-n-places-2 : goal.loop-low-preserved-then-n-places-2
 loop-low-preserved-then-n-places-2 c = (
@@ -41,16 +31,3 @@ loop-low-preserved-then-n-places-2 c = (
   ),
   c.loop-low.invariant.3,
 )
-
-pub loop-low-preserved : goal.loop-low-preserved
-loop-low-preserved c = (
-  omega arith,
-  omega (arith, c.loop-low.invariant.0, c.loop-low.invariant.1),
-  c.loop-low.invariant.2,
-  omega (arith, c.if-n-places-2.false, c.count_ties-n.ensures),
-)
-
-pub returns : goal.returns
-returns c =
-    let inv = c.loop-low.invariant in
-    le_antisymm inv.2 (rw (le_antisymm inv.0 c.loop-low-test.false) inv.3)

@@ -1,4 +1,4 @@
-use Prim.Native.Nat.{◌-◌, ◌≤◌}
+use Prim.Native.Nat.{◌≤◌}
 use lib.ListN.{length}
 use Rattle.model.specs.Counting.{greatest}
 use Rattle.model.proofs.Loops.{Folded, Filling}
@@ -9,6 +9,3 @@ abbrev pub invariant-loop-i : goal.invariant-loop-i
 invariant-loop-i l =
     Filling (length l.amounts) (total_at l.bids l.amounts l.m l.j l.cut.0) l.initial.totals l.totals l.i
     × Folded greatest (length l.amounts) (total_at l.bids l.amounts l.m l.j l.cut.0) l.top.0 l.i × (l.top.0 ≤ max_total)
-
-abbrev pub decreases-loop-i : goal.decreases-loop-i
-decreases-loop-i l = length l.amounts - l.i

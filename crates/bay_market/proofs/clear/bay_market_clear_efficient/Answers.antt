@@ -4,5 +4,4 @@ use Rattle.bay_market.proofs.clear.bay_market_clear_efficient.Goals as goal
 
 pub returns : goal.returns
 unfolding outcome_in
-returns c =
-    told c.clear-answer.ensures c.tell.ensures
+returns c = told c.clear-answer.ensures c.tell.ensures

@@ -1,13 +1,9 @@
-use mathlib.Core.Path.{ap}
+use mathlib.Core.Path.{refl, ◌∙◌}
 use Rattle.model.specs.Numbers.{answer_of_marking}
-use Rattle.bay_market.proofs.Told.{tells_refused, tells_accepted}
+use Rattle.model.specs.Verdicts.{number_of}
+use Rattle.bay_market.proofs.Told.{byte_of}
 use Rattle.bay_market.proofs.marks.tell_mark.Goals as goal
 
-pub returns-in-Refused : goal.returns-in-Refused
-unfolding answer_of_marking
-returns-in-Refused c = tells_refused (ap answer_of_marking c.in-Refused.is) c.number.ensures
-
-pub returns-in-Marked : goal.returns-in-Marked
-unfolding answer_of_marking
-returns-in-Marked c =
-    rw c.one_if.ensures (tells_accepted (ap answer_of_marking c.in-Marked.is))
+pub returns-in-Ok : goal.returns-in-Ok
+unfolding answer_of_marking number_of
+returns-in-Ok c = rw c.in-Ok.is (record { number_is = refl; out_is = c.from-in-Ok.ensures ∙ byte_of _ })

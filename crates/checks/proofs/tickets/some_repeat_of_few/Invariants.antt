@@ -1,4 +1,3 @@
-use Prim.Native.Nat.{◌-◌}
 use lib.ListN.{length}
 use Rattle.model.specs.Counting.{some}
 use Rattle.model.proofs.Loops.{Folded}
@@ -7,6 +6,3 @@ use Rattle.checks.proofs.tickets.some_repeat_of_few.Given as goal
 
 abbrev pub invariant-loop-k : goal.invariant-loop-k
 invariant-loop-k l = Folded some (length l.tickets) (stands_before l.tickets) l.found l.k
-
-abbrev pub decreases-loop-k : goal.decreases-loop-k
-decreases-loop-k l = length l.tickets - l.k

@@ -1,16 +1,17 @@
-use Prim.Native.Nat.{◌-◌}
-use mathlib.Core.Path.{refl}
-use Rattle.model.proofs.Loops.{some_none, some_turn}
-use Rattle.checks.proofs.tickets.Tickets.{equal_is, stands_end}
+use mathlib.Core.Bool.{false, ◌||◌}
+use mathlib.Core.Path.{◌∙◌}
+use borrow.Author.Rules.{rules}
+use lib.Dec.{eqb}
+use lib.ListN.{get_or, take}
+use Rattle.std.proofs.lemmas.Iterator.{YieldsList-from_slice}
+use Rattle.std.proofs.lemmas.Iterator.Consumers.{fold_from_yields_List}
+use Rattle.model.proofs.Scans.{fold_some}
+use Rattle.checks.proofs.tickets.Tickets.{stands_among}
 use Rattle.checks.proofs.tickets.stands_before.Goals as goal
 
-pub loop-i-preserved : goal.loop-i-preserved
-loop-i-preserved c =
-    let inv = c.loop-i.invariant in
-    (inv.0, some_turn inv.1 c.loop-i-test.true (equal_is _ _))
-
-pub loop-i-init : goal.loop-i-init
-loop-i-init c = (refl, some_none)
-
 pub returns : goal.returns
-returns c = stands_end _ _ c.loop-i.invariant.0 c.loop-i.invariant.1 c.loop-i-test.false
+returns c =
+    fold_from_yields_List _ (λ found x. found || eqb x (get_or c.args.tickets.now c.args.k 0)) false _
+    c.fold.ensures.ran (YieldsList-from_slice (take c.args.k c.args.tickets.now) cc) (λ a x b q k. search rules)
+    ∙ fold_some (λ x. eqb x (get_or c.args.tickets.now c.args.k 0)) 0 (take c.args.k c.args.tickets.now)
+    ∙ stands_among _ _ c.requires

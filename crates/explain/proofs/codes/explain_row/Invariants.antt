@@ -1,4 +1,3 @@
-use Prim.Native.Nat.{◌-◌}
 use lib.ListN.{length}
 use Rattle.explain.specs.Codes.{row_code}
 use Rattle.explain.proofs.codes.Codes.{RowSoFar}
@@ -8,7 +7,4 @@ use Rattle.explain.proofs.codes.explain_row.Given as goal
 abbrev pub invariant-loop-j : goal.invariant-loop-j
 invariant-loop-j l =
     RowSoFar (length l.asks) (row_code l.asks l.row l.amount l.ticket l.cut.0 l.criticals l.bounds) l.initial.codes
-    l.codes l.base l.top l.j
-
-abbrev pub decreases-loop-j : goal.decreases-loop-j
-decreases-loop-j l = length l.asks - l.j
+    l.codes l.top l.j

@@ -1,13 +1,11 @@
-use mathlib.Core.Path.{sym, ◌∙◌}
-use Rattle.explain.proofs.Answers.{unknown_explained, known_explained}
+use Rattle.std.proofs.lemmas.Result.{err_from_is_err_and}
+use Rattle.explain.proofs.Answers.{unnamed_explains, named_explains}
 use Rattle.explain.proofs.explained.explained.Goals as goal
 
-pub returns-in-Unknown : goal.returns-in-Unknown
-returns-in-Unknown c =
-    unknown_explained _ _ _ _ (sym c.in-Unknown.is ∙ c.named.ensures)
-    c.refusing.ensures
+pub returns-in_err-known : goal.returns-in_err-known
+returns-in_err-known c =
+    let p = err_from_is_err_and c.from_residual.result c.from_residual.ensures.1 in
+    rw (p.1, p.2) (unnamed_explains _ _ _ _ _ c.in_err-known.ensures)
 
-pub returns-in-Known : goal.returns-in-Known
-returns-in-Known c =
-    known_explained _ _ _ _ _ (sym c.in-Known.is ∙ c.named.ensures)
-    c.explained_under.ensures
+pub returns : goal.returns
+returns c = named_explains _ _ _ _ _ c.in_ok-known.ensures c.explained_under.ensures

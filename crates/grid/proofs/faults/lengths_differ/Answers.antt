@@ -1,11 +1,9 @@
-use native.Mathlib.Omega.{arith}
-use borrow.Author.Rules.{rules}
-use Rattle.model.specs.Counting.{◌=?◌, ◌or◌}
-use Rattle.model.proofs.market.Acceptance.{product_fits}
+use mathlib.Core.Path.{refl}
+use Rattle.model.specs.Counting.{◌=?◌}
+use Rattle.model.proofs.Loops.{either_is}
 use Rattle.grid.proofs.faults.lengths_differ.Goals as goal
 
-pub overflow_mul-result : goal.overflow_mul-result
-overflow_mul-result c = omega (arith, product_fits _ _ c.requires.0 c.requires.1)
-
 pub returns : goal.returns
-returns c = unfold ◌or◌ ◌=?◌ in search rules
+unfolding ◌=?◌
+returns c =
+    rw (← c.places.view_is) (either_is (either_is (either_is (either_is refl refl) refl) refl) refl)

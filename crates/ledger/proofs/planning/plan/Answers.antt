@@ -1,12 +1,12 @@
-use mathlib.Core.Path.{sym, ◌∙◌}
-use Rattle.ledger.proofs.planning.Cleared.{unknown_plan}
+use mathlib.Core.Path.{sym}
+use Rattle.std.proofs.lemmas.Result.{err_from_is_err_and}
+use Rattle.ledger.proofs.Cleared.{unknown_plan}
 use Rattle.ledger.proofs.planning.plan.Goals as goal
 
-pub returns-in-Unknown : goal.returns-in-Unknown
-returns-in-Unknown c =
-    unknown_plan _ _ _ (sym c.in-Unknown.is ∙ c.named.ensures)
-    c.refusing.ensures
+pub returns-in_err-known : goal.returns-in_err-known
+returns-in_err-known c =
+    let p = err_from_is_err_and c.from_residual.result c.from_residual.ensures.1 in
+    rw (p.1, p.2) (unknown_plan _ _ _ c.in_err-known.ensures)
 
-pub returns-in-Known : goal.returns-in-Known
-returns-in-Known c =
-    c.plan_under.ensures _ (sym c.named.ensures ∙ c.in-Known.is)
+pub returns : goal.returns
+returns c = c.plan_under.ensures _ (sym c.in_ok-known.ensures)

@@ -1,47 +1,25 @@
-use Rattle.std.proofs.Common.{arith}
-use Rattle.market_csv.proofs.Guests.{ticket_due, ticket_took, amount_took, guest_failed, guest_put}
+use Rattle.std.proofs.Common.{suc, arith}
+use Rattle.std.proofs.lemmas.Result.{err_from_is_err_and}
+use Rattle.model.proofs.market.Acceptance.{product_fits}
+use Rattle.market_csv.specs.Rows.{GuestIs}
+use Rattle.market_csv.proofs.Guests.{ticket_fault, ticketed, amount_fault, amounted, guest_read}
 use Rattle.market_csv.proofs.lines.guest_line.Goals as goal
 
-pub take-requires-in-Value : goal.take-requires-in-Value
-take-requires-in-Value c =
-    let (_, _, due) = ticket_took _ _ c.requires.0 c.take.ensures c.in-Value.is in
-    (due.reached.within, due.reached.digits_are)
+pub returns-in_err-own : goal.returns-in_err-own
+unfolding GuestIs
+returns-in_err-own c due =
+    let p = err_from_is_err_and c.from_residual.result c.from_residual.ensures.1 in
+    rw (p.1, p.2) (ticket_fault due _ _ c.in_err-own.ensures)
 
-pub overflow_cast-tickets : goal.overflow_cast-tickets
-overflow_cast-tickets c =
-    let (_, low, _) =
-    ticket_took _ _ c.requires.0 c.take.ensures c.in-Value.is in
-    omega (arith, low)
+pub returns-in_err-own-2 : goal.returns-in_err-own-2
+unfolding GuestIs
+returns-in_err-own-2 c due =
+    let p = err_from_is_err_and c.from_residual-in_err-own-2.result c.from_residual-in_err-own-2.ensures.1 in
+    rw (p.1, p.2) (amount_fault due _ _ (ticketed due _ _ c.in_ok-own.ensures) _ _ c.in_err-own-2.ensures)
 
-pub overflow_cast-amounts : goal.overflow_cast-amounts
-overflow_cast-amounts c =
-    let (_, _, due) =
-    ticket_took _ _ c.requires.0 c.take.ensures c.in-Value.is in
-    let (_, low, _) = amount_took _ _ c.requires.0 due c.take-in-Value.ensures c.in-Value-take.is in
-    omega (arith, low)
-
-pub bids_line-requires : goal.bids_line-requires
-bids_line-requires c =
-    let (_, _, due) =
-    ticket_took _ _ c.requires.0 c.take.ensures c.in-Value.is in
-    let (_, _, bids-due) =
-    amount_took _ _ c.requires.0 due c.take-in-Value.ensures c.in-Value-take.is in
-    (bids-due, c.requires.3)
-
-pub returns-in-Value-take : goal.returns-in-Value-take
-returns-in-Value-take c =
-    let (ticket, _, due) =
-    ticket_took _ _ c.requires.0 c.take.ensures c.in-Value.is in
-    let (amount, _, _) =
-    amount_took _ _ c.requires.0 due c.take-in-Value.ensures c.in-Value-take.is in
-    guest_put _ _ _ _ _ _ _ _ _ _ c.requires.1 c.requires.2 ticket amount c.bids_line.ensures
-
-pub returns-in-Fault-take : goal.returns-in-Fault-take
-returns-in-Fault-take c =
-    let (_, _, due) =
-    ticket_took _ _ c.requires.0 c.take.ensures c.in-Value.is in
-    guest_failed _ _ _ _ due c.take-in-Value.ensures c.in-Fault-take.is
-
-pub returns-in-Fault : goal.returns-in-Fault
-returns-in-Fault c =
-    guest_failed _ _ _ _ (ticket_due c.requires.0) c.take.ensures c.in-Fault.is
+pub returns : goal.returns
+returns c due =
+    let t = ticketed due _ _ c.in_ok-own.ensures in
+    let a = amounted due _ _ t _ _ c.in_ok-own-2.ensures in
+    guest_read due _ _ t _ _ _ _ _ c.args.own.now a _ (omega arith) c.row.ensures (omega arith) (omega arith)
+    (omega (arith, product_fits (suc c.args.i) c.args.stations due.low due.few)) (omega arith)

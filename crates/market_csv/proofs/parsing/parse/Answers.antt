@@ -1,28 +1,34 @@
-use Rattle.std.proofs.Common.{arith}
-use Rattle.market_csv.proofs.Whole.{asks_ended, bays_due, bays_ended, guests_due, parse_asks, parse_bays, parse_all}
+use Rattle.std.proofs.Common.{refl, arith}
+use Rattle.std.proofs.lemmas.Result.{err_from_is_err_and}
+use Rattle.market_csv.specs.Parses.{ParseRead}
+use Rattle.market_csv.proofs.Whole.{asks_fault, bays_fault, bays_end, guests_fault, parsed}
 use Rattle.market_csv.proofs.parsing.parse.Goals as goal
 
-pub bays_line-requires : goal.bays_line-requires
-bays_line-requires c =
-    let asks = asks_ended _ _ _ _ c.asks_line.ensures c.in-Line.is in
-    (bays_due asks, omega (arith, asks.few, c.requires.2))
+pub returns-in_err-stations : goal.returns-in_err-stations
+unfolding ParseRead
+returns-in_err-stations c =
+    let p = err_from_is_err_and c.from_residual.result c.from_residual.ensures.1 in
+    rw (p.1, p.2) (asks_fault _ _ _ c.new-reader.ensures c.in_err-stations.ensures.read)
 
-pub guest_lines-requires : goal.guest_lines-requires
-guest_lines-requires c =
-    let asks = asks_ended _ _ _ _ c.asks_line.ensures c.in-Line.is in
-    let bays = bays_ended _ _ _ _ _ c.bays_line.ensures c.in-Next.is in
-    (guests_due asks bays.0, c.requires.0)
+pub returns-in_err-row : goal.returns-in_err-row
+unfolding ParseRead
+returns-in_err-row c =
+    let p = err_from_is_err_and c.from_residual-in_err-row.result c.from_residual-in_err-row.ensures.1 in
+    rw (p.1, p.2)
+    (bays_fault _ _ c.new-reader.ensures c.in_ok-stations.ensures.read _ (omega arith) _ _ _ c.in_err-row.ensures)
 
-pub returns-in-Next : goal.returns-in-Next
-returns-in-Next c =
-    let asks = asks_ended _ _ _ _ c.asks_line.ensures c.in-Line.is in
-    let bays = bays_ended _ _ _ _ _ c.bays_line.ensures c.in-Next.is in
-    parse_all _ _ _ _ _ _ _ asks bays.1 c.guest_lines.ensures
+pub returns-in_err-guests : goal.returns-in_err-guests
+unfolding ParseRead
+returns-in_err-guests c =
+    let p = err_from_is_err_and c.from_residual-in_err-guests.result c.from_residual-in_err-guests.ensures.1 in
+    rw (p.1, p.2)
+    (guests_fault _ _ c.new-reader.ensures c.in_ok-stations.ensures.read
+    (bays_end _ _ c.new-reader.ensures c.in_ok-stations.ensures.read _ (omega arith) _ _ c.in_ok-row.ensures) _ _ _
+    c.in_err-guests.ensures)
 
-pub returns-in-Fault-bays_line : goal.returns-in-Fault-bays_line
-returns-in-Fault-bays_line c =
-    parse_bays _ _ _ _ _ _ _ _ _ _ c.bays_line.ensures c.in-Fault-bays_line.is
-
-pub returns-in-Fault : goal.returns-in-Fault
-returns-in-Fault c =
-    parse_asks _ _ _ _ _ _ _ _ c.asks_line.ensures c.in-Fault.is
+pub returns : goal.returns
+unfolding ParseRead
+returns c =
+    parsed _ _ c.new-reader.ensures c.in_ok-stations.ensures.read
+    (bays_end _ _ c.new-reader.ensures c.in_ok-stations.ensures.read _ (omega arith) _ _ c.in_ok-row.ensures) _ _ _ _
+    (omega arith) refl refl c.in_ok-guests.ensures

@@ -1,17 +1,13 @@
-use mathlib.Core.Path.{refl}
+use mathlib.Core.Path.{ap, ◌∙◌}
 use native.Mathlib.Omega.{arith}
-use Rattle.model.proofs.Loops.{filling_none, filling_turn, filling_end}
+use lib.ListN.{get_or}
+use lib.Seq.{get_or-take}
+use Rattle.std.proofs.lemmas.Grind.{get_or_after_one}
+use Rattle.model.proofs.Loops.{is_list}
 use Rattle.marking.proofs.floors.give_floors.Goals as goal
-
-pub loop-j-preserved : goal.loop-j-preserved
-loop-j-preserved c =
-    let so_far = c.loop-j.invariant in
-    filling_turn so_far (omega (arith, so_far.filled.same, c.loop-j-test.true)) refl
 
 pub returns : goal.returns
 returns c =
-    let so_far = c.loop-j.invariant in
-    filling_end so_far (omega (arith, so_far.filled.same, c.loop-j-test.false))
-
-pub loop-j-init : goal.loop-j-init
-loop-j-init c = filling_none refl
+    is_list _ _ _ c.copy_from_slice.ensures.len
+    (λ k l. ap (λ xs. get_or xs k 0) c.copy_from_slice.ensures.after ∙ get_or-take _ _ k 0 (omega arith)
+    ∙ get_or_after_one c.args.criticals.now k 0 ∙ ap (λ i. get_or c.args.criticals.now i 0) (omega arith))

@@ -1,25 +1,32 @@
-use mathlib.Core.Path.{refl, sym}
-use Rattle.model.specs.Limits.{max_stations}
-use Rattle.model.proofs.Loops.{zeros_long}
+use Prim.Native.Nat.{◌*◌}
+use mathlib.Core.Path.{sym, ap, ◌∙◌}
+use lib.ListN.{length}
+use Rattle.menu.proofs.Gained.{priced_here, prices_here, gains_here}
 use Rattle.menu.proofs.accepted.gain_accepted.Goals as goal
 
-pub slice_bounds-gain_with_room-end : goal.slice_bounds-gain_with_room-end
-slice_bounds-gain_with_room-end c =
-    zeros_long max_stations _ c.requires.within.shape.stations_most
+pub invariant_of-offers : goal.invariant_of-offers
+invariant_of-offers c =
+    let w = c.market.invariant in
+    let s = rw (← c.market.view_is) at c.requires in
+    let e = rw (← c.market.view_is) at c.list_accepted.ensures in
+    record {
+      priced = priced_here _ _ w _ s.guest_below e;
+      worths_long = s.worths_fit.row_length ∙ sym (prices_here _ _ w _ s.guest_below e);
+    }
 
-pub slice_bounds-gain_with_room-end-2 : goal.slice_bounds-gain_with_room-end-2
-slice_bounds-gain_with_room-end-2 c =
-    zeros_long max_stations _ c.requires.within.shape.stations_most
+pub gain_rows-requires : goal.gain_rows-requires
+gain_rows-requires c =
+    let w = c.market.invariant in
+    let s = rw (← c.market.view_is) at c.requires in
+    let e = rw (← c.market.view_is) at c.list_accepted.ensures in (
+      s.rows_fit.rows_length
+          ∙ ap (λ m. length c.args.gains.now * m) (sym (prices_here _ _ w _ s.guest_below e)),
+      s.rows_fit.rows_most,
+    )
 
-pub slice_bounds-gain_with_room-end-3 : goal.slice_bounds-gain_with_room-end-3
-slice_bounds-gain_with_room-end-3 c =
-    zeros_long max_stations _ c.requires.within.shape.stations_most
-
-pub slice_bounds-gain_with_room-end-4 : goal.slice_bounds-gain_with_room-end-4
-slice_bounds-gain_with_room-end-4 c =
-    zeros_long max_stations _ c.requires.within.shape.stations_most
-
-pub gain_with_room-requires : goal.gain_with_room-requires
-gain_with_room-requires c =
-    let long = sym (zeros_long max_stations _ c.requires.within.shape.stations_most) in
-    record { gainable = c.requires; bars_len = (long, long, long, long, refl) }
+pub returns : goal.returns
+returns c =
+    let w = c.market.invariant in
+    let s = rw (← c.market.view_is) at c.requires in
+    let e = rw (← c.market.view_is) at c.list_accepted.ensures in
+    rw (← c.market.view_is) (gains_here _ _ w _ s.guest_below e _ _ _ c.gain_rows.ensures)

@@ -1,4 +1,3 @@
-use Prim.Native.Nat.{◌-◌}
 use lib.ListN.{length}
 use Rattle.model.proofs.Loops.{Filling}
 use Rattle.menu.specs.Keys.{label_by}
@@ -6,6 +5,3 @@ use Rattle.menu.proofs.keys.fill_labels.Given as goal
 
 abbrev pub invariant-loop-j : goal.invariant-loop-j
 invariant-loop-j l = Filling (length l.rests) (label_by l.rests) l.initial.labels l.labels l.j
-
-abbrev pub decreases-loop-j : goal.decreases-loop-j
-decreases-loop-j l = length l.rests - l.j

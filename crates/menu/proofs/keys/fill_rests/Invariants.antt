@@ -1,4 +1,4 @@
-use Prim.Native.Nat.{◌-◌, ◌%◌}
+use Prim.Native.Nat.{◌%◌}
 use lib.ListN.{length, get_or}
 use Rattle.model.proofs.Loops.{Filling}
 use Rattle.menu.proofs.keys.fill_rests.Given as goal
@@ -6,6 +6,3 @@ use Rattle.menu.proofs.keys.fill_rests.Given as goal
 abbrev pub invariant-loop-j : goal.invariant-loop-j
 invariant-loop-j l =
     Filling (length l.prices) (λ j. get_or l.prices j 0 % l.amount) l.initial.rests l.rests l.j
-
-abbrev pub decreases-loop-j : goal.decreases-loop-j
-decreases-loop-j l = length l.prices - l.j

@@ -1,4 +1,3 @@
-use Prim.Native.Nat.{◌-◌}
 use lib.ListN.{length, get_or}
 use Rattle.model.specs.Counting.{count}
 use Rattle.model.proofs.Loops.{Folded}
@@ -8,6 +7,3 @@ use Rattle.menu.proofs.keys.label.Given as goal
 abbrev pub invariant-loop-k : goal.invariant-loop-k
 invariant-loop-k l =
     Folded count (length l.rests) (λ k. rest_before (get_or l.rests l.j 0) (get_or l.rests k 0) l.j k) l.n l.k
-
-abbrev pub decreases-loop-k : goal.decreases-loop-k
-decreases-loop-k l = length l.rests - l.k

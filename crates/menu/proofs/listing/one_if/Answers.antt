@@ -1,9 +1,13 @@
-use mathlib.Core.Path.{sym}
-use Rattle.model.proofs.Tests.{only_yes, only_no}
+use mathlib.Core.Bool.{Bool, true, false}
+use mathlib.Core.Path.{◌≡◌, refl, ◌∙◌}
+use Rattle.std.specs.Int.{from_bool}
+use Rattle.model.specs.Counting.{only}
 use Rattle.menu.proofs.listing.one_if.Goals as goal
 
-pub returns-then-loses : goal.returns-then-loses
-returns-then-loses c = sym (only_yes _ 1 c.if-loses.true)
+one_is : (b : Bool) → from_bool b ≡ only b 1
+unfolding only
+one_is true = refl
+one_is false = refl
 
-pub returns-else-loses : goal.returns-else-loses
-returns-else-loses c = sym (only_no _ 1 c.if-loses.false)
+pub returns : goal.returns
+returns c = c.from.ensures ∙ one_is c.args.loses

@@ -8,30 +8,21 @@ use Rattle.menu.proofs.rows.gain.Goals as goal
 
 pub overflow_cast-result : goal.overflow_cast-result
 overflow_cast-result c =
-    let whole_low : c.times-whole.result.0 < 2 ^ 48 = omega (
-      arith,
-      c.times-whole.ensures,
-      product_low c.args.worth c.args.amount c.ranges.worth.fits c.ranges.amount.fits,
-    ) in
-    let l = whole_low in search rules
+    let low : c.times.result.0 < 2 ^ 48 =
+    rw (c.times.ensures, c.from.ensures) (product_low _ _ c.ranges.worth.fits c.ranges.amount.fits) in
+    search rules
 
 pub overflow_sub-result : goal.overflow_sub-result
 overflow_sub-result c =
-    let whole_low : c.times-whole.result.0 < 2 ^ 48 = omega (
-      arith,
-      c.times-whole.ensures,
-      product_low c.args.worth c.args.amount c.ranges.worth.fits c.ranges.amount.fits,
-    ) in
-    let price_low : c.args.price < 2 ^ 48 = omega (arith, c.ranges.price.fits) in
-    difference_fits _ _ (whole_low) (price_low)
+    let low : c.times.result.0 < 2 ^ 48 =
+    rw (c.times.ensures, c.from.ensures) (product_low _ _ c.ranges.worth.fits c.ranges.amount.fits) in
+    let price : c.args.price < 2 ^ 48 = omega (arith, c.ranges.price.fits) in
+    rw c.from-2.ensures (difference_fits _ _ low price)
 
 pub returns : goal.returns
 returns c =
-    let whole_low : c.times-whole.result.0 < 2 ^ 48 = omega (
-      arith,
-      c.times-whole.ensures,
-      product_low c.args.worth c.args.amount c.ranges.worth.fits c.ranges.amount.fits,
-    ) in
-    let price_low : c.args.price < 2 ^ 48 = omega (arith, c.ranges.price.fits) in
-    difference_is _ _ (whole_low) (price_low)
-    ∙ ap (λ x. sub_ℕ x c.args.price) c.times-whole.ensures
+    let low : c.times.result.0 < 2 ^ 48 =
+    rw (c.times.ensures, c.from.ensures) (product_low _ _ c.ranges.worth.fits c.ranges.amount.fits) in
+    let price : c.args.price < 2 ^ 48 = omega (arith, c.ranges.price.fits) in
+    rw c.from-2.ensures (difference_is _ _ low price
+    ∙ ap (λ x. sub_ℕ x c.args.price) (rw c.from.ensures at c.times.ensures))

@@ -1,4 +1,3 @@
-use Prim.Native.Nat.{◌-◌}
 use lib.ListN.{length}
 use Rattle.model.proofs.Loops.{Filling}
 use Rattle.pricing.specs.Charges.{least_at}
@@ -6,6 +5,3 @@ use Rattle.pricing.proofs.charges.least_charges.Given as goal
 
 abbrev pub invariant-loop-i : goal.invariant-loop-i
 invariant-loop-i l = Filling (length l.amounts) (least_at l.amounts l.cut.0) l.initial.least l.least l.i
-
-abbrev pub decreases-loop-i : goal.decreases-loop-i
-decreases-loop-i l = length l.amounts - l.i

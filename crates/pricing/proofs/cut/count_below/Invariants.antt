@@ -1,11 +1,7 @@
-use Prim.Native.Nat.{◌-◌}
 use lib.ListN.{length, get_or}
 use Rattle.model.specs.Counting.{◌<?◌, count}
 use Rattle.model.proofs.Loops.{Folded}
 use Rattle.pricing.proofs.cut.count_below.Given as goal
 
-abbrev pub invariant-loop-i : goal.invariant-loop-i
-invariant-loop-i l = Folded count (length l.asks) (λ k. get_or l.asks k 0 <? l.x.0) l.n l.i
-
-abbrev pub decreases-loop-i : goal.decreases-loop-i
-decreases-loop-i l = length l.asks - l.i
+abbrev pub invariant-loop-ask : goal.invariant-loop-ask
+invariant-loop-ask l = Folded count (length l.asks) (λ k. get_or l.asks k 0 <? l.x.0) l.n l.ask-index

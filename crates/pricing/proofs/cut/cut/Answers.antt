@@ -1,16 +1,15 @@
-use Prim.Native.Nat.{◌-◌}
 use mathlib.Core.Path.{refl}
+use native.Mathlib.Omega.{arith}
 use Rattle.model.proofs.Loops.{folded_end, greatest_none, greatest_turn}
 use Rattle.pricing.specs.CutAsk.{cut_ask}
 use Rattle.pricing.proofs.cut.cut.Goals as goal
 
-pub loop-i-init : goal.loop-i-init
-loop-i-init c = greatest_none
+pub loop-ask-init : goal.loop-ask-init
+loop-ask-init c = greatest_none
 
-pub loop-i-preserved : goal.loop-i-preserved
-loop-i-preserved c =
-    greatest_turn c.loop-i.invariant c.loop-i-test.true refl c.raised-r.ensures
+pub loop-ask-preserved : goal.loop-ask-preserved
+loop-ask-preserved c = greatest_turn c.loop-ask.invariant (omega arith) refl c.raised-r.ensures
 
 pub returns : goal.returns
 unfolding cut_ask
-returns c = rw (← c.position-position.ensures) (folded_end c.loop-i.invariant c.loop-i-test.false)
+returns c = rw (← c.position-position.ensures) (folded_end c.loop-ask.invariant (omega arith))

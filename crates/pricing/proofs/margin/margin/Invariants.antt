@@ -6,6 +6,3 @@ use Rattle.pricing.proofs.margin.margin.Given as goal
 
 abbrev pub invariant-loop-i : goal.invariant-loop-i
 invariant-loop-i l = Folded sum (length l.charges) (λ k. get_or l.charges k 0 - get_or l.least k 0) l.r.0 l.i
-
-abbrev pub decreases-loop-i : goal.decreases-loop-i
-decreases-loop-i l = length l.charges - l.i

@@ -5,13 +5,7 @@ use Rattle.pricing.proofs.sales.Sales.{sells}
 use Rattle.pricing.proofs.sales.sell.Goals as goal
 
 pub tally_sales-requires : goal.tally_sales-requires
-tally_sales-requires c =
-    record {
-      stations_len = c.requires.stations_len;
-      by_index = c.requires.by_index;
-      by_index_2 = c.requires.by_index_2;
-      kwh_value = zeros slots;
-    }
+tally_sales-requires c = record { sellable = c.requires.sellable; kwh_value = zeros slots }
 
 pub pay_out-requires : goal.pay_out-requires
 pay_out-requires c =

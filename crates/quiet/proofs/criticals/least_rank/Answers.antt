@@ -7,18 +7,6 @@ use Rattle.quiet.proofs.criticals.least_rank.Goals as goal
 pub returns-then-seat-eq0 : goal.returns-then-seat-eq0
 returns-then-seat-eq0 c = (least_of_none _ _ c.if-seat-eq0.true, omega arith)
 
-pub overflow_mul-rank-2 : goal.overflow_mul-rank-2
-overflow_mul-rank-2 c =
-    let low : of c.args.row.now (c.args.seat - 1) ≤ max_price =
-    c.requires.0.bid_most (c.args.seat - 1) (omega (arith, c.if-seat-eq0.false, c.requires.2)) in
-    omega (arith, low)
-
-pub overflow_add-rank : goal.overflow_add-rank
-overflow_add-rank c =
-    let low : of c.args.row.now (c.args.seat - 1) ≤ max_price =
-    c.requires.0.bid_most (c.args.seat - 1) (omega (arith, c.if-seat-eq0.false, c.requires.2)) in
-    omega (arith, low)
-
 pub returns : goal.returns
 returns c =
     let low : of c.args.row.now (c.args.seat - 1) ≤ max_price =

@@ -1,34 +1,32 @@
-use Rattle.std.proofs.Common.{arith}
+use Rattle.std.proofs.Common.{◌≤◌, length, arith}
+use Rattle.model.specs.Limits.{max_stations}
 use Rattle.model.proofs.Loops.{long}
-use Rattle.quiet.proofs.criticals.Criticals.{passed_none, passed_room, passed_turn, passed_end}
+use Rattle.quiet.specs.Criticals.{Rows}
+use Rattle.quiet.proofs.criticals.Criticals.{rows_known, passed_none, passed_room, passed_turn}
 use Rattle.quiet.proofs.criticals.raise_all.Goals as goal
+use Rattle.quiet.proofs.criticals.raise_all.Goals.{Start}
+
+known :
+    (c : Start)
+    → Rows c.args.round.now.market.now.amounts c.args.round.now.market.now.bids c.args.chosen.now
+    (length c.args.round.now.market.now.asks) c.args.round.now.cut.0
+    × (length c.args.round.now.market.now.asks ≤ max_stations)
+known c =
+    let priced = c.args.round.now.priced in
+    (rows_known _ priced c.requires.seats, priced.within.shape.stations_most)
 
 pub loop-i-init : goal.loop-i-init
 loop-i-init c =
-    let rows = c.requires.rows in
-    let (few, zeros) = c.requires.m_le_max_stations in (omega arith, passed_none _ _ _ rows zeros few)
+    let (rows, few) = known (goal.at.loop-i-init c).Start in
+    passed_none _ _ _ rows c.requires.criticals_value few
 
-pub raise-requires : goal.raise-requires
-raise-requires c =
-    let rows = c.requires.rows in
-    let (few, zeros) = c.requires.m_le_max_stations in let (within, renewed) = c.loop-i.invariant in
-    record {
-      rows = rows;
-      i_in_bounds = c.loop-i-test.true;
-      room = passed_room _ _ _ rows _ renewed within (omega (arith, few, long _ _ zeros));
-    }
+pub raise-requires-clause-room : goal.raise-requires-clause-room
+raise-requires-clause-room c =
+    let (rows, few) = known (goal.at.raise-requires-clause-room c).Start in
+    passed_room _ _ _ rows _ c.loop-i.invariant (omega (arith, c.loop-i-test.true, c.requires.seats.long))
+    (omega (arith, few, long _ _ c.requires.criticals_value))
 
 pub loop-i-preserved : goal.loop-i-preserved
 loop-i-preserved c =
-    let rows = c.requires.rows in (
-      omega (arith, c.loop-i-test.true),
-      passed_turn _ _ _ rows _ c.loop-i.invariant.1 c.raise.ensures,
-    )
-
-pub returns : goal.returns
-returns c =
-    let rows = c.requires.rows in
-    passed_end _ _ _ rows _ c.loop-i.invariant.1 c.loop-i.invariant.0 c.loop-i-test.false
-
-pub shape_of-criticals : goal.shape_of-criticals
-shape_of-criticals c = c.loop-i.invariant.1.same
+    let (rows, _) = known (goal.at.loop-i-preserved c).Start in
+    passed_turn _ _ _ rows _ c.loop-i.invariant c.raise.ensures

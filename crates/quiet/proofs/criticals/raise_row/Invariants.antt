@@ -1,11 +1,6 @@
-use Rattle.std.proofs.Common.{◌-◌, ◌≤◌, length}
 use Rattle.quiet.specs.Criticals.{raised_by, Renewed}
 use Rattle.quiet.proofs.criticals.raise_row.Given as goal
 
 abbrev pub invariant-loop-j : goal.invariant-loop-j
 invariant-loop-j l =
-    (l.j ≤ length l.row)
-    × Renewed l.j (raised_by l.row l.amount l.least.0 l.initial.criticals) l.initial.criticals l.criticals
-
-abbrev pub decreases-loop-j : goal.decreases-loop-j
-decreases-loop-j l = length l.row - l.j
+    Renewed l.j (raised_by l.row l.amount l.least.0 l.initial.criticals) l.initial.criticals l.criticals

@@ -1,5 +1,8 @@
+use Rattle.model.specs.Limits.{max_guests}
+use Rattle.quiet.proofs.line.Line.{line_of_zeros}
 use Rattle.quiet.proofs.service.serve_all.Goals as goal
 
-pub serve_line-requires : goal.serve_line-requires
-serve_line-requires c =
-    record { priced = c.requires.priced; called = c.requires.called; guest_line = c.line_up.ensures }
+pub line_up-requires : goal.line_up-requires
+line_up-requires c = record {
+  guest_line = rw (← c.market.view_is) (line_of_zeros max_guests _ c.market.invariant.shape.guests_most);
+}

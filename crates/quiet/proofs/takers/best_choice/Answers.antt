@@ -1,90 +1,67 @@
-use Rattle.std.proofs.Common.{ℕ, ◌<◌, length, refl, arith}
-use Rattle.model.specs.market.Market.{regular}
+use Rattle.std.proofs.Common.{◌≡◌, ◌+◌, ◌-◌, ◌*◌, ◌^◌, length, ap, arith}
 use Rattle.allocation.specs.Screens.{screened_at}
-use Rattle.quiet.specs.Efficient.{of}
+use Rattle.allocation.specs.Ties.{last_ticket}
+use Rattle.model.specs.clauses.Rows.{row_of}
+use Rattle.quiet.specs.Efficient.{of, Priced}
+use Rattle.quiet.specs.Seating.{Opened}
 use Rattle.quiet.proofs.takers.Takers.{best_start, best_turn, best_end, no_choice_is, in_row}
-use Rattle.quiet.proofs.takers.Takers.{no_choice_low, total_low, choice_here, below_cut}
+use Rattle.quiet.proofs.takers.Takers.{scaled_low, choice_here, below_cut}
 use Rattle.quiet.proofs.takers.best_choice.Goals as goal
+use Rattle.quiet.proofs.takers.best_choice.Goals.{After-from}
 
-pub bounds-amounts-x : goal.bounds-amounts-x
-bounds-amounts-x c = c.requires.x_in_bounds
+-- the code's numbers and its row are those of the round's market
+record Read (c : After-from) : Type 0 where
+  pub priced : Priced c.args.round.now.market.now c.args.round.now.cut.0
+  pub opened : Opened c.args.round.now.market.now.asks c.args.round.now.cut.0 c.args.round.now.opened.now
+  pub scale : c.from-scale.result * 2 ^ 32 ≡ of c.args.round.now.market.now.amounts c.args.x * 2 ^ 32
+  pub low : c.from-low.result ≡ last_ticket - of c.args.round.now.market.now.tickets c.args.x
+  pub row : c.row_through_view-row.result.now
+      ≡ row_of c.args.round.now.market.now.bids (length c.args.round.now.market.now.asks) (c.args.x + 1)
 
-pub overflow_cast-scale : goal.overflow_cast-scale
-overflow_cast-scale c = omega (arith, c.shared_slice_known-8-1.given c.args.x)
+read : (c : After-from) → Read c
+read c = record {
+  priced = c.args.round.now.priced;
+  opened = c.args.round.now.open_stations;
+  scale = rw (← c.market.view_is) (ap (λ a. a * 2 ^ 32) c.from-scale.ensures);
+  low = rw (← c.market.view_is) c.from-low.ensures;
+  row = rw (← c.market.view_is) c.row_through_view-row.ensures;
+}
 
-pub overflow_mul-scale : goal.overflow_mul-scale
-overflow_mul-scale c = omega (arith, c.shared_slice_known-8-1.given c.args.x)
-
-pub bounds-tickets-x : goal.bounds-tickets-x
-bounds-tickets-x c =
-    omega (arith, c.requires.priced.within.shape.tickets_length, c.requires.x_in_bounds)
-
-pub overflow_sub-low : goal.overflow_sub-low
-overflow_sub-low c = omega (arith, c.shared_slice_known-9-1.given c.args.x)
-
--- the cut's total fits its place
-pub overflow_mul-none : goal.overflow_mul-none
-overflow_mul-none c =
-    omega (arith, no_choice_low (regular _ _ _ _ _) c.requires.priced c.requires.x_in_bounds)
-
-pub loop-q-init : goal.loop-q-init
-loop-q-init c =
-    λ cut p opened e. best_start (no_choice_is (regular _ _ _ _ _) p c.requires.x_in_bounds refl e)
-
-pub offset_bounds-row-j : goal.offset_bounds-row-j
-offset_bounds-row-j c =
-    let station : ℕ = of c.args.opened.now c.loop-q.q in
-    let is_station : (station < length c.args.asks.now) × (of c.args.asks.now (station) < c.args.cut.0) =
-    c.requires.opened.stations c.loop-q.q c.loop-q-test.true in
-    omega (arith, (is_station).0)
+pub loop-j-init : goal.loop-j-init
+loop-j-init c =
+    let r = read (goal.at.loop-j-init c).After-from in
+    best_start (no_choice_is _ r.priced c.requires.x_in_bounds r.scale
+    (ap (λ k. k * (c.from-scale.result * 2 ^ 32)) c.from.ensures))
 
 pub bounds-row-j : goal.bounds-row-j
 bounds-row-j c =
-    let station : ℕ = of c.args.opened.now c.loop-q.q in
-    let is_station : (station < length c.args.asks.now) × (of c.args.asks.now (station) < c.args.cut.0) =
-    c.requires.opened.stations c.loop-q.q c.loop-q-test.true in
-    let inside : station < length c.row_through_view-row.result.now = omega (
+    let r = read (goal.at.bounds-row-j c).After-from in
+    omega (
       arith,
-      in_row (regular _ _ _ _ _) c.requires.priced c.requires.x_in_bounds c.row_through_view-row.ensures,
-      (is_station).0,
-    ) in
-    inside
-
-pub offset_bounds-bars-j : goal.offset_bounds-bars-j
-offset_bounds-bars-j c =
-    let station : ℕ = of c.args.opened.now c.loop-q.q in
-    let is_station : (station < length c.args.asks.now) × (of c.args.asks.now (station) < c.args.cut.0) =
-    c.requires.opened.stations c.loop-q.q c.loop-q-test.true in
-    omega (arith, (is_station).0)
-
-pub bounds-bars-j : goal.bounds-bars-j
-bounds-bars-j c =
-    let station : ℕ = of c.args.opened.now c.loop-q.q in
-    let is_station : (station < length c.args.asks.now) × (of c.args.asks.now (station) < c.args.cut.0) =
-    c.requires.opened.stations c.loop-q.q c.loop-q-test.true in
-    omega (arith, (is_station).0, c.requires.bars.long)
+      in_row _ r.priced c.requires.x_in_bounds r.row,
+      (r.opened.stations c.loop-j.j-index c.loop-j-test.true).0,
+    )
 
 pub better-top-requires : goal.better-top-requires
 better-top-requires c =
-    let station : ℕ = of c.args.opened.now c.loop-q.q in
-    let is_station : (station < length c.args.asks.now) × (of c.args.asks.now (station) < c.args.cut.0) =
-    c.requires.opened.stations c.loop-q.q c.loop-q-test.true in
-    let (here, _) = is_station in (
-      total_low (regular _ _ _ _ _) c.requires.priced c.requires.x_in_bounds c.row_through_view-row.ensures here refl,
-      omega arith,
-      c.requires.bars.low (station) here,
-      omega (arith, here, c.requires.priced.within.shape.stations_most),
+    let r = read (goal.at.better-top-requires c).After-from in
+    let here = (r.opened.stations c.loop-j.j-index c.loop-j-test.true).0 in (
+      scaled_low _ r.priced c.requires.x_in_bounds r.row here r.scale,
+      omega (arith, r.low),
+      c.requires.bars.low _ here,
+      omega (arith, here, r.priced.within.shape.stations_most),
     )
 
-pub loop-q-preserved : goal.loop-q-preserved
+pub loop-j-preserved : goal.loop-j-preserved
 unfolding screened_at
-loop-q-preserved c =
-    let lx = c.requires.x_in_bounds in λ cut p opened e. let (here, ask) = opened.stations _ c.loop-q-test.true in
-    best_turn (c.loop-q.invariant cut p opened e) c.loop-q-test.true here
-    (below_cut (regular _ _ _ _ _) p lx _ ask)
-    (choice_here (regular _ _ _ _ _) p lx c.row_through_view-row.ensures here refl _ _ refl c.better-top.ensures)
+loop-j-preserved c =
+    let r = read (goal.at.loop-j-preserved c).After-from in
+    let lx = c.requires.x_in_bounds in
+    let (here, ask) = r.opened.stations c.loop-j.j-index c.loop-j-test.true in
+    best_turn c.loop-j.invariant c.loop-j-test.true here (below_cut _ r.priced lx _ ask)
+    (choice_here _ r.priced lx r.row here r.scale _ _ r.low c.better-top.ensures)
 
 pub returns : goal.returns
 returns c =
-    best_end (regular _ _ _ _ _) c.requires.priced c.requires.x_in_bounds c.requires.opened
-    (c.loop-q.invariant _ c.requires.priced c.requires.opened refl) c.loop-q-test.false
+    let r = read (goal.at.returns c).After-from in
+    best_end _ r.priced c.requires.x_in_bounds r.opened c.loop-j.invariant c.loop-j-test.false

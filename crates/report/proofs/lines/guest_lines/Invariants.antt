@@ -1,4 +1,4 @@
-use Prim.Native.Nat.{◌+◌, ◌-◌}
+use Prim.Native.Nat.{◌+◌}
 use lib.ListN.{length, get_or}
 use Rattle.model.specs.text.Lines.{guest_line}
 use Rattle.sheet.proofs.Wrote.{Listing}
@@ -8,6 +8,3 @@ abbrev pub invariant-loop-k : goal.invariant-loop-k
 invariant-loop-k l =
     Listing (length l.stations) (λ i. guest_line (i + 1) (get_or l.stations i 0) (get_or l.charges i 0)) l.initial.out
     l.at l.k l.out l.p
-
-abbrev pub decreases-loop-k : goal.decreases-loop-k
-decreases-loop-k l = length l.stations - l.k

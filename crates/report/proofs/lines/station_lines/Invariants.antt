@@ -1,4 +1,4 @@
-use Prim.Native.Nat.{◌+◌, ◌-◌}
+use Prim.Native.Nat.{◌+◌}
 use lib.ListN.{length, get_or}
 use Rattle.model.specs.text.Lines.{station_line}
 use Rattle.sheet.proofs.Wrote.{Listing}
@@ -6,8 +6,5 @@ use Rattle.report.proofs.lines.station_lines.Given as goal
 
 abbrev pub invariant-loop-k : goal.invariant-loop-k
 invariant-loop-k l =
-    Listing (length l.sold) (λ i. station_line (i + 1) (get_or l.sold i 0) (get_or l.paid i 0)) l.initial.out l.at l.k
-    l.out l.p
-
-abbrev pub decreases-loop-k : goal.decreases-loop-k
-decreases-loop-k l = length l.sold - l.k
+    Listing (length l.sold) (λ i. station_line (i + 1) (get_or l.sold i 0) (get_or l.paid i 0)) l.initial.out
+    l.at l.k l.out l.p

@@ -1,39 +1,27 @@
-use Prim.Native.Nat.{◌*◌, ◌≤◌}
 use mathlib.Core.Path.{refl, sym}
-use native.Mathlib.Omega.{arith}
-use lib.ListN.{length}
+use Rattle.std.proofs.lemmas.Result.{err_from_is_err_and}
+use Rattle.explain.proofs.Answers.{told_under}
 use Rattle.model.specs.Limits.{max_bids}
 use Rattle.model.proofs.Loops.{zeros_long}
 use Rattle.model.proofs.market.Acceptance.{product_fits}
-use Rattle.report.proofs.reasons.Reasons.{prints_unexplained, prints_explained}
+use Rattle.report.proofs.reasons.Reasons.{tried_unexplained, tried_explained}
 use Rattle.report.proofs.printing.print_reasons.Goals as goal
 
-pub overflow_mul-places : goal.overflow_mul-places
-overflow_mul-places c =
-    let fits : let args = c.args in length args.amounts.now * length args.asks.now ≤ max_bids =
-    product_fits _ _ c.requires.0 c.requires.1 in
-    omega (arith, fits)
-
-pub slice_bounds-explained_under-end : goal.slice_bounds-explained_under-end
-slice_bounds-explained_under-end c =
-    let fits : let args = c.args in length args.amounts.now * length args.asks.now ≤ max_bids =
-    product_fits _ _ c.requires.0 c.requires.1 in
-    zeros_long max_bids _ (fits)
-
 pub reasons_text-requires : goal.reasons_text-requires
-reasons_text-requires c =
-    c.explained_under-e.ensures.few
+reasons_text-requires c = (told_under _ _ _ _ _ c.in_ok-told.ensures).0
 
-pub returns-in-Refused : goal.returns-in-Refused
-returns-in-Refused c =
-    let fits : let args = c.args in length args.amounts.now * length args.asks.now ≤ max_bids =
-    product_fits _ _ c.requires.0 c.requires.1 in
-    prints_unexplained _ _ _ _ _ _ (sym (zeros_long max_bids _ (fits))) refl
-    c.explained_under-e.ensures _ c.in-Refused.is c.refusal_text.ensures
+pub returns-in_err-told : goal.returns-in_err-told
+returns-in_err-told c =
+    let p = err_from_is_err_and c.from_residual.result c.from_residual.ensures.1 in
+    let counts = rw (← c.market.view_is) at c.requires in
+    rw (p.1, p.2)
+    (tried_unexplained _ _ _ _ _
+    (rw (← c.market.view_is) (sym (zeros_long max_bids _ (product_fits _ _ counts.0 counts.1))))
+    (rw (← c.market.view_is) refl) _ _ c.in_err-told.ensures)
 
-pub returns-in-Accepted : goal.returns-in-Accepted
-returns-in-Accepted c =
-    let fits : let args = c.args in length args.amounts.now * length args.asks.now ≤ max_bids =
-    product_fits _ _ c.requires.0 c.requires.1 in
-    prints_explained _ _ _ _ _ _ (sym (zeros_long max_bids _ (fits))) refl
-    c.explained_under-e.ensures c.in-Accepted.is c.reasons_text.ensures
+pub returns : goal.returns
+returns c =
+    let counts = rw (← c.market.view_is) at c.requires in
+    tried_explained _ _ _ _ _
+    (rw (← c.market.view_is) (sym (zeros_long max_bids _ (product_fits _ _ counts.0 counts.1))))
+    (rw (← c.market.view_is) refl) _ c.in_ok-told.ensures c.reasons_text.ensures

@@ -1,12 +1,9 @@
-use Prim.Native.Nat.{◌+◌, ◌*◌, ◌-◌, ◌≤◌}
-use mathlib.Core.Path.{◌≡◌}
-use Rattle.model.specs.Counting.{some}
-use Rattle.model.specs.sheet.Rows.{is_empty}
+use Prim.Native.Nat.{◌+◌, ◌*◌, ◌/◌}
+use Rattle.sheet.specs.Taken.{Scanned}
 use Rattle.sheet.proofs.empties.any_empty.Given as goal
 
-abbrev pub invariant-loop-i : goal.invariant-loop-i
-invariant-loop-i l =
-    (l.empty ≡ some l.i (λ k. is_empty l.s (l.c.at + 4 * k))) × (l.i ≤ l.last + 4) × (l.d.at ≡ l.c.at + 4 * l.i)
+abbrev pub invariant-loop : goal.invariant-loop
+invariant-loop l = Scanned l.initial.cursor (4 * l.counter) l.empty l.cursor
 
-abbrev pub decreases-loop-i : goal.decreases-loop-i
-decreases-loop-i l = l.last - l.i
+abbrev pub invariant-loop-2 : goal.invariant-loop-2
+invariant-loop-2 l = Scanned l.fn.cursor (4 * (l.bids / 4) + l.counter) l.empty l.cursor

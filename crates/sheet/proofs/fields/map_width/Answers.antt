@@ -3,4 +3,5 @@ use Rattle.model.specs.sheet.Fields.{map_width}
 use Rattle.sheet.proofs.fields.map_width.Goals as goal
 
 pub returns : goal.returns
-returns c = unfold map_width in search rules
+unfolding map_width
+returns c = search rules

@@ -1,15 +1,15 @@
-use Prim.Native.Nat.{◌≤◌, ◌+◌, ◌*◌, ◌-◌}
-use mathlib.Core.Path.{◌≡◌}
-use Rattle.model.specs.Counting.{list}
+use Prim.Native.Nat.{◌*◌}
+use lib.ListN.{length}
 use Rattle.model.specs.sheet.Rows.{ask_of, bays_of}
-use Rattle.sheet.proofs.filling.Filled.{Filled}
+use Rattle.model.proofs.Loops.{Filling}
+use Rattle.sheet.specs.Taken.{Moved}
 use Rattle.sheet.proofs.filling.fill_stations.Given as goal
 
--- The loop: the first j places hold the fields of the first j stations.
 abbrev pub invariant-loop-j : goal.invariant-loop-j
 invariant-loop-j l =
-    (l.j ≤ l.stations) × (l.d.at ≡ 4 + 6 * l.j) × Filled (list l.j (ask_of l.s)) l.initial.asks l.asks
-    × Filled (list l.j (bays_of l.s)) l.initial.bays l.bays
-
-abbrev pub decreases-loop-j : goal.decreases-loop-j
-decreases-loop-j l = l.stations - l.j
+    let s = l.initial.cursor.sheet.now in
+    record {
+      moved : Moved l.initial.cursor (6 * l.j) l.cursor;
+      asks : Filling (length l.initial.asks) (ask_of s) l.initial.asks l.asks l.j;
+      bays : Filling (length l.initial.asks) (bays_of s) l.initial.bays l.bays l.j;
+    }

@@ -1,108 +1,48 @@
-use Prim.Native.Nat.{◌≤◌}
-use mathlib.Core.Path.{◌∙◌, sym}
-use native.Mathlib.Nat.{le_antisymm}
+use mathlib.Core.Path.{ap}
 use native.Mathlib.Omega.{arith}
-use Rattle.model.proofs.Tests.{lt_yes, lt_no}
-use Rattle.model.proofs.sheet.Rows.{MapTaken, head_ends, map_ends, stray, empty_bid, bids_end, row_good, next_is}
-use Rattle.model.proofs.sheet.Rows.{bids_at_lem}
-use Rattle.sheet.proofs.fields.Rows.{map_taken}
-use Rattle.sheet.proofs.passes.Steps.{step_fault, step_next}
+use lib.ListN.{length}
+use Rattle.std.proofs.lemmas.Result.{err_from_is_err_and}
+use Rattle.model.proofs.sheet.Rows.{head_ends, map_ends, bids_at_lem}
+use Rattle.sheet.proofs.passes.Rows.{passed_fault, row_stray, row_empty, row_ends, row_passed}
 use Rattle.sheet.proofs.passes.check_row.Goals as goal
 
-pub returns-then-ends : goal.returns-then-ends
-returns-then-ends c =
-    let ends = lt_yes _ _ (sym c.ends.ensures ∙ c.if-ends.true) in
-    step_fault _ _ _ (head_ends _ _ _ (omega (arith, ends)))
+pub returns-in_err-needs : goal.returns-in_err-needs
+returns-in_err-needs c =
+    let p = err_from_is_err_and c.from_residual.result c.from_residual.ensures.1 in
+    let e = c.in_err-needs.ensures.ends in
+    rw (p.1, p.2, e.0) (passed_fault (head_ends _ _ _ e.1))
 
-pub ends-requires-2 : goal.ends-requires-2
-ends-requires-2 c =
-    omega (
+pub returns-in_err-needs-2 : goal.returns-in_err-needs-2
+returns-in_err-needs-2 c =
+    let p = err_from_is_err_and c.from_residual-in_err-needs-2.result c.from_residual-in_err-needs-2.ensures.1 in
+    let e = c.in_err-needs-2.ensures.ends in
+    rw (p.1, p.2, e.0) (passed_fault (map_ends _ _ _ c.in_ok-needs.ensures.enough (omega (
       arith,
-      lt_no _ _ (sym c.ends.ensures ∙ c.if-ends.false),
-      c.skip-d.ensures,
-    )
-
-pub returns-then-ends-2 : goal.returns-then-ends-2
-returns-then-ends-2 c =
-    let h = lt_no _ _ (sym c.ends.ensures ∙ c.if-ends.false) in
-    let g = lt_yes _ _ (sym c.ends-2.ensures ∙ c.if-ends-2.true) in
-    step_fault _ _ _ (map_ends _ _ _ h (omega (
-      arith,
-      g,
-      c.skip-d.ensures,
+      e.1,
+      c.skip-at_map.ensures.place,
+      ap length c.skip-at_map.ensures.sheet,
       c.map_width.ensures,
-      bids_at_lem c.args.stations c.args.c.at,
-    )))
-
-pub map-map-requires : goal.map-map-requires
-map-map-requires c = (
-  omega arith,
-  omega (arith, lt_no _ _ (sym c.ends-2.ensures ∙ c.if-ends-2.false), c.map_width.ensures),
-)
+      bids_at_lem c.args.stations c.args.cursor.at,
+    ))))
 
 pub returns-then-map-stations-gt0 : goal.returns-then-map-stations-gt0
 returns-then-map-stations-gt0 c =
-    let taken : MapTaken c.args.s.now c.args.stations c.args.c.at c.map-map.result.bits c.map-map.result.next.at =
-    map_taken _ _ _ c.skip-d.result.at _ _ c.skip-d.ensures (omega (
-      arith,
-      lt_no _ _ (sym c.ends-2.ensures ∙ c.if-ends-2.false),
-      c.map_width.ensures,
-    )) c.map-map.ensures in
-    step_fault _ _ _ (stray taken (omega (arith, c.if-map-stations-gt0.true)))
+    row_stray _ c.skip-at_map.ensures c.map-map.ensures (omega (arith, c.in_ok-needs-2.ensures.enough))
+    c.if-map-stations-gt0.true
 
-pub whole-whole-requires : goal.whole-whole-requires
-whole-whole-requires c =
-    let taken : MapTaken c.args.s.now c.args.stations c.args.c.at c.map-map.result.bits c.map-map.result.next.at =
-    map_taken _ _ _ c.skip-d.result.at _ _ c.skip-d.ensures (omega (
-      arith,
-      lt_no _ _ (sym c.ends-2.ensures ∙ c.if-ends-2.false),
-      c.map_width.ensures,
-    )) c.map-map.ensures in
-    omega (arith, taken.to, taken.within)
+pub returns-then-empty : goal.returns-then-empty
+returns-then-empty c =
+    row_empty _ c.skip-at_map.ensures c.map-map.ensures (omega (arith, c.in_ok-needs-2.ensures.enough)) c.requires
+    c.if-map-stations-gt0.false c.count-bids.ensures c.whole-whole.ensures c.any_empty-empty.ensures c.if-empty.true
 
-pub returns-then-any_empty : goal.returns-then-any_empty
-returns-then-any_empty c =
-    let taken : MapTaken c.args.s.now c.args.stations c.args.c.at c.map-map.result.bits c.map-map.result.next.at =
-    map_taken _ _ _ c.skip-d.result.at _ _ c.skip-d.ensures (omega (
-      arith,
-      lt_no _ _ (sym c.ends-2.ensures ∙ c.if-ends-2.false),
-      c.map_width.ensures,
-    )) c.map-map.ensures in
-    let few : c.args.stations ≤ 64 = omega (arith, c.requires.0) in
-    let w = c.whole-whole.ensures in
-    step_fault _ _ _ (empty_bid taken few
-    c.if-map-stations-gt0.false _ w.within (omega (arith, w.few, c.count-fields.ensures))
-    (sym c.any_empty.ensures ∙ c.if-any_empty.true))
-
-pub returns-then-whole-fields : goal.returns-then-whole-fields
-returns-then-whole-fields c =
-    let taken : MapTaken c.args.s.now c.args.stations c.args.c.at c.map-map.result.bits c.map-map.result.next.at =
-    map_taken _ _ _ c.skip-d.result.at _ _ c.skip-d.ensures (omega (
-      arith,
-      lt_no _ _ (sym c.ends-2.ensures ∙ c.if-ends-2.false),
-      c.map_width.ensures,
-    )) c.map-map.ensures in
-    let few : c.args.stations ≤ 64 = omega (arith, c.requires.0) in
-    let w = c.whole-whole.ensures in
-    step_fault _ _ _ (bids_end taken few
-    c.if-map-stations-gt0.false _ w.within
-    (omega (arith, c.if-whole-fields.true, c.count-fields.ensures))
-    (sym c.any_empty.ensures ∙ c.if-any_empty.false) (w.ends c.if-whole-fields.true))
+pub returns-then-whole-bids : goal.returns-then-whole-bids
+returns-then-whole-bids c =
+    row_ends _ c.skip-at_map.ensures c.map-map.ensures (omega (arith, c.in_ok-needs-2.ensures.enough)) c.requires
+    c.if-map-stations-gt0.false c.count-bids.ensures c.whole-whole.ensures c.any_empty-empty.ensures
+    c.if-whole-bids.true c.if-empty.false
 
 pub returns : goal.returns
 returns c =
-    let taken : MapTaken c.args.s.now c.args.stations c.args.c.at c.map-map.result.bits c.map-map.result.next.at =
-    map_taken _ _ _ c.skip-d.result.at _ _ c.skip-d.ensures (omega (
-      arith,
-      lt_no _ _ (sym c.ends-2.ensures ∙ c.if-ends-2.false),
-      c.map_width.ensures,
-    )) c.map-map.ensures in
-    let few : c.args.stations ≤ 64 = omega (arith, c.requires.0) in
-    let w = c.whole-whole.ensures in
-    let n = c.count-fields.ensures in
-    let t = taken in
-    let narrow = few in
-    step_next _ _ _
-    (row_good t narrow c.if-map-stations-gt0.false _ w.within (le_antisymm w.few c.if-whole-fields.false ∙ n)
-    (sym c.any_empty.ensures ∙ c.if-any_empty.false))
-    (omega (arith, c.skip.ensures, n, next_is t narrow c.if-map-stations-gt0.false))
+    row_passed _ c.skip-at_map.ensures c.map-map.ensures (omega (arith, c.in_ok-needs-2.ensures.enough)) c.requires
+    c.if-map-stations-gt0.false c.count-bids.ensures c.whole-whole.ensures c.any_empty-empty.ensures
+    c.if-whole-bids.false c.if-empty.false

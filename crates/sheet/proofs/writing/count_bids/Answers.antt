@@ -1,25 +1,29 @@
+use mathlib.Core.Path.{◌∙◌}
+use native.Mathlib.Nat.{le_refl}
+use native.Mathlib.Numerals.{add-one}
 use native.Mathlib.Omega.{arith}
-use Rattle.model.proofs.Loops.{folded_end, counted_none, count_turn, count_low}
-use Rattle.model.proofs.Tests.{is_lt, not_lt}
+use lib.ListN.{get_or}
+use Rattle.model.specs.Counting.{◌<?◌, count, sum}
+use Rattle.model.proofs.Loops.{counted_none, count_low, folded_turn}
+use Rattle.model.proofs.Tests.{only_le}
+use Rattle.sheet.proofs.writing.Maps.{bit_of}
 use Rattle.sheet.proofs.writing.count_bids.Goals as goal
-use Rattle.sheet.proofs.writing.count_bids.Goals.{then-bids-k-gt0, else-bids-k-gt0}
-use mathlib.Core.Logic.{inl, inr}
-use Rattle.sheet.proofs.writing.count_bids.Goals.{then-bids-k-gt0, else-bids-k-gt0}
+
+pub loop-bid-init : goal.loop-bid-init
+loop-bid-init c = counted_none
 
 pub overflow_add-n : goal.overflow_add-n
+unfolding ◌<?◌
 overflow_add-n c =
-    omega (arith, count_low c.loop-k.invariant, c.loop-k-test.true, c.requires)
+    omega (
+      arith,
+      count_low c.loop-bid.invariant,
+      c.from-n.ensures ∙ bit_of _,
+      only_le (0 <? get_or c.args.bids.now c.loop-bid.bid-index 0) 1 1 (λ _. le_refl 1),
+    )
 
-pub loop-k-preserved : goal.loop-k-preserved
-loop-k-preserved c =
-    count_turn c.loop-k.invariant c.loop-k-test.true
-    (elim c.if-bids-k-gt0.branch [
-      | then-bids-k-gt0 w ↦ inl (is_lt _ _ w.if-bids-k-gt0.true, w.n-is)
-      | else-bids-k-gt0 w ↦ inr (not_lt _ _ w.if-bids-k-gt0.false, w.n-is)
-    ])
-
-pub loop-k-init : goal.loop-k-init
-loop-k-init c = counted_none
-
-pub returns : goal.returns
-returns c = folded_end c.loop-k.invariant c.loop-k-test.false
+pub loop-bid-preserved : goal.loop-bid-preserved
+unfolding count sum ◌<?◌
+loop-bid-preserved c =
+    folded_turn c.loop-bid.invariant (omega arith)
+    (rw add-one (omega (arith, c.loop-bid.invariant.so_far, c.from-n.ensures ∙ bit_of _)))

@@ -1,59 +1,42 @@
 use Prim.Native.Nat.{◌<◌}
+use mathlib.Core.Path.{◌∙◌}
 use native.Mathlib.Omega.{arith}
 use lib.ListN.{length}
 use borrow.Author.Rules.{rules}
-use Rattle.model.specs.clauses.Steps.{Steps}
-use Rattle.model.specs.declared.word.Step.TheVariants.{Place, End}
-use Rattle.model.proofs.sheet.Walk.{walk_bit, step_less}
 use Rattle.sheet.specs.Laid.{bid_in}
-use Rattle.sheet.proofs.writing.Bids.{map_narrow, walked_none, walked_room, walked_on, walked_all}
+use Rattle.sheet.proofs.putting.Bytes.{four_bytes}
+use Rattle.sheet.proofs.putting.Puts.{put_as}
+use Rattle.sheet.proofs.writing.Bids.{walked_none, walked_place, walked_room, walked_on, walked_all}
 use Rattle.sheet.proofs.writing.put_some.Goals as goal
 
 pub loop-place-init : goal.loop-place-init
-loop-place-init c = (c.requires.map_value.0, walked_none _ _ c.requires.map_value.0 _ _)
+loop-place-init c =
+    rw (c.into_iter-place-iterator.ensures.into_iter_gives, c.set_bits-place-items.ensures)
+    (c.requires.1, walked_none _ _ c.requires.1 _)
 
 pub offset_bounds-row-place : goal.offset_bounds-row-place
 offset_bounds-row-place c =
-    let stepped : Steps c.loop-place.left (Place c.in-Place.place c.in-Place.rest) =
-    rw c.in-Place.is at c.step.ensures in
-    let station : c.in-Place.place < length c.args.row.now = let (e, t) = c.loop-place.invariant in
-    walk_bit t.walk stepped (map_narrow _ _ e) in
-    let h = station in search rules
+    let h : c.in-Some.place < length c.args.row.now = let (e, t) = c.loop-place.invariant in
+    walked_place _ _ e t _ c.next.new.self.left c.in-Some.ensures.steps in
+    search rules
 
 pub bounds-row-place : goal.bounds-row-place
 bounds-row-place c =
-    let stepped : Steps c.loop-place.left (Place c.in-Place.place c.in-Place.rest) =
-    rw c.in-Place.is at c.step.ensures in
-    let station : c.in-Place.place < length c.args.row.now = let (e, t) = c.loop-place.invariant in
-    walk_bit t.walk stepped (map_narrow _ _ e) in
-    let h = station in search rules
+    let (e, t) = c.loop-place.invariant in walked_place _ _ e t _ c.next.new.self.left c.in-Some.ensures.steps
 
-pub put_four-p-requires : goal.put_four-p-requires
-put_four-p-requires c =
-    let stepped : Steps c.loop-place.left (Place c.in-Place.place c.in-Place.rest) =
-    rw c.in-Place.is at c.step.ensures in
+pub put-requires : goal.put-requires
+put-requires c =
     let (e, t) = c.loop-place.invariant in
-    walked_room _ _ e t stepped c.requires.map_value.1
-
-pub loop-place-smaller : goal.loop-place-smaller
-loop-place-smaller c =
-    let stepped : Steps c.loop-place.left (Place c.in-Place.place c.in-Place.rest) =
-    rw c.in-Place.is at c.step.ensures in
-    step_less stepped
+    omega (arith, walked_room _ _ e t _ c.next.new.self.left c.in-Some.ensures.steps c.requires.2)
 
 pub loop-place-preserved : goal.loop-place-preserved
 unfolding bid_in
 loop-place-preserved c =
-    let stepped : Steps c.loop-place.left (Place c.in-Place.place c.in-Place.rest) =
-    rw c.in-Place.is at c.step.ensures in
-    let (e, t) = c.loop-place.invariant in
-    (e, walked_on _ _ e t stepped c.put_four-p.ensures)
+    let (e, t) = c.loop-place.invariant in (
+      e,
+      walked_on _ _ e t _ c.next.new.self.left c.in-Some.ensures.steps
+          (put_as c.put.ensures (c.to_le_bytes.ensures ∙ four_bytes _)),
+    )
 
-pub shape_of-out-in-End : goal.shape_of-out-in-End
-shape_of-out-in-End c = c.loop-place.invariant.1.wrote.same
-
-pub returns-in-End : goal.returns-in-End
-returns-in-End c =
-    let ended : Steps c.loop-place.left End = rw c.in-End.is at c.step.ensures in
-    let (e, t) = c.loop-place.invariant in
-    walked_all _ _ e t ended (omega arith)
+pub returns : goal.returns
+returns c = let (e, t) = c.loop-place.invariant in walked_all _ _ e t c.in-None.ensures.steps.0 (omega arith)

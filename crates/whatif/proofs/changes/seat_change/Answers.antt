@@ -27,14 +27,14 @@ stays_unseated : (x y : ℕ) → x ≡ 0 → y ≡ 0 → 0 ≡ seat_change x y
 unfolding seat_change
 stays_unseated x y e f = rw (e, f) refl
 
-pub returns-then-after-eq0 : goal.returns-then-after-eq0
-returns-then-after-eq0 c = stays_unseated _ _ c.if-before-eq0.true c.if-after-eq0.true
+pub returns-in-0-eq0 : goal.returns-in-0-eq0
+returns-in-0-eq0 c = stays_unseated _ _ c.in-0-eq0.is-0 c.in-0-eq0.is-1
 
-pub returns-else-after-eq0 : goal.returns-else-after-eq0
-returns-else-after-eq0 c = becomes_seated _ _ c.if-before-eq0.true c.if-after-eq0.false
+pub returns-in-0-default : goal.returns-in-0-default
+returns-in-0-default c = becomes_seated _ _ c.in-0-default.is-0 c.in-0-default.is-1.1
 
-pub returns-then-after-eq0-2 : goal.returns-then-after-eq0-2
-returns-then-after-eq0-2 c = becomes_unseated _ _ c.if-before-eq0.false c.if-after-eq0-2.true
+pub returns-in_default-eq0 : goal.returns-in_default-eq0
+returns-in_default-eq0 c = becomes_unseated _ _ c.in_default-eq0.is-0.1 c.in_default-eq0.is-1
 
-pub returns-else-after-eq0-2 : goal.returns-else-after-eq0-2
-returns-else-after-eq0-2 c = stays_seated _ _ c.if-before-eq0.false c.if-after-eq0-2.false
+pub returns-in_default : goal.returns-in_default
+returns-in_default c = stays_seated _ _ c.in_default.is-0.1 c.in_default.is-1.1

@@ -1,4 +1,3 @@
-use Prim.Native.Nat.{◌-◌}
 use lib.ListN.{get_or, length}
 use Rattle.model.specs.market.Changes.{change}
 use Rattle.model.proofs.Loops.{Filling}
@@ -9,6 +8,3 @@ abbrev pub invariant-loop-k : goal.invariant-loop-k
 invariant-loop-k l =
     Filling (length l.before) (change (λ j. get_or l.before j 0) (λ j. get_or l.after j 0) l.guest) l.initial.changes
     l.changes l.k
-
-abbrev pub decreases-loop-k : goal.decreases-loop-k
-decreases-loop-k l = length l.before - l.k

@@ -8,12 +8,12 @@ use Rattle.whatif.proofs.gains.gain.Goals as goal
 
 pub overflow_sub-result : goal.overflow_sub-result
 overflow_sub-result c =
-    let charge_low : c.args.charge < 2 ^ 48 = omega (arith, c.ranges.charge.fits) in
-    difference_fits _ _ c.obtained-worth.ensures.1 (charge_low)
+    let low : c.args.charge < 2 ^ 48 = omega (arith, c.ranges.charge.fits) in
+    rw c.from.ensures (difference_fits _ _ c.obtained.ensures.1 low)
 
 pub returns : goal.returns
 unfolding gain_from
 returns c =
-    let charge_low : c.args.charge < 2 ^ 48 = omega (arith, c.ranges.charge.fits) in
-    difference_is _ _ c.obtained-worth.ensures.1 (charge_low)
-    ∙ ap (λ x. sub_ℕ x c.args.charge) c.obtained-worth.ensures.0
+    let low : c.args.charge < 2 ^ 48 = omega (arith, c.ranges.charge.fits) in
+    rw c.from.ensures (difference_is _ _ c.obtained.ensures.1 low
+    ∙ ap (λ x. sub_ℕ x c.args.charge) c.obtained.ensures.0)

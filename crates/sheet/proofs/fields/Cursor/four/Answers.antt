@@ -1,11 +1,9 @@
-use Rattle.model.proofs.sheet.Fields.{number_bytes}
+use mathlib.Core.Path.{◌∙◌}
+use Rattle.sheet.proofs.fields.Numbers.{four_bytes, whole_part}
 use Rattle.sheet.proofs.fields.Cursor.four.Goals as goal
 
--- Four bytes make the number.
 pub returns : goal.returns
-returns c =
-    record {
-      value = number_bytes _ _ _ _ _ _ c.wide.ensures.0 c.wide-2.ensures.0
-          c.wide-3.ensures.0 c.wide-4.ensures.0;
-      place = c.skip.ensures;
-    }
+returns c = record {
+  value = c.from_le_bytes.ensures ∙ four_bytes _ ∙ whole_part _ _ _ c.bytes.ensures.0;
+  moved = c.bytes.ensures.1;
+}

@@ -1,20 +1,16 @@
-use mathlib.Core.Path.{◌∙◌, ap}
+use mathlib.Core.Path.{◌≡◌, refl, sym, ◌∙◌}
 use native.Mathlib.Omega.{arith}
-use Rattle.model.specs.sheet.Fields.{little_endian, map_width}
+use Rattle.model.specs.sheet.Fields.{map_width, little_endian}
 use Rattle.sheet.proofs.fields.Cursor.map.Goals as goal
 
--- A map is the number that its bytes hold.
-pub map_number-requires : goal.map_number-requires
+pub returns-in-0 : goal.returns-in-0
+unfolding little_endian
+returns-in-0 c =
+    let e : map_width c.args.stations ≡ 0 = sym c.map_width.ensures ∙ c.in-0.is in
+    rw e (record { value = refl; moved = record { place = omega arith; sheet = refl } })
+
+pub returns-in_default : goal.returns-in_default
 unfolding map_width
-map_number-requires c = let e = c.map_width-k.ensures in (omega arith, omega (arith, e))
-
-pub skip-requires : goal.skip-requires
-skip-requires c = omega (arith, c.map_width-k.ensures)
-
-pub returns : goal.returns
-returns c =
-    let e = c.map_width-k.ensures in
-    record {
-      value = c.map_number.ensures ∙ ap (little_endian _ _) e;
-      place = omega (arith, c.skip.ensures, e);
-    }
+returns-in_default c =
+    let e : map_width c.args.stations ≡ 5 = omega arith in
+    rw e c.number-in_default.ensures

@@ -1,0 +1,11 @@
+-- A page that is printed, or refused before anything is written. Nothing that `report::print_page` promises depends on
+-- this file.
+use Rattle.std.specs.Prelude.{ℕ, List, Result, Ok, Err, ◌≡◌}
+use Rattle.model.specs.Numbers.{number}
+use Rattle.model.specs.clauses.Prints.{Prints}
+use Rattle.model.specs.declared.refusal.Refusal.{Refusal}
+use Rattle.model.specs.text.Text.{refusal_text}
+
+unfoldable pub Tried : (page entry : List ℕ) → Result ℕ Refusal → (exit : List ℕ) → Type 0
+Tried page entry (Ok n) exit = Prints page entry n exit
+Tried page entry (Err r) exit = (page ≡ refusal_text (number r)) × (exit ≡ entry)

@@ -1,0 +1,26 @@
+use mathlib.Core.Path.{sym, ◌∙◌}
+use Rattle.std.proofs.lemmas.Result.{err_from_is_err_and}
+use Rattle.model.specs.Numbers.{answer_of_verdict, answer_of_check}
+use Rattle.model.specs.market.Faults.{verdict}
+use Rattle.model.proofs.Verdicts.{fault_first, fault_second}
+use Rattle.whatif.proofs.faults.accept_row.Goals as goal
+
+pub returns-in_err-accepted-clause-fault : goal.returns-in_err-accepted-clause-fault
+unfolding verdict answer_of_check
+returns-in_err-accepted-clause-fault c =
+    let p = err_from_is_err_and c.from_residual.result c.from_residual.ensures.1 in
+    rw (p.1, p.2) (sym (fault_first _ _ (sym c.in_err-accepted.ensures.fault)))
+
+pub returns-in_err-row_fault-clause-fault : goal.returns-in_err-row_fault-clause-fault
+unfolding verdict answer_of_verdict answer_of_check
+returns-in_err-row_fault-clause-fault c =
+    let q = c.from_residual-in_err-row_fault in
+    let p = err_from_is_err_and q.result q.ensures.1 in
+    rw (p.1, p.2, ← c.market.view_is) (c.in_err-row_fault.ensures
+    ∙ sym (fault_second _ _ (rw (← c.market.view_is) at (sym c.in_ok-accepted.ensures.fault))))
+
+pub returns-clause-fault : goal.returns-clause-fault
+unfolding verdict answer_of_verdict answer_of_check
+returns-clause-fault c =
+    rw (← c.market.view_is) (c.in_ok-row_fault.ensures
+    ∙ sym (fault_second _ _ (rw (← c.market.view_is) at (sym c.in_ok-accepted.ensures.fault))))
