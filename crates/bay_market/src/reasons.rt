@@ -1,12 +1,16 @@
 // What decided, for other languages: include/bay_market.h.
-ghost use Rattle.std.specs.Prelude.{not, [], ◌∷◌, ◌≡◌};
+ghost use Rattle.std.specs.Prelude.{not, [], ◌∷◌, ◌≡◌, ◌≤◌, length};
+ghost use Rattle.model.specs.Limits.{max_guests};
 ghost use Rattle.model.specs.Counting.{◌=?◌, any};
 ghost use Rattle.model.specs.clauses.EntryPoints.{explaining};
 ghost use Rattle.model.specs.Promises.{RepliesOut};
-ghost use Rattle.model.specs.clauses.Lent.{tables_in, explanation_in, explanation_out};
+ghost use Rattle.model.specs.clauses.Lent.{tables_in, outcomes_in, outcomes_out, explanation_in, explanation_out};
+ghost use Rattle.bay_market.specs.LaidOut.{LaidOut};
 
-use explain::explained;
+use explain::explained::OutcomeArrays;
+use explain::{explained, outcomes};
 use model::lent::Market;
+use model::money::Mills;
 
 // The length of an outcome table that is given as three lists: n where each of them is n long, else another number.
 fn table_length(n: usize, stations: usize, charges: usize, reasons: usize) -> usize
@@ -16,6 +20,21 @@ fn table_length(n: usize, stations: usize, charges: usize, reasons: usize) -> us
         return n;
     }
     if n == 0 { 1 } else { 0 }
+}
+
+// Each guest's record, laid out as a station, a charge and a code.
+fn lay_out(told: &OutcomeArrays, stations: &mut [u16], charges: &mut [u32], reasons: &mut [u8])
+    requires { (told.now.guests ≤ max_guests) × (told.now.guests ≤ length stations.old)
+        × (told.now.guests ≤ length charges.old) × (told.now.guests ≤ length reasons.old) }
+    ensures { LaidOut told.now (outcomes_in stations charges reasons) (outcomes_out stations charges reasons) }
+{
+    for i in 0..told.guests {
+        let charge = Mills::from(told.charges[i]);
+        let outcome = outcomes::guest_outcome(told.stations[i], charge, told.reasons[i]);
+        stations[i] = outcomes::station_in(outcome);
+        charges[i] = outcomes::charge_in(outcome).narrow();
+        reasons[i] = outcomes::loss_in(outcome);
+    }
 }
 
 #[unsafe(no_mangle)]
@@ -47,9 +66,7 @@ pub extern "C" fn bay_market_explain(
     match explained::explained(rule, &market, places, codes) {
         Err(refusal) => u8::from(refusal),
         Ok(told) => {
-            stations.copy_from_slice(&told.stations[..told.guests]);
-            charges.copy_from_slice(&told.charges[..told.guests]);
-            reasons.copy_from_slice(&told.reasons[..told.guests]);
+            lay_out(&told, stations, charges, reasons);
             0
         }
     }

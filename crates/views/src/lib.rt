@@ -4,28 +4,18 @@
 ghost use Rattle.std.specs.Prelude.{◌≡◌};
 ghost use Rattle.model.specs.clauses.Rows.{row_of, bids_of};
 
-use std::marker::Model;
-
 // The lent bids with their row width.
-#[derive(Drop)]
+#[derive(Clone, Copy)]
 pub struct BidTable<'a> {
     pub bids: &'a [u32],
     pub width: usize,
 }
 
-impl<'a> Model for BidTable<'a> {
-    ghost use Rattle.views.specs.BidView.{BidView};
-
-    ghost Value = { BidView };
-
-    ghost view = { λ t. record { bids = t.bids.now; width = t.width } };
-}
-
 impl<'a> BidTable<'a> {
     // The bids of a guest, counted from 1, as a part of the lent table: empty for guest 0 and for a row that ends past
     // the table.
-    pub fn row(&self, guest: usize) -> &'a [u32]
-        ensures { result.now ≡ row_of self.now.bids self.now.width guest }
+    pub fn row(self, guest: usize) -> &'a [u32]
+        ensures { result.now ≡ row_of self.entry.bids.now self.entry.width guest }
     {
         match guest.checked_mul(self.width) {
             Some(end) if 0 < guest && end <= self.bids.len() => &self.bids[end - self.width..end],
@@ -34,8 +24,8 @@ impl<'a> BidTable<'a> {
     }
 
     // All bids, where a row is as wide as there are stations; none where not.
-    pub fn all(&self, stations: usize) -> &'a [u32]
-        ensures { result.now ≡ bids_of self.now.bids self.now.width stations }
+    pub fn all(self, stations: usize) -> &'a [u32]
+        ensures { result.now ≡ bids_of self.entry.bids.now self.entry.width stations }
     {
         if self.width == stations {
             self.bids

@@ -5,6 +5,7 @@ ghost use Rattle.std.specs.Prelude.{◌≡◌};
 ghost use Rattle.std.specs.Iterator.{YieldsFirst, item_count};
 ghost use Rattle.model.specs.Counting.{count as count_of, passing};
 ghost use Rattle.model.specs.sheet.Fields.{has_bit};
+ghost use Rattle.model.specs.clauses.Steps.{Steps};
 
 // How many bits are set.
 pub fn count(word: u64) -> usize
@@ -26,7 +27,9 @@ impl Iterator for SetBits {
 
     ghost remaining = { item_count (λ s. passing 64 (has_bit s.left)) };
 
-    fn next(&mut self) -> Option<usize> {
+    fn next(&mut self) -> Option<usize>
+        ensures { Steps self.old.left result self.new.left }
+    {
         if self.left == 0 {
             return None;
         }

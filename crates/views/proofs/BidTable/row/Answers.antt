@@ -5,13 +5,12 @@ use Rattle.views.proofs.BidTable.row.Goals.{in_default-via-in_default, in_defaul
 use Rattle.views.proofs.BidTable.row.Goals.{in_default-via-in-Some+then-guest-gt0+else-end-self}
 
 pub returns-in-Some : goal.returns-in-Some
-returns-in-Some c =
-    rw (← c.self.view_is) (row_there _ _ _ _ c.if-guest-gt0.true c.in-Some.ensures.1 c.if-end-self.true)
+returns-in-Some c = row_there _ _ _ _ c.if-guest-gt0.true c.in-Some.ensures.1 c.if-end-self.true
 
 pub returns-in_default : goal.returns-in_default
 returns-in_default c =
-    rw (← c.self.view_is) (elim c.in_default.branch [
+    elim c.in_default.branch [
       | in_default-via-in-Some+then-guest-gt0+else-end-self w ↦ row_past _ _ _ (omega (arith, w.in-Some.ensures.1))
       | in_default-via-in-Some+else-guest-gt0 w ↦ no_guest _ _ _ w.if-guest-gt0.false
       | in_default-via-in_default w ↦ row_past _ _ _ (omega (arith, w.in_default.ensures))
-    ])
+    ]
