@@ -17,8 +17,11 @@ impl<'a> BidTable<'a> {
     pub fn row(self, guest: usize) -> &'a [u32]
         ensures { result.now ≡ row_of self.entry.bids.now self.entry.width guest }
     {
-        match guest.checked_mul(self.width) {
-            Some(end) if 0 < guest && end <= self.bids.len() => &self.bids[end - self.width..end],
+        match self.bids.len().checked_div(self.width) {
+            Some(guests) if 0 < guest && guest <= guests => {
+                let end = guest * self.width;
+                &self.bids[end - self.width..end]
+            }
             _ => &self.bids[..0],
         }
     }
