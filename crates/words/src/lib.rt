@@ -2,7 +2,7 @@
 #![tactic(auto)]
 
 ghost use Rattle.std.specs.Prelude.{◌≡◌};
-ghost use Rattle.std.specs.Iterator.{YieldsFirst, item_count};
+ghost use Rattle.std.specs.Iterator.{item_count};
 ghost use Rattle.model.specs.Counting.{count as count_of, passing};
 ghost use Rattle.model.specs.sheet.Fields.{has_bit};
 ghost use Rattle.model.specs.clauses.Steps.{Steps};
@@ -23,13 +23,11 @@ pub struct SetBits {
 impl Iterator for SetBits {
     type Item = usize;
 
-    ghost next_gives = { YieldsFirst (λ s. passing 64 (has_bit s.left)) };
+    ghost next_gives = { λ s place rest. Steps s.left place rest.left };
 
     ghost remaining = { item_count (λ s. passing 64 (has_bit s.left)) };
 
-    fn next(&mut self) -> Option<usize>
-        ensures { Steps self.old.left result self.new.left }
-    {
+    fn next(&mut self) -> Option<usize> {
         if self.left == 0 {
             return None;
         }

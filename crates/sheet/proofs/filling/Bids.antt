@@ -1,15 +1,17 @@
 -- Bids by the map of their row.
 use Prim.Native.Nat.{ℕ, ◌+◌, ◌*◌, ◌^◌, ◌≤◌, ◌<◌}
 use mathlib.Core.Bool.{false}
-use mathlib.Core.List.{List, [], ◌∷◌}
+use mathlib.Core.List.{List}
 use mathlib.Core.Logic.{⊎_elim}
 use mathlib.Core.Path.{◌≡◌, sym, ap, ◌∙◌}
 use native.Mathlib.Omega.{arith}
 use lib.ListN.{length, set, length-set}
 use lib.Seq.{get_or-set_same, get_or-set_other}
-use Rattle.model.specs.Counting.{◌<?◌, only, count, list, passing}
+use Rattle.std.specs.Prelude.{Some, None}
+use Rattle.model.specs.Counting.{◌<?◌, only, count, list}
 use Rattle.model.specs.sheet.Fields.{little_endian, has_bit}
 use Rattle.model.specs.sheet.Rows.{bid_by}
+use Rattle.model.specs.clauses.Steps.{Steps}
 use Rattle.model.proofs.Counting.{count_all, count_start, count_yes, count_up, length_list, get_d_list, list_cong}
 use Rattle.model.proofs.Loops.{is_list}
 use Rattle.model.proofs.Tests.{only_yes, only_no, is_lt, not_lt, lt_or_le, eq_or_ne}
@@ -74,13 +76,13 @@ module _ {from to : Cursor} {map m left : ℕ} {row : List ℕ} (t : Walked from
   abbrev bid : ℕ → ℕ
   bid = bid_by from.sheet.now map from.at
 
-  module _ (j rest : ℕ) (g : passing 64 (has_bit left) ≡ j ∷ passing 64 (has_bit rest))
+  module _ (j rest : ℕ) (g : Steps left (Some j) rest)
       (narrow : map < 2 ^ m) where
     n : Next map t.walk.p j
-    n = walk_next t.walk {j = j} {rest = rest} (record { given = g })
+    n = walk_next t.walk g
 
     pub walk_place : j < m
-    walk_place = walk_bit t.walk {j = j} {rest = rest} (record { given = g }) narrow
+    walk_place = walk_bit t.walk g narrow
 
     -- its field is within the row
     pub walk_room : from.at + 4 * count m (has_bit map) ≤ length from.sheet.now → to.at + 4 ≤ length to.sheet.now
@@ -94,7 +96,7 @@ module _ {from to : Cursor} {map m left : ℕ} {row : List ℕ} (t : Walked from
     pub walk_turn : {v : ℕ} {to' : Cursor} → Taken to 4 v to' → Walked from map m (set row j v) rest to'
     unfolding bid_by
     walk_turn {v} k = record {
-      walk = walk_on t.walk {j = j} {rest = rest} (record { given = g }) narrow;
+      walk = walk_on t.walk g narrow;
       moved = moved_by (moved_then t.moved k.moved) (omega (arith, n.number, count_yes j (has_bit map) n.set));
       is = ap (λ y. set y j v) t.is
           ∙ set_list m j v _ _ walk_place (value ∙ sym (below (j + 1) j bid (omega arith))) others;
@@ -114,7 +116,7 @@ module _ {from to : Cursor} {map m left : ℕ} {row : List ℕ} (t : Walked from
             (lt_or_le k t.walk.p)
 
   -- no bit is left
-  pub walk_end : passing 64 (has_bit left) ≡ [] → m ≤ 64 → RowFilled from map m row to
+  pub walk_end : {rest : ℕ} → Steps left None rest → m ≤ 64 → RowFilled from map m row to
   walk_end g few = record {
     moved = moved_by t.moved
         (ap (λ c. 4 * c) (sym (count_still (has_bit map) t.walk.p m t.walk.low clear)));
@@ -125,4 +127,4 @@ module _ {from to : Cursor} {map m left : ℕ} {row : List ℕ} (t : Walked from
   }
     where
       clear : (k : ℕ) → t.walk.p ≤ k → k < m → has_bit map k ≡ false
-      clear k a l = walk_done t.walk {rest = left} (record { given = (g, g) }) k a (omega arith)
+      clear k a l = walk_done t.walk g k a (omega arith)

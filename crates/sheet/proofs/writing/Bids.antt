@@ -1,14 +1,16 @@
 -- The bids of a row by its map.
 use Prim.Native.Nat.{ℕ, suc, ◌+◌, ◌^◌, ◌≤◌, ◌<◌}
 use mathlib.Core.Bool.{true, false}
-use mathlib.Core.List.{[], ◌∷◌}
+use mathlib.Core.List.{[]}
 use mathlib.Core.Path.{◌≡◌, refl, sym, ap, ◌∙◌}
 use native.Mathlib.Numerals.{add-one}
 use native.Mathlib.Omega.{arith}
 use lib.ListN.{length, length-append}
-use Rattle.model.specs.Counting.{◌<?◌, count, joined, passing}
+use Rattle.std.specs.Prelude.{Some, None}
+use Rattle.model.specs.Counting.{◌<?◌, count, joined}
 use Rattle.model.specs.sheet.Fields.{has_bit}
 use Rattle.model.specs.sheet.Layout.{bytes_of, stated}
+use Rattle.model.specs.clauses.Steps.{Steps}
 use Rattle.model.proofs.sheet.Walk.{Walk, Next, walk_all, walk_next, walk_bit, walk_on, walk_done}
 use Rattle.model.proofs.sheet.Holds.{pack_bit, pack_low, bytes_length}
 use Rattle.model.proofs.Counting.{count_all}
@@ -55,12 +57,12 @@ module _ (m : ℕ) (bid : ℕ → ℕ) {map : ℕ} (e : map ≡ row_map m bid) w
       record { walk = walk_all map m; put = record { wrote = wrote_none_joined _ _ _; same = refl } }
 
   module _ {from to : Output} {left : ℕ} (t : Walked from to left) where
-    module _ (j rest : ℕ) (g : passing 64 (has_bit left) ≡ j ∷ passing 64 (has_bit rest)) where
+    module _ (j rest : ℕ) (g : Steps left (Some j) rest) where
       n : Next map t.walk.p j
-      n = walk_next t.walk {j = j} {rest = rest} (record { given = g })
+      n = walk_next t.walk g
 
       pub walked_place : j < m
-      walked_place = walk_bit t.walk {j = j} {rest = rest} (record { given = g }) map_narrow
+      walked_place = walk_bit t.walk g map_narrow
 
       -- nothing stands between the last and the next set bit
       skipped : joined j (λ j. bid_field (bid j)) ≡ joined t.walk.p (λ j. bid_field (bid j))
@@ -87,12 +89,12 @@ module _ (m : ℕ) (bid : ℕ → ℕ) {map : ℕ} (e : map ≡ row_map m bid) w
       pub walked_on : {to' : Output} → Put to (bytes_of 4 (bid j)) to' → Walked from to' rest
       unfolding joined
       walked_on p = record {
-        walk = walk_on t.walk {j = j} {rest = rest} (record { given = g }) map_narrow;
+        walk = walk_on t.walk g map_narrow;
         put = rw (add-one, skipped, next_field) (put_then t.put p);
       }
 
-    pub walked_all : passing 64 (has_bit left) ≡ [] → m ≤ 64 → Put from (bid_fields m bid) to
+    pub walked_all : {rest : ℕ} → Steps left None rest → m ≤ 64 → Put from (bid_fields m bid) to
     unfolding bid_fields
     walked_all g few =
         rw (joined_gap (λ j. bid_field (bid j)) t.walk.p m t.walk.low
-        (λ i a b. no_field i b (walk_done t.walk {rest = left} (record { given = (g, g) }) i a (omega arith)))) t.put
+        (λ i a b. no_field i b (walk_done t.walk g i a (omega arith)))) t.put

@@ -35,4 +35,4 @@ loop-place-preserved c =
     walk_turn c.loop-place.invariant _ c.next.new.self.left c.in-Some.ensures.steps c.requires.1 c.four-bid.ensures
 
 pub returns : goal.returns
-returns c = walk_end c.loop-place.invariant c.in-None.ensures.steps.0 (omega arith)
+returns c = walk_end c.loop-place.invariant c.in-None.ensures.steps (omega arith)

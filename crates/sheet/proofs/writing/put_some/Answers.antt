@@ -39,4 +39,4 @@ loop-place-preserved c =
     )
 
 pub returns : goal.returns
-returns c = let (e, t) = c.loop-place.invariant in walked_all _ _ e t c.in-None.ensures.steps.0 (omega arith)
+returns c = let (e, t) = c.loop-place.invariant in walked_all _ _ e t c.in-None.ensures.steps (omega arith)
