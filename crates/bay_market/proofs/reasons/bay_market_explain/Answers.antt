@@ -1,3 +1,4 @@
+use native.Mathlib.Omega.{arith}
 use Rattle.model.specs.market.Reasons.{OutcomeTable, outcome_table}
 use Rattle.bay_market.proofs.Explained.{room, told_refused, told_all}
 use Rattle.bay_market.proofs.reasons.bay_market_explain.Goals as goal
