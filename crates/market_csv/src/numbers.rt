@@ -1,4 +1,5 @@
-// The numbers of a market's tables, of 16 bits or of 32.
+// The numbers of a market's tables, of 16 bits or of 32. The casts narrow a value that is at most `MOST`: a `TryFrom`
+// could fail, which this cannot.
 
 pub trait Number: Copy {
     const MOST: u64;

@@ -2,7 +2,7 @@
 ghost use Rattle.std.specs.Prelude.{◌+◌, ◌≤◌, length};
 ghost use Rattle.sheet.specs.Put.{Put};
 
-// An output, and the place reached in it.
+// An output, and the place reached in it. The output is lent: no heap is used.
 #[derive(Drop)]
 pub struct Output<'a> {
     pub out: &'a mut [u8],

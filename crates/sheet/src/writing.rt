@@ -1,5 +1,5 @@
 // The writer's parts: how long the shortest sheet of a market is, and its bytes from the first to the last. What is
-// required is an output with room for what is written.
+// required is an output with room for what is written: one inequality, for which a name would say no more.
 ghost use Rattle.std.specs.Prelude.{◌+◌, ◌*◌, ◌≤◌, ◌≡◌, get_or, length};
 ghost use Rattle.model.specs.Limits.{max_stations, max_bids};
 ghost use Rattle.model.specs.Counting.{◌<?◌, count, joined};
@@ -13,7 +13,7 @@ use crate::fields;
 use crate::putting::Output;
 use model::lent::AcceptedMarket;
 
-// How many bids are not 0.
+// How many bids are not 0. They are counted in 32 bits, twice as many a step as in the 64 of `count`.
 fn count_bids(bids: &[u32]) -> u32
     requires { length bids.now ≤ max_bids }
     ensures { result ≡ count (length bids.now) (λ k. 0 <? get_or bids.now k 0) }
@@ -25,7 +25,7 @@ fn count_bids(bids: &[u32]) -> u32
     n
 }
 
-// The length of the shortest sheet.
+// The length of the shortest sheet. The cast is to a type no smaller, for which std has no `From`.
 pub fn sheet_length(market: &AcceptedMarket<'_>) -> usize
     ensures { result ≡ length (shortest market.now) }
 {
@@ -40,9 +40,9 @@ fn put_stations(asks: &[u32], bays: &[u16], output: &mut Output<'_>)
         ≤ length output.old.out.now) }
     ensures { Put output.old (joined (length asks.now) (station_of asks.now bays.now)) output.new }
 {
-    for j in 0..asks.len() {
-        output.put(&asks[j].to_le_bytes());
-        output.put(&bays[j].to_le_bytes());
+    for (ask, count) in asks.iter().zip(bays) {
+        output.put(&ask.to_le_bytes());
+        output.put(&count.to_le_bytes());
     }
 }
 
@@ -122,6 +122,7 @@ fn put_row(amount: u16, ticket: u32, row: &[u32], output: &mut Output<'_>)
     put_bids(row, map, output);
 }
 
+// All rows. The number of the guest is needed beside the lists, for the row.
 fn put_rows(
     amounts: &[u16],
     tickets: &[u32],
@@ -143,6 +144,7 @@ fn put_rows(
     }
 }
 
+// The casts narrow the counts of an accepted market, which fit 16 bits: a `TryFrom` could fail, which this cannot.
 fn put_market(market: &AcceptedMarket<'_>, output: &mut Output<'_>)
     requires { output.old.at + length (shortest market.now) ≤ length output.old.out.now }
     ensures { Put output.old (shortest market.now) output.new }
