@@ -25,8 +25,8 @@ fn stands_before(tickets: &[u32], k: usize) -> bool
         .fold(false, |found, x| found | (*x == ticket))
 }
 
-// The places of a table that tells most tickets apart, and a ticket's place there. The cast is to a type no smaller, for
-// which std has no `From`.
+// The places of a table that tells most tickets apart, and a ticket's place there. The cast is to a type no smaller,
+// for which std has no `From`.
 const SLOTS: usize = 4096;
 
 fn slot(ticket: u32) -> usize
@@ -57,7 +57,7 @@ fn some_repeat(tickets: &[u32]) -> bool
     found
 }
 
-// The same, each against those before it.
+// The same, the ticket of each place against those before it.
 fn some_repeat_of_few(tickets: &[u32]) -> bool
     ensures { result ≡ repeats tickets.now }
 {

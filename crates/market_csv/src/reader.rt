@@ -94,7 +94,8 @@ impl<'a> Reader<'a> {
         self.text.len() <= self.at
     }
 
-    // The digits from here on. The loop counts places of the text, since the one where it stops is a part of the answer.
+    // The digits from here on. The loop counts places of the text, since the one where it stops is a part of the
+    // answer.
     fn digits(&self) -> Digits
         ensures ran { Ran self.now.text self.now.at result.value result.end }
         ensures found { Found self.now.text result.end result.stop }

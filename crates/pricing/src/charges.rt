@@ -25,8 +25,8 @@ pub fn least_charges(amounts: &[u16], cut: UnitPrice, least: &mut [u32])
     }
 }
 
-// The charge at a station by its number and critical total; nothing at number 0, which is none. A number and no `Option`:
-// so the result lists hold it, by document 01 and in the C interface.
+// The charge at a station by its number and critical total; nothing at number 0, which is none. A number and no
+// `Option`: so the result lists hold it, by document 01 and in the C interface.
 fn charge_at(station: u32, least: Mills, critical: Mills) -> Mills
     ensures { result.0 ≡ only (0 <? station) (max least.0 critical.0) }
 {

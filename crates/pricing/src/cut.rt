@@ -1,5 +1,5 @@
-// The cut: the ask at its rule's position in a list of asks. All functions ask the same of the list, no more asks than a
-// market has stations; a market in its place would ask more.
+// The cut: the ask at its rule's position in a list of asks. All functions ask the same of the list, no more asks than
+// a market has stations; a market in its place would ask more.
 ghost use Rattle.std.specs.Prelude.{◌≤◌, max, ◌≡◌, length};
 ghost use Rattle.model.specs.Limits.{max_stations};
 ghost use Rattle.model.specs.market.Rules.{position as position_of};
@@ -8,7 +8,7 @@ ghost use Rattle.pricing.specs.CutAsk.{under, eligible, cut_ask};
 use model::money::UnitPrice;
 use model::rule::Rule;
 
-// How many asks lie below x. They are counted in 32 bits, twice as many a step as in the 64 of `count`.
+// How many asks lie below x, in 32 bits: `filter` and `count`, in 64, took half as long again (in Rust).
 fn count_below(asks: &[u32], x: UnitPrice) -> u32
     requires { length asks.now ≤ max_stations }
     ensures { result ≡ under asks.now x.0 }
@@ -22,8 +22,8 @@ fn count_below(asks: &[u32], x: UnitPrice) -> u32
     n
 }
 
-// x where it is greater than r and fewer than `position` asks lie below it, else r. The cast is to a type no smaller, for
-// which std has no `From`.
+// x where it is greater than r and fewer than `position` asks lie below it, else r. The cast is to a type no smaller,
+// for which std has no `From`.
 fn raised(asks: &[u32], r: UnitPrice, x: UnitPrice, position: usize) -> UnitPrice
     requires { length asks.now ≤ max_stations }
     ensures { result.0 ≡ max r.0 (eligible asks.now position x.0) }
@@ -32,8 +32,8 @@ fn raised(asks: &[u32], r: UnitPrice, x: UnitPrice, position: usize) -> UnitPric
     if below < position { r.max(x) } else { r }
 }
 
-// The position of the cut among m asks, from 1. The rule is a value that a call names, with its two meanings side by side
-// in document 01: a `match`, and no closure.
+// The position of the cut among m asks, from 1. The rule is a value that a call names, with its two meanings side by
+// side in document 01: a `match`, and no closure.
 fn position(rule: Rule, m: usize) -> usize
     requires { m ≤ max_stations }
     ensures { result ≡ position_of rule m }

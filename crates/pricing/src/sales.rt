@@ -7,8 +7,8 @@ ghost use Rattle.pricing.specs.Sales.{kwh_at, slots, slot_of, kwh_in, Sellable, 
 use model::limits::MAX_STATIONS;
 use model::money::UnitPrice;
 
-// Where the kWh of guest i with station number s are added. Those with none spread over the places past the last
-// number: in one place, each addition would wait for the one before.
+// Where the kWh of guest i with station number s are added. Those with none, number 0 as in the result lists, spread
+// over the places past the last number: in one place, each addition would wait for the one before.
 fn slot(s: usize, i: usize) -> usize
     requires { s ≤ max_stations }
     ensures { (result < slots) × (result ≡ slot_of s i) }
@@ -29,8 +29,8 @@ fn tally_sales(stations: &[u16], amounts: &[u16], kwh: &mut [u32])
     }
 }
 
-// What each station sold and is paid, from the kWh of each station number. Both lists are written by their index: after a
-// `zip` of `iter_mut` nothing is known of what a list holds.
+// What each station sold and is paid, from the kWh of each station number. Both lists are written by their index: after
+// a `zip` of `iter_mut` nothing is known of what a list holds.
 fn pay_out(kwh: &[u32], cut: UnitPrice, sold: &mut [u32], paid: &mut [u64])
     requires { (length sold.old < length kwh.now) × (length paid.old ≡ length sold.old) }
     ensures { PaidOut (λ s. get_or kwh.now s 0) cut.0

@@ -10,6 +10,7 @@ pub struct Output<'a> {
 }
 
 impl<'a> Output<'a> {
+    // These bytes, and the place after them.
     pub fn put(&mut self, bytes: &[u8])
         requires { self.old.at + length bytes.now ≤ length self.old.out.now }
         ensures { Put self.old bytes.now self.new }

@@ -17,8 +17,9 @@ loop-charge-init c = sum_none
 pub loop-charge-preserved : goal.loop-charge-preserved
 loop-charge-preserved c =
     let (within, _, charge, least) =
-    zip_turn c.args.charges.now c.args.least.now c.loop-charge.yielded c.into_iter-charge-iterator.result _ c.next.new.self _
-    (search rules) (search rules) c.loop-charge.yielded_by _ c.in-Some.is c.next.ensures.steps in
+    zip_turn c.args.charges.now c.args.least.now c.loop-charge.yielded c.into_iter-charge-iterator.result _
+    c.next.new.self _ (search rules) (search rules) c.loop-charge.yielded_by _ c.in-Some.is c.next.ensures.steps in
     rw (length-append c.loop-charge.yielded _)
     (sum_turn c.loop-charge.invariant within
-    (c.excess.ensures ∙ ap₂ ◌-◌ (c.from.ensures ∙ charge 0) (c.from-in-loop-charge.ensures ∙ least 0)) c.add-r.ensures)
+    (c.excess.ensures ∙ ap₂ ◌-◌ (c.from.ensures ∙ charge 0) (c.from-in-loop-charge.ensures ∙ least 0))
+    c.add-r.ensures)
