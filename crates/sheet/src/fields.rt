@@ -63,7 +63,7 @@ impl<'a> Cursor<'a> {
         }
     }
 
-    // The next N bytes.
+    // The next N bytes, as an array: of that `from_le_bytes` makes a number.
     fn bytes<const N: usize>(self) -> ([u8; N], Cursor<'a>)
         requires { self.at + N ≤ length self.sheet.now }
         ensures { (result.0 ≡ slice_range self.entry.sheet.now self.entry.at (self.entry.at + N))
@@ -93,7 +93,7 @@ impl<'a> Cursor<'a> {
         (u32::from_le_bytes(bytes), next)
     }
 
-    // The number that the next N bytes hold.
+    // The number that the next N bytes hold, in the eight of a word.
     fn number<const N: usize>(self) -> (u64, Cursor<'a>)
         requires { (N ≤ 8) × (self.at + N ≤ length self.sheet.now) }
         ensures { Taken self.entry N result.0 result.1 }
