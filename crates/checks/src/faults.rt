@@ -15,33 +15,6 @@ use model::limits;
 use model::limits::{MAX_AMOUNT, MAX_BAYS, MAX_BIDS, MAX_GUESTS, MAX_PRICE, MAX_STATIONS};
 use model::refusal::Refusal;
 
-fn lengths_differ(
-    n: usize,
-    m: usize,
-    bays: usize,
-    tickets: usize,
-    bids: usize,
-    width: usize,
-) -> bool
-    requires { (n ≤ max_guests) × (m ≤ max_stations) }
-    ensures { result ≡ (not (bays =? m) or not (tickets =? n) or not (bids =? n * m) or not (width =? m)) }
-{
-    (bays != m) | (tickets != n) | (bids != n * m) | (width != m)
-}
-
-fn list_lengths_differ(
-    n: usize,
-    m: usize,
-    stations: usize,
-    charges: usize,
-    sold: usize,
-    paid: usize,
-) -> bool
-    ensures { result ≡ (not (stations =? n) or not (charges =? n) or not (sold =? m) or not (paid =? m)) }
-{
-    (stations != n) | (charges != n) | (sold != m) | (paid != m)
-}
-
 fn explained_lengths_differ(n: usize, m: usize, codes: usize, outcomes: usize) -> bool
     requires { (n ≤ max_guests) × (m ≤ max_stations) }
     ensures { result ≡ (not (codes =? n * m) or any (outcomes ∷ []) (λ k. not (k =? n))) }
@@ -71,7 +44,8 @@ pub fn value_fault(market: &Market<'_>) -> Result<(), Refusal>
     Ok(())
 }
 
-// The counts, then the lengths of the tables. The counts come first, so that n times m cannot wrap.
+// The counts, then the lengths of the tables. The counts come first, so that n times m cannot wrap. Six numbers and no
+// market: docs/DEMANDS.md has it as a function of any lengths, and of a market it is `market_size_fault`.
 pub fn size_fault(
     n: usize,
     m: usize,
@@ -85,7 +59,8 @@ pub fn size_fault(
     if limits::counts_out_of_range(n, m) {
         return Err(Refusal::CountsOutOfRange);
     }
-    if lengths_differ(n, m, bays, tickets, bids, width) {
+    let differ = (bays != m) | (tickets != n) | (bids != n * m) | (width != m);
+    if differ {
         return Err(Refusal::LengthsDiffer);
     }
     Ok(())
@@ -148,7 +123,11 @@ pub fn accept_for_clearing<'a>(
     market_size_fault(market)?;
     let n = market.amounts.len();
     let m = market.asks.len();
-    if list_lengths_differ(n, m, stations.len(), charges.len(), sold.len(), paid.len()) {
+    let differ = (stations.len() != n)
+        | (charges.len() != n)
+        | (sold.len() != m)
+        | (paid.len() != m);
+    if differ {
         return Err(Refusal::LentLengths);
     }
     value_fault(market)?;

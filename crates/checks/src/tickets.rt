@@ -25,7 +25,8 @@ fn stands_before(tickets: &[u32], k: usize) -> bool
         .fold(false, |found, x| found | (*x == ticket))
 }
 
-// The places of a table that tells most tickets apart, and a ticket's place there.
+// The places of a table that tells most tickets apart, and a ticket's place there. The cast is to a type no smaller,
+// for which std has no `From`.
 const SLOTS: usize = 4096;
 
 fn slot(ticket: u32) -> usize
@@ -42,7 +43,7 @@ fn repeats_at(tickets: &[u32], k: usize, seen: bool) -> bool
     seen && stands_before(tickets, k)
 }
 
-// Whether two are the same, by a table of the places taken so far.
+// Whether two are the same, by a table of the places taken so far: on the stack, since no heap is used.
 fn some_repeat(tickets: &[u32]) -> bool
     ensures { result ≡ repeats tickets.now }
 {
@@ -56,7 +57,7 @@ fn some_repeat(tickets: &[u32]) -> bool
     found
 }
 
-// The same, each against those before it.
+// The same, the ticket of each place against those before it.
 fn some_repeat_of_few(tickets: &[u32]) -> bool
     ensures { result ≡ repeats tickets.now }
 {

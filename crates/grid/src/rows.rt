@@ -1,4 +1,5 @@
-// The bids of accepted places, a row for each guest.
+// The bids of accepted places, a row for each guest. Lists are written by their index: after a `zip` of `iter_mut`
+// nothing is known of what a list holds.
 ghost use Rattle.std.specs.Prelude.{◌*◌, ◌-◌, ◌^◌, ◌<◌, ◌≡◌, length};
 ghost use Rattle.model.specs.places.Bids.{squared_distance, placed_bids};
 ghost use Rattle.model.specs.claims.Places.{OnGrid, PlacesWithinLimits};
@@ -46,7 +47,8 @@ fn bid(guest: Guest, walk: u16) -> u32
     guest.price.0.saturating_sub(guest.fall.0 * u32::from(walk))
 }
 
-// The squared distances of a cell from all stations. No one waits for another: several of them a step.
+// The squared distances of a cell from all stations. No one waits for another: several of them a step. The cast narrows
+// a distance on the grid, which fits 16 bits.
 fn square_row(from: Cell, grid: &Grid<'_>, squares: &mut [u16])
     requires { SquaresReady from grid.now.firsts.now grid.now.seconds.now squares.old }
     ensures { squares.new ≡ row_squares from grid.now.firsts.now grid.now.seconds.now }
@@ -74,6 +76,7 @@ fn bid_row(grid: &Grid<'_>, guest: Guest, squares: &[u16], row: &mut [u32])
     }
 }
 
+// A guest's bids, with a room of the greatest size for the squared distances: no heap is used.
 fn place_row(grid: &Grid<'_>, guest: Guest, row: &mut [u32])
     requires { RowReady grid.now guest row.old }
     ensures { row.new ≡ row_bids guest grid.now.firsts.now grid.now.seconds.now }

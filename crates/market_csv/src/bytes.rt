@@ -16,10 +16,10 @@ pub fn sort(b: u8) -> Kind
     ensures { Sorted b result }
 {
     match b {
-        48..=57 => Kind::Digit(b - 48),
-        44 => Kind::Comma,
-        13 => Kind::Cr,
-        10 => Kind::Lf,
+        b'0'..=b'9' => Kind::Digit(b - b'0'),
+        b',' => Kind::Comma,
+        b'\r' => Kind::Cr,
+        b'\n' => Kind::Lf,
         _ => Kind::Other,
     }
 }

@@ -18,7 +18,8 @@ use model::limits::{MAX_BIDS, MAX_GUESTS, MAX_STATIONS};
 use model::refusal::Refusal;
 
 // Reads a text into lent tables of the greatest size. One pass fills tables of its own, 33 kB of stack, and they are
-// copied once the whole text is known to be good.
+// copied once the whole text is known to be good. It takes what `sheet::read` takes; only the check of the lengths is
+// the same in both, and that is one function.
 pub fn read_csv(
     text: &[u8],
     amounts: &mut [u16],

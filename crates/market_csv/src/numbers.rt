@@ -1,6 +1,8 @@
-// The numbers of a market's tables, of 16 bits or of 32.
+// The numbers of a market's tables, of 16 bits or of 32, an impl for each. The casts narrow a value that is at most
+// `MOST`: a `TryFrom` could fail, which this cannot.
 
 pub trait Number: Copy {
+    // The greatest of them.
     const MOST: u64;
 
     ghost use Rattle.std.specs.Prelude.{◌≡◌, ℕ, ◌≤◌};
@@ -9,6 +11,7 @@ pub trait Number: Copy {
 
     ghost number_of: { ℕ → Self };
 
+    // The number that a value is.
     fn number_of(value: u64) -> Self
         requires { value ≤ MOST }
         ensures { result ≡ number_of value };

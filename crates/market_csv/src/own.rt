@@ -20,7 +20,8 @@ pub struct OwnTables {
 impl OwnTables {
     ghost use Rattle.market_csv.specs.Copies.{Fits, copied, lists_of};
 
-    // What the market of these counts has in them, over the first places of lent tables.
+    // What the market of these counts has in them, over the first places of lent tables. These are lent to be written,
+    // so they stay five slices, as model/lent.rt says.
     pub fn copy_to(
         &self,
         counts: Counts,

@@ -10,7 +10,7 @@ use model::answers::Counts;
 use model::limits::MAX_GUESTS;
 use model::refusal::Refusal;
 
-// The lines of all guests: how many there are.
+// The lines of all guests: how many there are. The loop counts guests, and the number where it ends is the answer.
 fn guest_lines(
     reader: &mut Reader<'_>,
     stations: usize,

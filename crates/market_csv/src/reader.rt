@@ -38,7 +38,8 @@ struct Digits {
     stop: Option<Kind>,
 }
 
-// A field: its number, whether it has no digits, and whether a line end, and not a comma, ends it.
+// A field: its number, whether it has no digits, and whether a line end, and not a comma, ends it. The number is no
+// `Option`: that of an empty field is 0, and this is what an empty bid is.
 #[derive(Clone, Copy)]
 pub struct Field {
     pub value: u64,
@@ -53,14 +54,11 @@ fn feeds(text: &[u8], at: usize) -> bool
     if text.len() <= at {
         return false;
     }
-    match bytes::sort(text[at]) {
-        Kind::Lf => true,
-        _ => false,
-    }
+    matches!(bytes::sort(text[at]), Kind::Lf)
 }
 
 // Whether a line end, and not a comma, ends the field whose digits end at a place where this stands, and the place
-// after it.
+// after it, which there is in both cases.
 fn ender(text: &[u8], end: usize, stop: Option<Kind>) -> Result<(bool, usize), Refusal>
     requires { Found text.now end stop }
     ensures { EnderRead text.now end result }
@@ -96,7 +94,8 @@ impl<'a> Reader<'a> {
         self.text.len() <= self.at
     }
 
-    // The digits from here on.
+    // The digits from here on. The loop counts places of the text, since the one where it stops is a part of the
+    // answer.
     fn digits(&self) -> Digits
         ensures ran { Ran self.now.text self.now.at result.value result.end }
         ensures found { Found self.now.text result.end result.stop }

@@ -1,5 +1,6 @@
-// What callers lend to be read, each part a struct of the lists that belong together. Lists that are lent to be written
-// stay slices: a struct of `&mut` would not tell its owner what they hold afterwards.
+// What callers lend to be read, each part a struct of the lists that belong together: parallel lists, as the C
+// interface has them. Lists that are lent to be written stay slices: a struct of `&mut` would not tell its owner what
+// they hold afterwards.
 ghost use Rattle.model.specs.market.Market.{Tables, tables, regular};
 ghost use Rattle.model.specs.market.Outcome.{results};
 ghost use Rattle.model.specs.market.Marking.{full_results};

@@ -27,7 +27,8 @@ impl From<Reason> for u8 {
     }
 }
 
-// A win with its station and charge, or a loss with the reason of its highest code.
+// A win with its station and charge, or a loss with the reason of its highest code. No `Result`: document 01 names this
+// form, and a loss is no failure of a call.
 #[derive(Clone, Copy)]
 pub enum GuestResult {
     Win { station: u16, charge: Mills },

@@ -1,4 +1,5 @@
-// The least charges, and the charges of those who chose a station.
+// The least charges, and the charges of those who chose a station. Lists are written by their index: after a `zip` of
+// `iter_mut` nothing is known of what a list holds.
 ghost use Rattle.std.specs.Prelude.{ℕ, ◌*◌, ◌<◌, ◌≤◌, max, ◌≡◌, length, get_or};
 ghost use Rattle.model.specs.Limits.{max_price, max_amount};
 ghost use Rattle.model.specs.Counting.{◌<?◌, only, list};
@@ -24,7 +25,8 @@ pub fn least_charges(amounts: &[u16], cut: UnitPrice, least: &mut [u32])
     }
 }
 
-// The charge at a station by its number and critical total; nothing at number 0, which is none.
+// The charge at a station by its number and critical total; nothing at number 0, which is none. A number and no
+// `Option`: so the result lists hold it, by document 01 and in the C interface.
 fn charge_at(station: u32, least: Mills, critical: Mills) -> Mills
     ensures { result.0 ≡ only (0 <? station) (max least.0 critical.0) }
 {
@@ -36,7 +38,8 @@ fn charge_at(station: u32, least: Mills, critical: Mills) -> Mills
 }
 
 // Each guest's station and charge, from the station chosen and the critical total of each station number. All have
-// chosen one of the stations or none, and every charge fits 32 bits: that is what is required.
+// chosen one of the stations or none, and every charge fits 32 bits: that is what is required. A station number fits
+// usize, for which std has no `From`, and 16 bits: a `TryFrom` could fail, which this cannot.
 pub fn charge_guests(
     chosen: &[u32],
     least: &[u32],

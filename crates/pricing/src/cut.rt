@@ -1,4 +1,5 @@
-// The cut: the ask at its rule's position in a list of asks.
+// The cut: the ask at its rule's position in a list of asks. All functions ask the same of the list, no more asks than
+// a market has stations; a market in its place would ask more.
 ghost use Rattle.std.specs.Prelude.{◌≤◌, max, ◌≡◌, length};
 ghost use Rattle.model.specs.Limits.{max_stations};
 ghost use Rattle.model.specs.market.Rules.{position as position_of};
@@ -7,7 +8,7 @@ ghost use Rattle.pricing.specs.CutAsk.{under, eligible, cut_ask};
 use model::money::UnitPrice;
 use model::rule::Rule;
 
-// How many asks lie below x.
+// How many asks lie below x, in 32 bits: `filter` and `count`, in 64, took half as long again (in Rust).
 fn count_below(asks: &[u32], x: UnitPrice) -> u32
     requires { length asks.now ≤ max_stations }
     ensures { result ≡ under asks.now x.0 }
@@ -21,7 +22,8 @@ fn count_below(asks: &[u32], x: UnitPrice) -> u32
     n
 }
 
-// x where it is greater than r and fewer than `position` asks lie below it, else r.
+// x where it is greater than r and fewer than `position` asks lie below it, else r. The cast is to a type no smaller,
+// for which std has no `From`.
 fn raised(asks: &[u32], r: UnitPrice, x: UnitPrice, position: usize) -> UnitPrice
     requires { length asks.now ≤ max_stations }
     ensures { result.0 ≡ max r.0 (eligible asks.now position x.0) }
@@ -30,7 +32,8 @@ fn raised(asks: &[u32], r: UnitPrice, x: UnitPrice, position: usize) -> UnitPric
     if below < position { r.max(x) } else { r }
 }
 
-// The position of the cut among m asks, from 1.
+// The position of the cut among m asks, from 1. The rule is a value that a call names, with its two meanings side by
+// side in document 01: a `match`, and no closure.
 fn position(rule: Rule, m: usize) -> usize
     requires { m ≤ max_stations }
     ensures { result ≡ position_of rule m }
@@ -41,8 +44,7 @@ fn position(rule: Rule, m: usize) -> usize
     }
 }
 
-// The cut: the ask at the rule's position in rising order, by counting. There are no more asks than a market has
-// stations.
+// The cut: the ask at the rule's position in rising order, by counting.
 pub fn cut(rule: Rule, asks: &[u32]) -> UnitPrice
     requires { length asks.now ≤ max_stations }
     ensures { result.0 ≡ cut_ask rule asks.now }

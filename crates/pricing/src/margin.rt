@@ -19,8 +19,8 @@ pub fn margin(charges: &[u32], least: &[u32]) -> Mills
         (λ i. get_or charges.now i 0 - get_or least.now i 0) }
 {
     let mut r = Mills(0);
-    for (i, charge) in charges.iter().enumerate() {
-        r = r + excess(Mills::from(*charge), Mills::from(least[i]));
+    for (charge, least) in charges.iter().zip(least) {
+        r = r + excess(Mills::from(*charge), Mills::from(*least));
     }
     r
 }

@@ -7,8 +7,8 @@ ghost use Rattle.pricing.specs.Sales.{kwh_at, slots, slot_of, kwh_in, Sellable, 
 use model::limits::MAX_STATIONS;
 use model::money::UnitPrice;
 
-// Where the kWh of guest i with station number s are added. Those with none spread over the places past the last
-// number: in one place, each addition would wait for the one before.
+// Where the kWh of guest i with station number s are added. Those with none, number 0 as in the result lists, spread
+// over the places past the last number: in one place, each addition would wait for the one before.
 fn slot(s: usize, i: usize) -> usize
     requires { s ≤ max_stations }
     ensures { (result < slots) × (result ≡ slot_of s i) }
@@ -16,7 +16,8 @@ fn slot(s: usize, i: usize) -> usize
     if 0 < s { s } else { MAX_STATIONS + 1 + i % 4 }
 }
 
-// The kWh of each place: kwh[s] is what the guests with station number s take.
+// The kWh of each place: kwh[s] is what the guests with station number s take. The guest's number is needed beside both
+// lists, for the place.
 fn tally_sales(stations: &[u16], amounts: &[u16], kwh: &mut [u32])
     requires sellable { Sellable stations.now amounts.now }
     requires kwh_value { kwh.old ≡ list slots (λ _. 0) }
@@ -28,7 +29,8 @@ fn tally_sales(stations: &[u16], amounts: &[u16], kwh: &mut [u32])
     }
 }
 
-// What each station sold and is paid, from the kWh of each station number.
+// What each station sold and is paid, from the kWh of each station number. Both lists are written by their index: after
+// a `zip` of `iter_mut` nothing is known of what a list holds.
 fn pay_out(kwh: &[u32], cut: UnitPrice, sold: &mut [u32], paid: &mut [u64])
     requires { (length sold.old < length kwh.now) × (length paid.old ≡ length sold.old) }
     ensures { PaidOut (λ s. get_or kwh.now s 0) cut.0
@@ -41,7 +43,8 @@ fn pay_out(kwh: &[u32], cut: UnitPrice, sold: &mut [u32], paid: &mut [u64])
     }
 }
 
-// What each station sold and is paid, from each guest's station number.
+// What each station sold and is paid, from each guest's station number. The kWh of the places stand in a table of the
+// greatest size: no heap is used.
 pub fn sell(stations: &[u16], amounts: &[u16], cut: UnitPrice, sold: &mut [u32], paid: &mut [u64])
     requires sellable { Sellable stations.now amounts.now }
     requires sold_len_bound { (length sold.old ≤ max_stations) × (length paid.old ≡ length sold.old) }

@@ -1,4 +1,5 @@
-// Whether a bid of a row is 0. No loop has a way out before its end, so that four fields are compared at once.
+// Whether a bid of a row is 0, and the cursor after the bids, which is a place of the sheet in both cases. No loop has
+// a way out before its end, so that four fields are compared at once.
 ghost use Rattle.std.specs.Prelude.{◌+◌, ◌*◌, ◌≤◌, length};
 ghost use Rattle.sheet.specs.Taken.{Scanned};
 

@@ -1,5 +1,5 @@
 // The fields of a sheet: numbers of 2 and of 4 bytes and bit maps, each with the place after it. What is required is
-// that the sheet does not end inside the field that is taken.
+// that the sheet does not end inside the field that is taken: one inequality, for which a name would say no more.
 ghost use Rattle.std.specs.Prelude.{◌+◌, ◌*◌, ◌<◌, ◌≤◌, ◌≡◌, length, slice_range, IfErr, OnOk};
 ghost use Rattle.model.specs.Limits.{max_stations};
 ghost use Rattle.model.specs.Counting.{◌≤?◌};
@@ -63,7 +63,7 @@ impl<'a> Cursor<'a> {
         }
     }
 
-    // The next N bytes.
+    // The next N bytes, as an array: of that `from_le_bytes` makes a number.
     fn bytes<const N: usize>(self) -> ([u8; N], Cursor<'a>)
         requires { self.at + N ≤ length self.sheet.now }
         ensures { (result.0 ≡ slice_range self.entry.sheet.now self.entry.at (self.entry.at + N))
@@ -74,7 +74,8 @@ impl<'a> Cursor<'a> {
         (bytes, self.skip(N))
     }
 
-    // A field of 2 bytes.
+    // A field of 2 bytes. This and the next are not one function of a type: `from_le_bytes` is of no trait, and a trait
+    // with it for two types is longer than both.
     pub fn two(self) -> (u16, Cursor<'a>)
         requires { self.at + 2 ≤ length self.sheet.now }
         ensures { Taken self.entry 2 result.0 result.1 }
@@ -92,7 +93,7 @@ impl<'a> Cursor<'a> {
         (u32::from_le_bytes(bytes), next)
     }
 
-    // The number that the next N bytes hold.
+    // The number that the next N bytes hold, in the eight of a word.
     fn number<const N: usize>(self) -> (u64, Cursor<'a>)
         requires { (N ≤ 8) × (self.at + N ≤ length self.sheet.now) }
         ensures { Taken self.entry N result.0 result.1 }
@@ -103,7 +104,7 @@ impl<'a> Cursor<'a> {
         (u64::from_le_bytes(word), next)
     }
 
-    // A bit map.
+    // A bit map. Each width has its own arm, so that the copy is of a known length; no const argument is computed.
     pub fn map(self, stations: usize) -> (u64, Cursor<'a>)
         requires { (stations ≤ max_stations) × (self.at + map_width stations ≤ length self.sheet.now) }
         ensures { Taken self.entry (map_width stations) result.0 result.1 }

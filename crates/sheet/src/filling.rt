@@ -1,5 +1,6 @@
 // The filling pass of the reader: the sheet has no fault, which is what is required here, and its fields are written
-// into the lent tables.
+// into the lent tables. Several tables are written by their index: after a `zip` of `iter_mut` nothing is known of what
+// a list holds.
 ghost use Rattle.std.specs.Prelude.{◌+◌, ◌*◌, ◌^◌, ◌<◌, ◌≤◌, ◌≡◌, length};
 ghost use Rattle.model.specs.Limits.{max_stations};
 ghost use Rattle.model.specs.Counting.{count};

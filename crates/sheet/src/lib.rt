@@ -1,5 +1,6 @@
 // Market sheets. The reader: whatever bytes arrive, the market that they state or the refusal of their first fault. The
-// writer: the shortest sheet that states an accepted market.
+// writer: the shortest sheet that states an accepted market. What the parts require is said in plain inequalities, no
+// more stations than a market has above all, for which a name or a type would say no more.
 #![tactic(auto)]
 
 mod checking;
@@ -19,7 +20,8 @@ use model::answers::Counts;
 use model::lent::Market;
 use model::refusal::Refusal;
 
-// Reads a sheet into lent tables of the greatest size. They are written once the whole sheet is known to be good.
+// Reads a sheet into lent tables of the greatest size. They are written once the whole sheet is known to be good, so
+// they stay five slices, as model/lent.rt says.
 pub fn read(
     sheet: &[u8],
     amounts: &mut [u16],

@@ -2,7 +2,7 @@
 ghost use Rattle.std.specs.Prelude.{◌+◌, ◌≤◌, length};
 ghost use Rattle.sheet.specs.Put.{Put};
 
-// An output, and the place reached in it.
+// An output, and the place reached in it. The output is lent: no heap is used.
 #[derive(Drop)]
 pub struct Output<'a> {
     pub out: &'a mut [u8],
@@ -10,6 +10,7 @@ pub struct Output<'a> {
 }
 
 impl<'a> Output<'a> {
+    // These bytes, and the place after them.
     pub fn put(&mut self, bytes: &[u8])
         requires { self.old.at + length bytes.now ≤ length self.old.out.now }
         ensures { Put self.old bytes.now self.new }

@@ -1,4 +1,5 @@
-// The set bits of a word of 64 bits: how many there are, and their places from the lowest on.
+// The set bits of a word of 64 bits: how many there are, and their places from the lowest on. The casts are from u32 to
+// usize, for which std has no `From`.
 #![tactic(auto)]
 
 ghost use Rattle.std.specs.Prelude.{◌≡◌};

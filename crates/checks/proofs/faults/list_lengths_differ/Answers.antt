@@ -1,6 +1,0 @@
-use borrow.Author.Rules.{rules}
-use Rattle.model.specs.Counting.{◌=?◌, ◌or◌}
-use Rattle.checks.proofs.faults.list_lengths_differ.Goals as goal
-
-pub returns : goal.returns
-returns c = unfold ◌or◌ ◌=?◌ in search rules
