@@ -1,13 +1,13 @@
 #!/usr/bin/env python3
 """Looks at the text of the crates: no line over 120 columns in src/, specs/ and proofs/ but in a file that a generator
-made, no chain of more than four `.before` there but in a function that only names the way back; at most 135 must-fail
+made, no chain of more than four `.before` there but in a function that only names the way back; at most 149 must-fail
 edits, each of them once in docs/EDITS.md; no line over 120 columns in python/. Prints what is believed, file by file,
 with its lines (comments and blanks aside)."""
 import glob
 import re
 import sys
 
-WIDTH, CHAIN, EDITS = 120, 4, 135
+WIDTH, CHAIN, EDITS = 120, 4, 149
 owed = []
 
 
