@@ -13,7 +13,7 @@ pub struct Priority(pub u64);
 // A total's part of it.
 pub const TOTAL: u64 = 4_294_967_296;
 
-// Guest i's bid times amount at station j.
+// Guest i's bid times amount at station j. One bid of the table is read, and no row is made for it.
 fn total_at(round: &Round<'_>, i: usize, j: usize) -> Mills
     requires { (i < length round.now.market.now.amounts) × (j < length round.now.market.now.asks) }
     ensures { result.0 ≡ (screened round.now).total i j }

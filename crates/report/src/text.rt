@@ -16,6 +16,7 @@ pub fn put(out: &mut [u8], at: usize, b: u8) -> usize
     at + 1
 }
 
+// The bytes of a word.
 pub fn put_word(out: &mut [u8], at: usize, word: &[u8]) -> usize
     requires { at + length word.now < 2 ^ 64 }
     ensures { Wrote out.old at word.now out.new result }
@@ -27,7 +28,7 @@ pub fn put_word(out: &mut [u8], at: usize, word: &[u8]) -> usize
     p
 }
 
-// A number in decimal.
+// A number in decimal. A rest below 10 fits a byte, where a `TryFrom` could fail.
 fn put_number(out: &mut [u8], at: usize, x: u64) -> usize
     requires { at + 20 < 2 ^ 64 }
     ensures { (k : ℕ) → x < 10 ^ (k + 1)
