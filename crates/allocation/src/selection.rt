@@ -30,7 +30,7 @@ fn capped(x: Mills, t: Mills) -> Mills
     if signed::below(t, x) { Mills(0) } else { x }
 }
 
-// The greatest element that is at most t, 0 for none.
+// The greatest element that is at most t, 0 for none: the form of the definition `greatest_up_to`.
 fn largest_at_most(xs: &[u32], t: Mills) -> Mills
     requires { Totals xs.now × (t.0 ≤ max_total) }
     ensures { result.0 ≡ greatest_up_to xs.now t.0 }

@@ -122,8 +122,8 @@ fn all_asked(
     page_asked(Layout::Sheet, count, first, second, third)
 }
 
-// An argument: the bytes of one that is not longer than the longest word, else none. A buffer with a length, since
-// there is no heap.
+// An argument: the bytes of one that is not longer than the longest word, else none, as no word is. A buffer with a
+// length, since there is no heap.
 #[derive(Drop)]
 struct Argument {
     bytes: [u8; 7],
@@ -177,7 +177,8 @@ fn complain<W: Write>(errors: &mut W, words: &[u8]) {
 }
 
 // Reads at most one byte more than the longest text has that is accepted, so that every fault is seen. That a page is
-// empty, which that of no guests is, is told too: a program that failed may write nothing.
+// empty, which that of no guests is, is told too: a program that failed may write nothing. The buffers are arrays of
+// the most that is read and written: there is no heap.
 fn print<R: Read, W: Write, E: Write>(input: &mut R, output: &mut W, errors: &mut E, asked: Asked) {
     let mut bytes = [0u8; MAX_CSV + 1];
     match read_input(input, &mut bytes) {

@@ -18,7 +18,7 @@ use allocation::signed;
 use model::money::{Mills, UnitPrice};
 
 // A bid's rank in its row: 64 times the bid and more the lower its station. Of two bids the one of greater rank stands
-// before the other.
+// before the other. One number and no pair: the least is taken from it with no branch.
 #[derive(Clone, Copy)]
 struct Rank(u32);
 
@@ -97,7 +97,7 @@ fn raise_all(round: &Round<'_>, chosen: &[u32], criticals: &mut [u32])
     }
 }
 
-// A critical total, or 0 where the station is closed.
+// A critical total, or 0 where the station is closed: the form of the definition `critical_of`.
 fn if_open(ask: UnitPrice, cut: UnitPrice, critical: Mills) -> Mills
     ensures { (result.0 ≡ only (ask.0 <? cut.0) critical.0) × (result.0 ≤ critical.0) }
 {

@@ -21,7 +21,7 @@ fn serve_guest(round: &Round<'_>, x: usize, seating: &mut Seating<'_>) -> Option
     seating.seat(round, x, j)
 }
 
-// Guest x is served, and whoever is put out on the way.
+// Guest x is served, and whoever is put out on the way: the loop goes from guest to guest, and counts nothing.
 fn serve(round: &Round<'_>, x: usize, seating: &mut Seating<'_>)
     requires held_in { HeldAt round.now seating.old }
     requires waits { Waits round.now.market.now seating.old.chosen x }

@@ -7,6 +7,7 @@ use crate::round::Round;
 use model::money::{Mills, UnitPrice};
 
 // A candidacy's priority at its station: a total and, below it, how low its ticket is. The greater stands before.
+// One number and no pair: a bar is taken from it with no branch (`takers`).
 #[derive(Clone, Copy, PartialEq, Eq, PartialOrd, Ord)]
 pub struct Priority(pub u64);
 

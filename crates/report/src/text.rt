@@ -1,5 +1,6 @@
 // Bytes, words, numbers and lines, written into a lent buffer as far as it reaches. A buffer and the place reached in
-// it stay two parameters: a struct of both would not tell the buffer's owner what it holds afterwards.
+// it stay two parameters: a struct of both would not tell the buffer's owner what it holds afterwards. Numbers are not
+// written by `Display`: what the buffer cannot hold is counted too.
 ghost use Rattle.std.specs.Prelude.{ℕ, ◌+◌, ◌<◌, ◌^◌, ◌∷◌, ◌++◌, [], length};
 ghost use Rattle.model.specs.text.Decimal.{digits, field};
 ghost use Rattle.model.specs.text.Lines.{line_end};
