@@ -68,6 +68,14 @@ pub record Bounded (S : Screened) (n j : ℕ) (bounds : List ℕ) : Type 0 where
 abbrev pub BoundedIn : Tables → (c j : ℕ) (bounds : List ℕ) → Type 0
 BoundedIn t c j bounds = Bounded (screened_at t c) (length t.amounts) j bounds
 
+-- before the first station: no station number has a critical total
+abbrev pub NoCriticals : List ℕ → Type 0
+NoCriticals criticals = criticals ≡ list (max_stations + 1) (λ _. 0)
+
+-- and each has room for a bound
+abbrev pub EmptyBars : (criticals bounds : List ℕ) → Type 0
+EmptyBars criticals bounds = NoCriticals criticals × (length bounds ≡ max_stations + 1)
+
 -- after the last station: the critical total and the bound of each station number, by which its places are won
 pub record Bars (t : Tables) (c : ℕ) (criticals bounds : List ℕ) : Type 0 where
   pub bounded : BoundedIn t c (length t.asks) bounds

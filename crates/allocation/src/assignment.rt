@@ -1,12 +1,11 @@
-// Every guest's station and charge: the stations of an accepted market take their turns.
-ghost use Rattle.std.specs.Prelude.{◌+◌, ◌≡◌, length};
-ghost use Rattle.model.specs.Counting.{list};
-ghost use Rattle.model.specs.Limits.{max_stations};
+// Every guest's station and charge: the stations of an accepted market take their turns. The tables are arrays of the
+// most guests or station numbers, cut to those there are: there is no heap. What is asked of a cut and its least
+// charges is one clause, `AtCut`: a struct of them would be built for a single call.
 ghost use Rattle.model.specs.market.Mechanism.{truthful};
 ghost use Rattle.model.specs.market.Outcome.{outcome_by};
 ghost use Rattle.allocation.specs.Screens.{screened_at};
-ghost use Rattle.allocation.specs.Stages.{AtCut, Bars};
-ghost use Rattle.allocation.specs.Assignment.{Assigned};
+ghost use Rattle.allocation.specs.Stages.{AtCut, EmptyBars, Bars};
+ghost use Rattle.allocation.specs.Assignment.{GuestLists, Assigned};
 
 use crate::offers::Choices;
 use crate::turns;
@@ -18,7 +17,7 @@ use model::money::UnitPrice;
 use pricing::charges;
 
 // Every guest's station and charge at the market's cut, and the critical total and the tie bound of each station
-// number.
+// number. The four lists stay slices, since they are lent to be written (model/lent).
 pub fn assign_with_bars(
     market: &AcceptedMarket<'_>,
     cut: UnitPrice,
@@ -29,10 +28,8 @@ pub fn assign_with_bars(
     charges: &mut [u32],
 )
     requires at_cut { AtCut market.now cut.0 least.now }
-    requires criticals_value { (criticals.old ≡ list (max_stations + 1) (λ _. 0))
-        × (length bounds.old ≡ max_stations + 1) }
-    requires stations_len { (length stations.old ≡ length market.now.amounts)
-        × (length charges.old ≡ length market.now.amounts) }
+    requires criticals_value { EmptyBars criticals.old bounds.old }
+    requires stations_len { GuestLists market.now stations.old charges.old }
     ensures { let S = screened_at market.now cut.0 in
         Assigned (outcome_by S (truthful S)) stations.new charges.new
         × Bars market.now cut.0 criticals.new bounds.new }
@@ -58,7 +55,7 @@ pub fn assign_with_bars(
     charges::charge_guests(choices.chosen, least, criticals, stations, charges);
 }
 
-// The same, with all its room.
+// The same for a caller that asks for no bars.
 pub fn assign_all(
     market: &AcceptedMarket<'_>,
     cut: UnitPrice,
@@ -67,8 +64,7 @@ pub fn assign_all(
     charges: &mut [u32],
 )
     requires at_cut { AtCut market.now cut.0 least.now }
-    requires stations_len { (length stations.old ≡ length market.now.amounts)
-        × (length charges.old ≡ length market.now.amounts) }
+    requires stations_len { GuestLists market.now stations.old charges.old }
     ensures { let S = screened_at market.now cut.0 in
         Assigned (outcome_by S (truthful S)) stations.new charges.new }
 {

@@ -37,7 +37,7 @@ impl Bar {
     }
 }
 
-// One more than total less charge where a place is won, so that 0 is no place.
+// One more than total less charge where a place is won, so that 0 is no place: the form of the definition `gain_for`.
 fn gain_for(won: bool, total: Mills, charge: Mills) -> Mills
     requires { (total.0 ≤ max_total) × (won ≡ true → charge.0 ≤ total.0) }
     ensures { result.0 ≡ gain_for won total.0 charge.0 }
@@ -57,6 +57,8 @@ fn pick(old: Mills, new: Mills, a: u32, b: u32) -> u32
 }
 
 // Guests' choices so far: the number of the station of each one's best offer, 0 for none, and one more than its gain.
+// Numbers and not options, as `charge_guests` and the definition `After` read them; two lists beside one another, so
+// that four guests are compared at once.
 #[derive(Drop)]
 pub struct Choices<'a> {
     pub chosen: &'a mut [u32],
@@ -64,7 +66,8 @@ pub struct Choices<'a> {
 }
 
 // One station's offers to every guest: where an offer gains more than the best so far, it is chosen. What it requires
-// of its lists holds in an accepted market.
+// of its lists holds in an accepted market. Each list is one that another function made: they are together only here.
+// All five are gone through by one index, where a zip would nest them four deep.
 fn offer_below(
     totals: &[u32],
     tickets: &[u32],
@@ -90,7 +93,8 @@ fn offer_below(
     }
 }
 
-// The same. With a bound of 0, which is the common case, no ticket is looked at.
+// The same. With a bound of 0, which is the common case, no ticket is looked at: the loop is made a second time, with
+// that bound known.
 pub fn offer(
     totals: &[u32],
     tickets: &[u32],

@@ -8,6 +8,7 @@ ghost use Rattle.allocation.specs.Selection.{above, greatest_up_to, Selected};
 use crate::signed;
 use model::money::Mills;
 
+// How many are above t.
 fn count_above(xs: &[u32], t: Mills) -> u32
     requires { (length xs.now ≤ max_guests) × Totals xs.now × (t.0 ≤ max_total) }
     ensures { result ≡ above xs.now t.0 }
@@ -21,6 +22,7 @@ fn count_above(xs: &[u32], t: Mills) -> u32
     n
 }
 
+// A total that is at most t, else 0, which no maximum sees.
 fn capped(x: Mills, t: Mills) -> Mills
     requires { (x.0 ≤ max_total) × (t.0 ≤ max_total) }
     ensures { result.0 ≡ only (x.0 ≤? t.0) x.0 }
@@ -28,7 +30,7 @@ fn capped(x: Mills, t: Mills) -> Mills
     if signed::below(t, x) { Mills(0) } else { x }
 }
 
-// The greatest element that is at most t, 0 for none.
+// The greatest element that is at most t, 0 for none: the form of the definition `greatest_up_to`.
 fn largest_at_most(xs: &[u32], t: Mills) -> Mills
     requires { Totals xs.now × (t.0 ≤ max_total) }
     ensures { result.0 ≡ greatest_up_to xs.now t.0 }
@@ -86,6 +88,7 @@ pub fn critical_total(totals: &[u32], top: Mills, b: u32) -> Critical
     }
     let mut low = Mills(0);
     let mut high = top;
+    // A bisection counts no index: it ends where the two meet.
     while low < high {
         let mid = middle(low, high);
         let c = count_above(totals, mid);

@@ -49,6 +49,7 @@ fn bound_by_ticket(totals: &[u32], tickets: &[u32], t: Mills, places: u32) -> u3
 {
     let mut low: u32 = 0;
     let mut high = u32::MAX;
+    // A bisection counts no index: it ends where the two meet.
     while low < high {
         let mid = low + (high - low) / 2;
         let n = count_ties(totals, tickets, t, mid);
@@ -75,6 +76,7 @@ pub fn tie_bound(totals: &[u32], tickets: &[u32], rising: bool, critical: Critic
         return 0;
     }
     let places = b - critical.above;
+    // How tickets stand is seen when the program runs, once for all stations: an `if` is the plain form.
     if rising {
         bound_by_order(totals, tickets, t, places)
     } else {

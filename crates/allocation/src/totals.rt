@@ -6,7 +6,7 @@ ghost use Rattle.allocation.specs.Totals.{total_for, total_at, Gathered};
 use crate::signed;
 use model::money::{Mills, UnitPrice};
 
-// A guest's total at a station, 0 where the bid is below the cut.
+// A guest's total at a station, 0 where the bid is below the cut: the form of the definition `total_for`.
 fn total_for(bid: UnitPrice, amount: u16, cut: UnitPrice) -> Mills
     ensures { result.0 ≡ total_for bid.0 amount cut.0 }
 {
@@ -17,7 +17,8 @@ fn total_for(bid: UnitPrice, amount: u16, cut: UnitPrice) -> Mills
     }
 }
 
-// Every guest's total at station j of m, and the greatest.
+// Every guest's total at station j of m, and the greatest. It takes any lists that fit one another, as docs/DEMANDS.md
+// says of it, and not an accepted market alone.
 pub fn gather(
     bids: &[u32],
     amounts: &[u16],

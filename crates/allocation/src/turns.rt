@@ -19,7 +19,8 @@ pub struct Round<'a> {
     ghost rises: { rising ≡ rising_of market.now.tickets },
 }
 
-// Station j's turn, after the stations before it, with the critical total and the tie bound of each station number.
+// Station j's turn, after the stations before it, with the critical total and the tie bound of each station number. The
+// lists that are written stay slices (model/lent).
 pub fn station(
     round: &Round<'_>,
     j: usize,
@@ -59,6 +60,7 @@ pub fn station(
             critical: critical.total,
             bound,
         };
+        // A station's number is at most 40; std has no `From` from `usize`.
         offers::offer(totals, market.tickets, round.least, bar, s as u32, choices);
     }
 }

@@ -17,7 +17,8 @@ use std::io::{Read, Write};
 // of 40 fields and 200 of 42, each of ten digits, with their commas and line ends.
 const MAX_CSV: usize = 93_482;
 
-// Reads to the end of the input, or until the buffer is full. Gives how many bytes were read.
+// Reads to the end of the input, or until the buffer is full. Gives how many bytes were read. The loop counts bytes and
+// not turns, and ends with the input: `read_to_end` takes a heap, and `read_exact` fails on an input that is shorter.
 fn read_input<R: Read>(input: &mut R, buffer: &mut [u8]) -> io::Result<usize>
     ensures { IfOk result (λ n. n ≤ length buffer.old) }
 {
@@ -32,7 +33,7 @@ fn read_input<R: Read>(input: &mut R, buffer: &mut [u8]) -> io::Result<usize>
     Ok(n)
 }
 
-// Whether an argument is a word.
+// Whether an argument is a word: the comparison of slices, with a contract in the word of the definitions.
 fn spells(given: &[u8], word: &[u8]) -> bool
     ensures { result ≡ given.now spells word.now }
 {
@@ -68,7 +69,8 @@ fn rule_asked(count: usize, option: &[u8], number: &[u8]) -> Option<Rule>
     None
 }
 
-// The page that so many arguments after the layout's own ask for, of which these are the first.
+// The page that so many arguments after the layout's own ask for, of which these are the first. They are passed one by
+// one: of a slice of words the contract would have to say what each of them is.
 fn page_asked(
     layout: Layout,
     count: usize,
@@ -120,8 +122,8 @@ fn all_asked(
     page_asked(Layout::Sheet, count, first, second, third)
 }
 
-// An argument: the bytes of one that is not longer than the longest word, else none. A buffer with a length, since
-// there is no heap.
+// An argument: the bytes of one that is not longer than the longest word, else none, as no word is. A buffer with a
+// length, since there is no heap.
 #[derive(Drop)]
 struct Argument {
     bytes: [u8; 7],
@@ -175,7 +177,8 @@ fn complain<W: Write>(errors: &mut W, words: &[u8]) {
 }
 
 // Reads at most one byte more than the longest text has that is accepted, so that every fault is seen. That a page is
-// empty, which that of no guests is, is told too: a program that failed may write nothing.
+// empty, which that of no guests is, is told too: a program that failed may write nothing. The buffers are arrays of
+// the most that is read and written: there is no heap.
 fn print<R: Read, W: Write, E: Write>(input: &mut R, output: &mut W, errors: &mut E, asked: Asked) {
     let mut bytes = [0u8; MAX_CSV + 1];
     match read_input(input, &mut bytes) {

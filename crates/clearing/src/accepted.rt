@@ -1,13 +1,12 @@
-// The clearing of an accepted market, by either mechanism: they differ in the assignment alone.
-ghost use Rattle.std.specs.Prelude.{◌+◌, ◌≡◌, length};
-ghost use Rattle.model.specs.Limits.{max_stations};
-ghost use Rattle.model.specs.Counting.{list};
+// The clearing of an accepted market, by either mechanism: they differ in the assignment alone. Lists that are lent to
+// be written stay slices (model/lent), those of the result as they come over the C interface. Rooms are arrays of the
+// most guests or station numbers, cut to those there are: there is no heap.
+ghost use Rattle.std.specs.Prelude.{◌≡◌};
 ghost use Rattle.model.specs.claims.Meaning.{RightLengths};
-ghost use Rattle.model.specs.market.Efficient.{efficient};
 ghost use Rattle.model.specs.market.Outcome.{results, outcome_by, outcome_in};
 ghost use Rattle.pricing.specs.CutAsk.{cut_ask};
-ghost use Rattle.allocation.specs.Stages.{AtCut};
-ghost use Rattle.allocation.specs.Assignment.{Assigned};
+ghost use Rattle.allocation.specs.Stages.{AtCut, EmptyBars};
+ghost use Rattle.allocation.specs.Assignment.{GuestLists, Assigned};
 ghost use Rattle.allocation.specs.Screens.{screened_at};
 ghost use Rattle.clearing.specs.Decided.{decided, HasBars};
 ghost use Rattle.clearing.specs.ClearsAccepted.{ClearsAccepted};
@@ -22,26 +21,9 @@ use model::rule::Rule;
 use pricing::{charges, cut, margin, sales};
 use quiet::efficient;
 
-// Every guest's station and charge in a quiet round. Not inlined: its tables would take stack in a truthful one too.
-#[inline(never)]
-fn assign_quiet(
-    market: &AcceptedMarket<'_>,
-    cut: UnitPrice,
-    least: &[u32],
-    stations: &mut [u16],
-    charges: &mut [u32],
-)
-    requires at_cut { AtCut market.now cut.0 least.now }
-    requires stations_len { (length stations.old ≡ length market.now.amounts)
-        × (length charges.old ≡ length market.now.amounts) }
-    ensures { let S = screened_at market.now cut.0 in
-        Assigned (outcome_by S (efficient S)) stations.new charges.new }
-{
-    efficient::assign_all_efficient(market, cut, least, stations, charges);
-}
-
 // Every guest's station and charge. A truthful assignment leaves the critical total and the tie bound of each station
-// number.
+// number. The mechanism is chosen when the program runs, and named by the definition `decided`: a `match` on its enum
+// is the plain form.
 fn assign_by(
     mechanism: Mechanism,
     market: &AcceptedMarket<'_>,
@@ -53,10 +35,8 @@ fn assign_by(
     charges: &mut [u32],
 )
     requires at_cut { AtCut market.now cut.0 least.now }
-    requires criticals_value { (criticals.old ≡ list (max_stations + 1) (λ _. 0))
-        × (length bounds.old ≡ max_stations + 1) }
-    requires stations_len { (length stations.old ≡ length market.now.amounts)
-        × (length charges.old ≡ length market.now.amounts) }
+    requires criticals_value { EmptyBars criticals.old bounds.old }
+    requires stations_len { GuestLists market.now stations.old charges.old }
     ensures { let S = screened_at market.now cut.0 in
         Assigned (outcome_by S (decided mechanism S)) stations.new charges.new
         × HasBars mechanism market.now cut.0 criticals.new bounds.new }
@@ -65,7 +45,9 @@ fn assign_by(
         Mechanism::Truthful => assignment::assign_with_bars(
             market, cut, least, criticals, bounds, stations, charges,
         ),
-        Mechanism::Efficient => assign_quiet(market, cut, least, stations, charges),
+        Mechanism::Efficient => {
+            efficient::assign_all_efficient(market, cut, least, stations, charges)
+        }
     }
 }
 
@@ -82,8 +64,7 @@ pub fn clear_with_bars(
     paid: &mut [u64],
 ) -> Figures
     requires right_lengths { RightLengths market.now (results stations.old charges.old sold.old paid.old) }
-    requires criticals_value { (criticals.old ≡ list (max_stations + 1) (λ _. 0))
-        × (length bounds.old ≡ max_stations + 1) }
+    requires criticals_value { EmptyBars criticals.old bounds.old }
     ensures clears { ClearsAccepted (outcome_in mechanism rule market.now) result
         (results stations.new charges.new sold.new paid.new) }
     ensures cut { result.cut.0 ≡ cut_ask rule market.now.asks }
@@ -102,7 +83,7 @@ pub fn clear_with_bars(
 }
 
 // The same, with that room.
-pub fn clear_accepted(
+pub(crate) fn clear_accepted(
     mechanism: Mechanism,
     rule: Rule,
     market: &AcceptedMarket<'_>,

@@ -1,4 +1,5 @@
 // The clearing of a market: one call checks the lent tables, clears them and answers, or refuses and writes nothing.
+// The lists are lent one by one, as they come over the C interface.
 #![tactic(auto)]
 
 pub mod accepted;
@@ -31,7 +32,7 @@ pub fn clear_under(
     Ok(accepted::clear_accepted(mechanism, rule, &accepted, stations, charges, sold, paid))
 }
 
-// The same under the rule of a number, which is looked at first.
+// The same under the rule of a number, which is looked at first: it may name none.
 pub fn clear(
     mechanism: Mechanism,
     rule: u8,

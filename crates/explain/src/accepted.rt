@@ -9,7 +9,8 @@ use model::limits::{MAX_GUESTS, MAX_STATIONS};
 use model::rule::Rule;
 use pricing::{charges, cut};
 
-// Into tables of the right lengths.
+// Into tables of the right lengths, which are lent to be written and stay slices (model/lent). The rooms are arrays of
+// the most guests or station numbers, cut to those there are: there is no heap.
 pub fn explain_accepted(
     rule: Rule,
     market: &AcceptedMarket<'_>,

@@ -1,4 +1,6 @@
-// The code of each guest and station, row after row, and each guest's loss.
+// The code of each guest and station, row after row, and each guest's loss. Codes are bytes with 0 for none: the lent
+// tables hold them so over the C interface. The lists of a market, its bars and its results are of other lengths, and
+// are passed one by one.
 ghost use Rattle.std.specs.Prelude.{◌+◌, ◌*◌, ◌<◌, ◌≤◌, ◌≡◌, length};
 ghost use Rattle.model.specs.Limits.{max_price, max_amount};
 ghost use Rattle.model.specs.Counting.{◌=?◌, only, greatest, list};
@@ -12,7 +14,7 @@ use model::lent::AcceptedMarket;
 use model::money::{Mills, UnitPrice};
 
 // The code of a bid: the first of 1 to 4 that applies, or 0. No branch: who is a candidate and who wins cannot be
-// foreseen.
+// foreseen. Each parameter is from a list of its own: no two go together anywhere else.
 #[tactic(auto, unfolding(crate::specs::Codes::code_by), using(crate::proofs::Tests::prices))]
 fn code(
     bid: UnitPrice,

@@ -47,7 +47,7 @@ pub fn explained_under(
     })
 }
 
-// The same under the rule of a number, which is looked at first.
+// The same under the rule of a number, which is looked at first: it may name none.
 pub fn explained(
     rule: u8,
     market: &Market<'_>,

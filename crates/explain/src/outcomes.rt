@@ -8,7 +8,7 @@ use model::limits::MAX_GUESTS;
 use model::money::Mills;
 use model::reason::{GuestOutcome, GuestResult, Reason};
 
-// Of a code from 1 to 4.
+// Of a code from 1 to 4. It cannot fail, as a `TryFrom` could: the codes are this crate's own.
 #[tactic(auto, unfolding(crate::specs::Outcomes::reason_of), using(crate::proofs::Tests::tests))]
 fn reason(code: u8) -> Reason
     ensures { result ≡ reason_of code }
@@ -34,7 +34,7 @@ pub fn guest_outcome(station: u16, charge: Mills, loss: u8) -> GuestOutcome
     GuestOutcome { result }
 }
 
-// What a record holds, 0 where it has none of it.
+// What a record holds, 0 where it has none of it: the lent tables hold it so over the C interface.
 #[tactic(auto, unfolding(model::specs::Numbers::station_of))]
 pub fn station_in(outcome: GuestOutcome) -> u16
     ensures { result ≡ station_of outcome.result }

@@ -12,13 +12,15 @@ use model::lent::AcceptedMarket;
 use model::limits::MAX_GUESTS;
 use model::refusal::Refusal;
 
+// Whether the gates' stations differ.
 fn stations_differ(first: &AcceptedMarket<'_>, second: &AcceptedMarket<'_>) -> bool
     ensures { result ≡ (differs first.now.asks second.now.asks or differs first.now.bays second.now.bays) }
 {
     !copies::same(first.asks, second.asks) | !copies::same(first.bays, second.bays)
 }
 
-// Whether a ticket is in both lists: no list has one twice, so that it would repeat in both together.
+// Whether a ticket is in both lists: no list has one twice, so that it would repeat in both together. They are put into
+// an array of the most guests, cut to those there are: there is no heap.
 fn ticket_in_both(first: &[u32], second: &[u32]) -> bool
     requires { (length first.now + length second.now ≤ max_guests) × Differ first.now × Differ second.now }
     ensures { result ≡ meet first.now second.now }
@@ -39,6 +41,7 @@ pub struct Lengths {
     pub bids: usize,
 }
 
+// Whether they are other than n guests and m stations take.
 fn lengths_differ(n: usize, m: usize, joined: Lengths) -> bool
     requires { (n ≤ max_guests) × (m ≤ max_stations) }
     ensures { result ≡ (not (joined.amounts =? n) or not (joined.tickets =? n) or not (joined.asks =? m)

@@ -1,4 +1,5 @@
-// Two gates' markets joined into one, the first gate's guests in front.
+// Two gates' markets joined into one, the first gate's guests in front. The joined lists are lent one by one, as they
+// come over the C interface.
 #![tactic(auto)]
 
 mod faults;

@@ -9,7 +9,7 @@ use model::mechanism::Mechanism;
 use model::refusal::Refusal;
 use model::rule::Rule;
 
-// The round that the market clears to under a rule.
+// The round that the market clears to under a rule, in arrays of the most guests or stations: there is no heap.
 fn plan_under(rule: Rule, market: &Market<'_>) -> Result<Round, Refusal>
     ensures { PlannedUnder rule market.now result }
 {
@@ -41,7 +41,7 @@ fn plan_under(rule: Rule, market: &Market<'_>) -> Result<Round, Refusal>
     })
 }
 
-// The same under the rule of a number, which is looked at first.
+// The same under the rule of a number, which is looked at first: it may name none.
 pub fn plan(rule: u8, market: &Market<'_>) -> Result<Round, Refusal>
     ensures { Planned rule market.now result }
 {

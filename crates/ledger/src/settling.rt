@@ -1,4 +1,4 @@
-// A round settled on a book, or refused.
+// A round settled on a book, or refused. The book's lists stay slices, since they are lent to be written (model/lent).
 ghost use Rattle.std.specs.Prelude.{◌≡◌};
 ghost use Rattle.model.specs.Verdicts.{◌gives◌, first_fault};
 ghost use Rattle.model.specs.Promises.{Keeps};
@@ -14,6 +14,7 @@ use model::account::StationAccount;
 use model::limits::{MAX_DESKS, MAX_GUESTS, MAX_ROUND, MAX_STATIONS};
 use model::refusal::Refusal;
 
+// Whether a book of so many accounts and last rounds is too small or too large for n guests and m stations.
 fn book_size_differs(n: usize, m: usize, guests: usize, stations: usize, lasts: usize) -> bool
     ensures { (result gives 13) ≡ book_size n m guests stations lasts }
 {
@@ -21,12 +22,14 @@ fn book_size_differs(n: usize, m: usize, guests: usize, stations: usize, lasts: 
         | (lasts != MAX_DESKS)
 }
 
+// Desks count from 0.
 fn desk_out_of_range(desk: u8) -> bool
     ensures { (result gives 25) ≡ no_desk desk }
 {
     MAX_DESKS <= usize::from(desk)
 }
 
+// A desk's rounds follow one another.
 fn round_out_of_turn(round: u32, last: u32) -> bool
     ensures { (result gives 11) ≡ out_of_turn round last }
 {

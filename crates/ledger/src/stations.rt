@@ -29,7 +29,8 @@ pub fn any_exceeds(stations: &[StationAccount], r: &Round) -> bool
     sold | paid
 }
 
-// Each account has room for what is added.
+// Each account has room for what is added. By index: what is sold and what is paid stand in a list each, of which the
+// round's stations are the first.
 pub fn add(stations: &mut [StationAccount], r: &Round)
     requires few { (r.now.stations ≤ length stations.old) × (length stations.old ≤ max_stations) }
     requires addable { Addable (sold_of stations.old) r.now.sold × Addable (paid_of stations.old) r.now.paid }

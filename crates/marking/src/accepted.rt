@@ -12,7 +12,8 @@ use model::limits::MAX_STATIONS;
 use model::mechanism::Mechanism;
 use model::rule::Rule;
 
-// Into lists of the right lengths.
+// Into lists of the right lengths, which are lent to be written and stay slices (model/lent). The rooms are arrays of
+// the most stations or station numbers, cut to those there are: there is no heap.
 pub fn clear_accepted(
     rule: Rule,
     market: &AcceptedMarket<'_>,

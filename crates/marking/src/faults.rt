@@ -9,7 +9,7 @@ use checks::faults;
 use model::lent::{AcceptedMarket, Market};
 use model::refusal::Refusal;
 
-// Under a known rule, with the lists that are lent or handed in.
+// With the lists that are lent or handed in. They are no `Submission`: where they are lent, there is no cut yet.
 pub fn accept_for_marking<'a>(
     market: &Market<'a>,
     stations: &[u16],

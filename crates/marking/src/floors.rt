@@ -25,6 +25,7 @@ fn bar(ask: UnitPrice, cut: UnitPrice, critical: u32) -> u32
     if ask < cut { critical } else { PAST_ALL_TOTALS }
 }
 
+// The bar of each station, of as many critical totals.
 pub fn give_bars(asks: &[u32], cut: UnitPrice, criticals: &[u32], bars: &mut [u32])
     requires { (length asks.now < length criticals.now) × (length bars.old ≡ length asks.now) }
     ensures { bars.new ≡ list (length asks.now) (bar_at asks.now cut.0 criticals.now) }

@@ -1,4 +1,5 @@
-// A clearing with the places held and each station's floor, and the mark of one that is handed in.
+// A clearing with the places held and each station's floor, and the mark of one that is handed in. The lists are lent
+// one by one, as they come over the C interface.
 #![tactic(auto)]
 
 mod accepted;
@@ -38,7 +39,7 @@ fn clear_marked_under(
     ))
 }
 
-// The same under the rule of a number, which is looked at first.
+// The same under the rule of a number, which is looked at first: it may name none.
 pub fn clear_marked(
     rule: u8,
     market: &Market<'_>,
@@ -72,7 +73,7 @@ fn mark_under(rule: Rule, market: &Market<'_>, submission: &Submission<'_>) -> R
     Ok(submissions::is_correct(rule, &accepted, submission))
 }
 
-// The same under the rule of a number, which is looked at first.
+// The same under the rule of a number, which is looked at first: it may name none.
 pub fn mark(rule: u8, market: &Market<'_>, submission: &Submission<'_>) -> Result<bool, Refusal>
     ensures { Marks rule market.now submission.now result }
 {

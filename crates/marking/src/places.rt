@@ -1,4 +1,5 @@
-// The place of each guest and station, row after row.
+// The place of each guest and station, row after row. The lists of a market, its bars and its places are of other
+// lengths, and are passed one by one.
 ghost use Rattle.std.specs.Prelude.{◌+◌, ◌*◌, ◌≤◌, ◌≡◌, length};
 ghost use Rattle.model.specs.Limits.{max_price, max_amount};
 ghost use Rattle.model.specs.Counting.{list};
@@ -11,7 +12,8 @@ use allocation::holding;
 use model::lent::AcceptedMarket;
 use model::money::{Mills, UnitPrice};
 
-// 1 for a place held, by the bar and the tie bound of the station, else 0. No branch: who wins cannot be foreseen.
+// 1 for a place held, by the bar and the tie bound of the station, else 0: the lent table holds bytes. No branch: who
+// wins cannot be foreseen. Each parameter is from a list of its own.
 fn place(bid: UnitPrice, amount: u16, ticket: u32, cut: UnitPrice, bar: Mills, bound: u32) -> u8
     requires { (bid.0 ≤ max_price) × (amount ≤ max_amount) × (bar.0 ≤ max_total + 1) }
     ensures { result ≡ place_by bid.0 amount ticket cut.0 bar.0 bound }

@@ -8,7 +8,8 @@ use model::lent::{AcceptedMarket, Submission};
 use model::limits::{MAX_BIDS, MAX_GUESTS, MAX_STATIONS};
 use model::rule::Rule;
 
-// Against the truthful round, which is made in lists of its own. All is compared, whatever differs.
+// Against the truthful round, which is made in lists of its own: arrays of the most that there may be, cut to the
+// market, since there is no heap. All is compared, whatever differs.
 pub fn is_correct(rule: Rule, market: &AcceptedMarket<'_>, submission: &Submission<'_>) -> bool
     ensures { result ≡ correct rule market.now submission.now }
 {

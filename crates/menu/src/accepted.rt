@@ -1,4 +1,5 @@
-// A guest's price list and gains, in an accepted market.
+// A guest's price list and gains, in an accepted market. The lists are lent one by one, as they come over the C
+// interface. The rooms are arrays of the most guests or stations, cut to those there are: there is no heap.
 ghost use Rattle.std.specs.Prelude.{◌≡◌, length, get_or};
 ghost use Rattle.model.specs.market.Menus.{price_list_by, gains_from};
 ghost use Rattle.model.specs.market.Rules.{position};

@@ -10,6 +10,7 @@ use checks::{faults, scans};
 use model::lent::{AcceptedMarket, Market};
 use model::refusal::Refusal;
 
+// Lists of another length than there are stations: a line, which whatif/faults has of other lists.
 fn lists_differ(m: usize, bars: usize, prices: usize) -> bool
     ensures { result ≡ (not (bars =? m) or not (prices =? m)) }
 {
@@ -56,7 +57,8 @@ fn rows_differ(m: usize, worths: usize, rows: usize) -> bool
     (worths != m) | (rows % m != 0)
 }
 
-// Of the guest's number, worths and rows, with so many places for gains.
+// Of the guest's number, worths and rows, with so many places for gains: one by one, as the definition `gain_faults`
+// takes them.
 fn gain_fault(
     n: usize,
     m: usize,

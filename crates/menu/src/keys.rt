@@ -12,6 +12,8 @@ use std::marker::Model;
 // 64 times the greatest bid.
 const HIGHEST: u32 = 64 * MAX_PRICE;
 
+// By the rests a and b, then by the indices, as the definition `rest_before` says it. No branch, which `<` of two pairs
+// would have: whose rest is the lesser cannot be foreseen.
 fn goes_before(a: u32, b: u32, k: usize, j: usize) -> bool
     ensures { result ≡ rest_before a b k j }
 {
@@ -75,7 +77,7 @@ pub fn lift(least: u32, price: u32, amount: u32, label: u32) -> u32
     }
 }
 
-// Nothing where the bid is below its least.
+// Nothing where the bid is below its least, which no maximum sees.
 fn held(bid: u32, least: u32, sum: u32) -> u32
     requires { (bid ≤ max_price) × (least ≤ max_price + 1) }
     ensures { result ≡ only (least ≤? bid) sum }
@@ -98,6 +100,7 @@ impl<'a> Model for RowKeys<'a> {
     ghost invariant = { λ h. HoldsRows (record { leasts = h.leasts.now; lifts = h.lifts.now }) };
 }
 
+// What is asked of a row is one clause, `Row`: the row is not the struct's own, and another each time.
 impl RowKeys<'_> {
     // The greatest key of a row, or a greater number below 64, since no bid is held to its least. No sum goes below 0,
     // and nothing leaves the loop before its end.
@@ -115,7 +118,8 @@ impl RowKeys<'_> {
         top - HIGHEST
     }
 
-    // With each bid held to its least.
+    // With each bid held to its least. A loop of its own: one for both would take a closure, and a contract that says
+    // what it gives at each station.
     fn exact_top(&self, row: &[u32]) -> u32
         requires { Row self.now row.now }
         ensures { result ≡ greatest (length row.now) (row_key self.now row.now) }

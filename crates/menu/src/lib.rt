@@ -1,4 +1,5 @@
-// A guest's price list, and the gains of rows by it.
+// A guest's price list, and the gains of rows by it. The lists are lent one by one, as they come over the C interface;
+// so does a guest's number, and std has no `From` from `u32` to `usize`.
 #![tactic(auto)]
 
 mod accepted;
@@ -31,7 +32,7 @@ fn list_under(
 }
 
 // The price list of a guest, named from 1 on, under the rule of a number, which is looked at first: for each station
-// the least total with which the guest holds a place there, and its charge there.
+// the least total with which the guest holds a place there, and its charge there. A number may name no rule.
 pub fn price_list(
     rule: u8,
     market: &Market<'_>,
@@ -61,7 +62,7 @@ fn gain_under(
     Ok(())
 }
 
-// The gain of each row by the guest's worths, under the rule of a number, which is looked at first.
+// The gain of each row by the guest's worths, under the rule of a number, which is looked at first: it may name none.
 pub fn gains(
     rule: u8,
     market: &Market<'_>,

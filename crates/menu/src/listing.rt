@@ -17,7 +17,7 @@ struct Entry {
     price: u32,
 }
 
-// 1 for whoever loses a tie, and else nothing.
+// 1 for whoever loses a tie, and else nothing: std's conversion, with a contract in the word of the definitions.
 fn one_if(loses: bool) -> Mills
     ensures { result.0 ≡ only loses 1 }
 {
@@ -89,7 +89,8 @@ fn station(
     }
 }
 
-// Guest i's price list at a cut.
+// Guest i's price list at a cut. The lists are lent to be written and stay slices (model/lent); a station is told of by
+// its index, and two lists are written at it.
 pub fn list_stations(
     market: &AcceptedMarket<'_>,
     cut: UnitPrice,

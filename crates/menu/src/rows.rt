@@ -36,7 +36,9 @@ impl<'a> Model for Offers<'a> {
         Offered (record { list = price_list o.bars.now o.prices.now; amount = o.amount; worths = o.worths.now }) };
 }
 
-// The gain at a station by the worth there. Both terms are below 2 to the 48th, so that the difference fits.
+// The gain at a station by the worth there. Both terms are below 2 to the 48th, so that the difference fits, and the
+// `as` too, where a `TryFrom` could fail. A line, as `whatif/gains` has of what a guest obtains: one function for both
+// would be no shorter.
 fn gain(worth: u32, amount: u16, price: u32) -> i64
     ensures { result ≡ sub_ℕ (worth * amount) price }
 {
@@ -49,6 +51,7 @@ fn fill(rows: &[u32], row_keys: &RowKeys<'_>, table: &[i64], gains: &mut [i64])
     ensures { gains.new ≡ row_gains rows.now row_keys.now table.now (length gains.old) }
 {
     let m = row_keys.leasts.len();
+    // The rest is below 64, and std has no `From` from `u32` to `usize`.
     for (r, gain) in gains.iter_mut().enumerate() {
         let top = row_keys.top_key(&rows[r * m..r * m + m]);
         *gain = table[(top % 64) as usize];
@@ -57,7 +60,8 @@ fn fill(rows: &[u32], row_keys: &RowKeys<'_>, table: &[i64], gains: &mut [i64])
 
 impl Offers<'_> {
     // For each station its least bid and lift; for each label the gain there, and 0 for none. The lifts stand where the
-    // labels stood.
+    // labels stood. A station is told of by its index, since six lists are read or written at it. A label is below 64,
+    // and std has no `From` from `u32` to `usize`.
     fn prepare_labelled(&self, leasts: &mut [u32], lifts: &mut [u32], table: &mut [i64])
         requires { let m = length self.now.list.prices in (length leasts.old ≡ m)
             × (lifts.old ≡ list m (label self.now.list.prices self.now.amount)) × (table.old ≡ replicate 64 (pos 0)) }
@@ -88,7 +92,8 @@ impl Offers<'_> {
         self.prepare_labelled(leasts, lifts, table);
     }
 
-    // As many rows as there are places for gains.
+    // As many rows as there are places for gains. The rooms are arrays of the most stations, cut to those there are:
+    // there is no heap.
     pub fn gain_rows(&self, rows: &[u32], gains: &mut [i64])
         requires { (length rows.now ≡ length gains.old * length self.now.list.prices)
             × ((q : ℕ) → q < length rows.now → get_or rows.now q 0 ≤ max_price) }

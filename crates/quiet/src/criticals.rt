@@ -1,5 +1,6 @@
 // The critical totals of a quiet round: at each station the greatest total that was turned away. They are raised guest
-// by guest, row by row; the rows' loop has no branch.
+// by guest, row by row; the rows' loop has no branch. Each `as` is of a number that fits, and that std has no `From`
+// for.
 ghost use Rattle.std.specs.Prelude.{◌≡◌, suc, ◌+◌, ◌^◌, ◌<◌, ◌≤◌, max, length};
 ghost use Rattle.model.specs.Limits.{max_stations, max_price, max_amount};
 ghost use Rattle.model.specs.Counting.{◌<?◌, only, list};
@@ -8,6 +9,7 @@ ghost use Rattle.allocation.specs.Totals.{max_total};
 ghost use Rattle.quiet.specs.Efficient.{of, Seats, critical_of};
 ghost use Rattle.quiet.specs.Criticals.{least_rank, total_from, raised_by, passed_over};
 ghost use Rattle.quiet.specs.Criticals.{Renewed, Row, Room};
+ghost use Rattle.allocation.specs.Stages.{NoCriticals};
 ghost use Rattle.quiet.specs.Rounds.{screened, HeldAt};
 
 use crate::round::Round;
@@ -16,7 +18,7 @@ use allocation::signed;
 use model::money::{Mills, UnitPrice};
 
 // A bid's rank in its row: 64 times the bid and more the lower its station. Of two bids the one of greater rank stands
-// before the other.
+// before the other. One number and no pair: the least is taken from it with no branch.
 #[derive(Clone, Copy)]
 struct Rank(u32);
 
@@ -52,7 +54,7 @@ fn raise_row(row: &[u32], amount: u32, least: Rank, criticals: &mut [u32])
 }
 
 // The least rank at which a bid of this row was turned away: above that of its guest's seat, by its number, or that of
-// the cut where it has none.
+// the cut where it has none. Seats are numbers in the round's tables (`Seating`), 0 for none.
 fn least_rank(row: &[u32], cut: UnitPrice, seat: u32) -> Rank
     requires { Row row.now × (cut.0 ≤ max_price) × (seat ≤ length row.now) }
     ensures { (result.0 ≡ least_rank row.now cut.0 seat) × (result.0 < 2 ^ 31) }
@@ -85,7 +87,7 @@ fn raise(round: &Round<'_>, chosen: &[u32], i: usize, criticals: &mut [u32])
 // Raises them from nothing by every guest's row, as if all stations were open.
 fn raise_all(round: &Round<'_>, chosen: &[u32], criticals: &mut [u32])
     requires seats { Seats round.now.market.now round.now.cut.0 chosen.now }
-    requires criticals_value { criticals.old ≡ list (max_stations + 1) (λ _. 0) }
+    requires criticals_value { NoCriticals criticals.old }
     ensures { let t = round.now.market.now in
         Renewed (length t.asks) (passed_over t.amounts t.bids chosen.now (length t.asks)
         round.now.cut.0 (length t.amounts)) criticals.old criticals.new }
@@ -95,7 +97,7 @@ fn raise_all(round: &Round<'_>, chosen: &[u32], criticals: &mut [u32])
     }
 }
 
-// A critical total, or 0 where the station is closed.
+// A critical total, or 0 where the station is closed: the form of the definition `critical_of`.
 fn if_open(ask: UnitPrice, cut: UnitPrice, critical: Mills) -> Mills
     ensures { (result.0 ≡ only (ask.0 <? cut.0) critical.0) × (result.0 ≤ critical.0) }
 {
@@ -117,7 +119,7 @@ fn clear_closed(asks: &[u32], cut: UnitPrice, criticals: &mut [u32])
 // The critical total of each station, at its number.
 pub fn all_criticals(round: &Round<'_>, seating: &Seating<'_>, criticals: &mut [u32])
     requires held_in { HeldAt round.now seating.now }
-    requires criticals_value { criticals.old ≡ list (max_stations + 1) (λ _. 0) }
+    requires criticals_value { NoCriticals criticals.old }
     ensures { let m = length round.now.market.now.asks in
         criticals.new ≡ list (max_stations + 1) (critical_of (screened round.now) (of seating.now.chosen) m) }
 {

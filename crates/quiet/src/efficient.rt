@@ -1,12 +1,9 @@
 // The assignment of a quiet round: the stable one, with each station's critical total.
-ghost use Rattle.std.specs.Prelude.{◌≡◌, ◌+◌, length};
-ghost use Rattle.model.specs.Limits.{max_stations};
-ghost use Rattle.model.specs.Counting.{list};
 ghost use Rattle.model.specs.market.Efficient.{efficient};
 ghost use Rattle.model.specs.market.Outcome.{outcome_by};
 ghost use Rattle.allocation.specs.Screens.{screened_at};
-ghost use Rattle.allocation.specs.Stages.{AtCut};
-ghost use Rattle.allocation.specs.Assignment.{Assigned};
+ghost use Rattle.allocation.specs.Stages.{AtCut, NoCriticals};
+ghost use Rattle.allocation.specs.Assignment.{GuestLists, Assigned};
 ghost use Rattle.quiet.specs.Efficient.{StablyAssigned};
 ghost use Rattle.quiet.specs.Rounds.{CalledAt};
 
@@ -26,14 +23,17 @@ fn assign_efficient(
     criticals: &mut [u32],
 )
     requires called { CalledAt round.now called.old seating.old }
-    requires criticals_value { criticals.old ≡ list (max_stations + 1) (λ _. 0) }
+    requires criticals_value { NoCriticals criticals.old }
     ensures { StablyAssigned round.now.market.now round.now.cut.0 seating.new.chosen criticals.new }
 {
     service::serve_all(round, called, seating);
     criticals::all_criticals(round, seating, criticals);
 }
 
-// Every guest's station and charge. The cut and the least charges are the market's: that is what is required.
+// Every guest's station and charge. The cut and the least charges are the market's: that is what is required. The
+// tables are arrays of the most guests or stations, cut to those there are: there is no heap. Not inlined: they would
+// take stack where a truthful round is cleared too.
+#[inline(never)]
 pub fn assign_all_efficient(
     market: &AcceptedMarket<'_>,
     cut: UnitPrice,
@@ -42,8 +42,7 @@ pub fn assign_all_efficient(
     charges: &mut [u32],
 )
     requires at_cut { AtCut market.now cut.0 least.now }
-    requires stations_len { (length stations.old ≡ length market.now.amounts)
-        × (length charges.old ≡ length market.now.amounts) }
+    requires stations_len { GuestLists market.now stations.old charges.old }
     ensures { let S = screened_at market.now cut.0 in
         Assigned (outcome_by S (efficient S)) stations.new charges.new }
 {

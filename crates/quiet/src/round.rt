@@ -1,4 +1,5 @@
-// An accepted market at its cut, as the steps of a quiet round see it.
+// An accepted market at its cut, as the steps of a quiet round see it. Guests and stations are named by their index:
+// that it is within the round's market is asked beside each, since a type for it would have to carry the market.
 ghost use Rattle.quiet.specs.Efficient.{Priced};
 ghost use Rattle.quiet.specs.Seating.{Opened, TicketsFit};
 

@@ -1,5 +1,6 @@
 // Seats given and taken: a guest takes a free bay, or the place of the last holder. A station's holders stand in a
-// chain, so that the last one is found among them alone.
+// chain, so that the last one is found among them alone. Each `as` is of a guest's index or a number, and fits: a
+// `TryFrom` could fail.
 ghost use Rattle.std.specs.Prelude.{◌≡◌, suc, ◌<◌, ◌≤◌, length};
 ghost use Rattle.model.specs.Limits.{max_guests};
 ghost use Rattle.quiet.specs.Efficient.{of, Moved};
@@ -12,8 +13,10 @@ use crate::round::Round;
 use crate::standing;
 use std::marker::Model;
 
-// The tables of a round on its way. Stations and guests stand in them by numbers from 1, 0 for none: bytes are fewer
-// to read than options, and the seats are handed on to be charged as they are.
+// The tables of a round on its way. Stations and guests stand in them by numbers from 1, 0 for none: bytes are fewer to
+// read than options, and the seats are handed on to be charged as they are. They are lists and no rows of records: a
+// loop over one reads nothing else. What holds of them in a round is asked beside them (`HeldAt`, `CalledAt`), since
+// they are lent to be written (model/lent).
 #[derive(Drop)]
 pub struct Seating<'a> {
     // Each guest's seat, by its station's number.

@@ -21,7 +21,7 @@ fn serve_guest(round: &Round<'_>, x: usize, seating: &mut Seating<'_>) -> Option
     seating.seat(round, x, j)
 }
 
-// Guest x is served, and whoever is put out on the way.
+// Guest x is served, and whoever is put out on the way: the loop goes from guest to guest, and counts nothing.
 fn serve(round: &Round<'_>, x: usize, seating: &mut Seating<'_>)
     requires held_in { HeldAt round.now seating.old }
     requires waits { Waits round.now.market.now seating.old.chosen x }
@@ -34,7 +34,8 @@ fn serve(round: &Round<'_>, x: usize, seating: &mut Seating<'_>)
     }
 }
 
-// Guest x is served, where it was not called up yet.
+// Guest x is served, where it was not called up yet. Who was called up is a byte and not a `bool`: the definitions
+// `Called` and `CalledToo` read numbers.
 fn call_up(round: &Round<'_>, x: usize, called: &mut [u8], seating: &mut Seating<'_>)
     requires called { CalledAt round.now called.old seating.old }
     requires x_in_bounds { x < length round.now.market.now.amounts }
@@ -79,6 +80,7 @@ pub fn serve_all(round: &Round<'_>, called: &mut [u8], seating: &mut Seating<'_>
         × Stable (screened round.now) (of seating.new.chosen) }
 {
     let market = round.market;
+    // An array of the most guests, cut to those there are: there is no heap.
     let mut line = [0u8; MAX_GUESTS];
     let line = &mut line[..market.amounts.len()];
     line::line_up(market, line);

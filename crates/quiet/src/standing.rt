@@ -7,13 +7,14 @@ use crate::round::Round;
 use model::money::{Mills, UnitPrice};
 
 // A candidacy's priority at its station: a total and, below it, how low its ticket is. The greater stands before.
+// One number and no pair: a bar is taken from it with no branch (`takers`).
 #[derive(Clone, Copy, PartialEq, Eq, PartialOrd, Ord)]
 pub struct Priority(pub u64);
 
 // A total's part of it.
 pub const TOTAL: u64 = 4_294_967_296;
 
-// Guest i's bid times amount at station j.
+// Guest i's bid times amount at station j. One bid of the table is read, and no row is made for it.
 fn total_at(round: &Round<'_>, i: usize, j: usize) -> Mills
     requires { (i < length round.now.market.now.amounts) × (j < length round.now.market.now.asks) }
     ensures { result.0 ≡ (screened round.now).total i j }

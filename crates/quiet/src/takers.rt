@@ -1,4 +1,5 @@
-// The best of a guest's candidacies at stations that would take it.
+// The best of a guest's candidacies at stations that would take it. Each `as` is of a number that fits, and that std
+// has no `From` for.
 ghost use Rattle.std.specs.Prelude.{◌≡◌, ◌+◌, ◌-◌, ◌*◌, ◌%◌, ◌^◌, ◌<◌, ◌≤◌, max, length};
 ghost use Rattle.model.specs.Counting.{◌≤?◌, only};
 ghost use Rattle.allocation.specs.Ties.{last_ticket};
@@ -28,7 +29,8 @@ fn passed(priority: Priority, bar: Priority, x: Choice) -> Choice
     Choice(choice)
 }
 
-// The best choice so far against a bid at station j.
+// The best choice so far against a bid at station j. Scale and low are the guest's, bid and bar the station's: they go
+// together nowhere else.
 fn better(bid: UnitPrice, j: usize, scale: u64, low: u64, bar: Priority, top: Choice) -> Choice
     requires { (bid.0 * scale ≤ max_total * 2 ^ 32) × (low ≤ last_ticket) × (bar.0 ≤ 2 ^ 63) × (j ≤ 64) }
     ensures { result.0 ≡ max top.0 (only (bar.0 ≤? bid.0 * scale + low) (bid.0 * scale + (64 - j))) }

@@ -1,4 +1,5 @@
-// What the clearing program prints, as bytes in a lent buffer.
+// What the clearing program prints, as bytes in a lent buffer. The tables are arrays of the most that is read, cut to
+// what was: there is no heap.
 #![tactic(auto)]
 
 mod lines;

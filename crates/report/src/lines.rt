@@ -1,5 +1,6 @@
 // The lines of guests and stations, as bytes in a lent buffer. Each loop names its own words and lists: one for both
-// would take three words and a closure for the numbers.
+// would take three words and a closure for the numbers. A line tells its number, from 1, and is of two lists at it: std
+// has no `From` from `usize` to `u64`.
 ghost use Rattle.std.specs.Prelude.{◌<◌, ◌≤◌, ◌^◌, ◌≡◌, length};
 ghost use Rattle.model.specs.Limits.{max_guests, max_stations};
 ghost use Rattle.model.specs.text.Lines.{guest_lines, station_lines};
@@ -28,6 +29,7 @@ pub fn guest_lines(out: &mut [u8], at: usize, stations: &[u16], charges: &[u32])
     p
 }
 
+// The same of the stations' two lists.
 pub fn station_lines(out: &mut [u8], at: usize, sold: &[u32], paid: &[u64]) -> usize
     requires { (at < 2 ^ 16) × (length sold.now ≤ max_stations) × (length paid.now ≡ length sold.now) }
     ensures { Wrote out.old at

@@ -10,13 +10,14 @@ use crate::{lines, text};
 use model::answers::Figures;
 use model::refusal::Refusal;
 
+// A refusal's line.
 pub fn refusal_text(refusal: Refusal, out: &mut [u8]) -> usize
     ensures { Wrote out.old 0 (refusal_text (number_of refusal)) out.new result }
 {
     text::put_line(out, 0, b"refused ", u64::from(u8::from(refusal)))
 }
 
-// The lists are those of a cleared market.
+// The lists are those of a cleared market, one by one as the clearing was lent them.
 pub fn clearing_text(
     figures: Figures,
     stations: &[u16],

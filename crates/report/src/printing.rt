@@ -1,11 +1,11 @@
 // The page that is asked for of a market, as bytes in a lent buffer: its clearing, what decided or its sheet; or its
-// refusal, before anything is written.
-ghost use Rattle.std.specs.Prelude.{◌≤◌, ◌≡◌, length};
-ghost use Rattle.model.specs.Limits.{max_guests, max_stations};
+// refusal, before anything is written. The tables are arrays of the most guests, stations or bids, cut to those there
+// are: there is no heap. Those that are lent to be written stay slices (model/lent).
+ghost use Rattle.std.specs.Prelude.{◌≡◌, length};
 ghost use Rattle.model.specs.market.Outcome.{outcome_in};
 ghost use Rattle.model.specs.market.Reasons.{guest_outcomes};
 ghost use Rattle.model.specs.text.MarketText.{market_text_of, reasons_page_of, page_of};
-ghost use Rattle.report.specs.Tried.{Tried};
+ghost use Rattle.report.specs.Tried.{Few, Tried};
 
 use crate::{page, reasons};
 use explain::explained;
@@ -27,7 +27,7 @@ fn print_cleared(
     paid: &mut [u64],
     out: &mut [u8],
 ) -> Result<usize, Refusal>
-    requires counts { (length market.now.amounts ≤ max_guests) × (length market.now.asks ≤ max_stations) }
+    requires counts { Few market.now }
     requires lengths { (length stations.old ≡ length market.now.amounts)
         × (length charges.old ≡ length market.now.amounts) × (length sold.old ≡ length market.now.asks)
         × (length paid.old ≡ length market.now.asks) }
@@ -37,13 +37,14 @@ fn print_cleared(
     Ok(page::clearing_text(figures, stations, charges, sold, paid, out))
 }
 
+// The same by way of tables of its own.
 fn print_clearing(
     mechanism: Mechanism,
     rule: Rule,
     market: &Market<'_>,
     out: &mut [u8],
 ) -> Result<usize, Refusal>
-    requires { (length market.now.amounts ≤ max_guests) × (length market.now.asks ≤ max_stations) }
+    requires { Few market.now }
     ensures { Tried (market_text_of (outcome_in mechanism rule) market.now) out.old result out.new }
 {
     let guests = market.amounts.len();
@@ -64,8 +65,9 @@ fn print_clearing(
     )
 }
 
+// What decided for each guest.
 fn print_reasons(rule: Rule, market: &Market<'_>, out: &mut [u8]) -> Result<usize, Refusal>
-    requires { (length market.now.amounts ≤ max_guests) × (length market.now.asks ≤ max_stations) }
+    requires { Few market.now }
     ensures { Tried (reasons_page_of (guest_outcomes rule) market.now) out.old result out.new }
 {
     let guests = market.amounts.len();
@@ -75,9 +77,10 @@ fn print_reasons(rule: Rule, market: &Market<'_>, out: &mut [u8]) -> Result<usiz
     Ok(reasons::reasons_text(&told, out))
 }
 
-// The market was read from a sheet, so that its counts are within the limits.
+// The market was read, so that its counts are within the limits. The page is chosen when the program runs, and named by
+// the definition `page_of`: a `match` on its enum is the plain form.
 pub fn print_market(asked: Page, market: &Market<'_>, out: &mut [u8]) -> Result<usize, Refusal>
-    requires { (length market.now.amounts ≤ max_guests) × (length market.now.asks ≤ max_stations) }
+    requires { Few market.now }
     ensures { Tried (page_of asked (length out.old) market.now) out.old result out.new }
 {
     match asked {

@@ -1,4 +1,4 @@
-// A market in either layout, read into lent tables.
+// A market in either layout, read into lent tables, which stay slices (model/lent).
 ghost use Rattle.std.specs.Prelude.{◌≤◌, IfOk};
 ghost use Rattle.model.specs.Limits.{max_guests, max_stations};
 ghost use Rattle.model.specs.clauses.Lent.{lent_tables_in, lent_tables_out};
@@ -8,6 +8,8 @@ use model::answers::Counts;
 use model::page::Layout;
 use model::refusal::Refusal;
 
+// The layout is chosen when the program runs, and named by the definition `printed`: a `match` on its enum is the plain
+// form.
 pub fn read_as(
     layout: Layout,
     bytes: &[u8],

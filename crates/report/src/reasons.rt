@@ -51,7 +51,7 @@ fn outcome_line(out: &mut [u8], at: usize, guest: u64, outcome: GuestOutcome) ->
     }
 }
 
-// There are no more guests than a market has.
+// There are no more guests than a market has. They are numbered from 1: std has no `From` from `usize` to `u64`.
 pub fn reasons_text(told: &OutcomeArrays, out: &mut [u8]) -> usize
     requires { told.now.guests ≤ max_guests }
     ensures { Wrote out.old 0

@@ -1,5 +1,6 @@
 // Bytes, words, numbers and lines, written into a lent buffer as far as it reaches. A buffer and the place reached in
-// it stay two parameters: a struct of both would not tell the buffer's owner what it holds afterwards.
+// it stay two parameters: a struct of both would not tell the buffer's owner what it holds afterwards. Numbers are not
+// written by `Display`: what the buffer cannot hold is counted too.
 ghost use Rattle.std.specs.Prelude.{ℕ, ◌+◌, ◌<◌, ◌^◌, ◌∷◌, ◌++◌, [], length};
 ghost use Rattle.model.specs.text.Decimal.{digits, field};
 ghost use Rattle.model.specs.text.Lines.{line_end};
@@ -16,6 +17,7 @@ pub fn put(out: &mut [u8], at: usize, b: u8) -> usize
     at + 1
 }
 
+// The bytes of a word.
 pub fn put_word(out: &mut [u8], at: usize, word: &[u8]) -> usize
     requires { at + length word.now < 2 ^ 64 }
     ensures { Wrote out.old at word.now out.new result }
@@ -27,7 +29,7 @@ pub fn put_word(out: &mut [u8], at: usize, word: &[u8]) -> usize
     p
 }
 
-// A number in decimal.
+// A number in decimal. A rest below 10 fits a byte, where a `TryFrom` could fail.
 fn put_number(out: &mut [u8], at: usize, x: u64) -> usize
     requires { at + 20 < 2 ^ 64 }
     ensures { (k : ℕ) → x < 10 ^ (k + 1)

@@ -25,6 +25,7 @@ impl From<SeatChange> for u8 {
     }
 }
 
+// From one station to another, by their numbers: 0 is none, as the lent lists have it.
 fn seat_change(before: u16, after: u16) -> SeatChange
     ensures { number_of result ≡ seat_change before after }
 {
@@ -46,6 +47,7 @@ fn change(guest: usize, k: usize, before: u16, after: u16) -> SeatChange
     seat_change(before, after)
 }
 
+// The byte of each guest's change. The three lists are as long as there are guests.
 pub fn tell_changes(before: &[u16], after: &[u16], guest: usize, changes: &mut [u8])
     requires { (length after.now ≡ length before.now) × (length changes.old ≡ length before.now) }
     ensures { changes.new ≡ changesOf (length before.now)

@@ -10,13 +10,15 @@ use checks::{faults, scans};
 use model::lent::{AcceptedMarket, Market};
 use model::refusal::Refusal;
 
+// Worths or a row of another length than there are stations: a line, which menu/faults has of other lists.
 fn row_lengths_differ(m: usize, worths: usize, row: usize) -> bool
     ensures { result ≡ (not (worths =? m) or not (row =? m)) }
 {
     (worths != m) | (row != m)
 }
 
-// Of the guest's number and lists, in a market of n guests and m stations, with so many places for changes.
+// Of the guest's number and lists, in a market of n guests and m stations, with so many places for changes: one by one,
+// as the definition `try_faults` takes them.
 fn row_fault(
     n: usize,
     m: usize,

@@ -5,7 +5,7 @@ ghost use Rattle.whatif.specs.Gains.{gain_from};
 
 use model::money::{Mills, UnitPrice};
 
-// The worth of a station by its number, 0 for none, times the amount.
+// The worth of a station by its number, 0 for none as the lent lists have it, times the amount.
 fn obtained(worths: &[u32], station: u16, amount: u16) -> Mills
     requires { station ≤ length worths.now }
     ensures { (result.0 ≡ at (λ j. get_or worths.now j 0 * amount) station) × (result.0 < 2 ^ 48) }
@@ -16,7 +16,8 @@ fn obtained(worths: &[u32], station: u16, amount: u16) -> Mills
     UnitPrice(worths[usize::from(station - 1)]).times(u32::from(amount))
 }
 
-// Both terms are below 2 to the 48th, so that the difference fits.
+// Both terms are below 2 to the 48th, so that the difference fits, and the `as` too, where a `TryFrom` could fail. A
+// line, as `menu/rows` has of a worth: one function for both would be no shorter.
 pub fn gain(worths: &[u32], station: u16, amount: u16, charge: u32) -> i64
     requires { station ≤ length worths.now }
     ensures { result ≡ gain_from worths.now station amount charge }

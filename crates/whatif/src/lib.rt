@@ -1,4 +1,5 @@
-// What another row of a guest would have done: both gains, and who becomes seated or unseated.
+// What another row of a guest would have done: both gains, and who becomes seated or unseated. The lists are lent one
+// by one, as they come over the C interface; so does a guest's number, and std has no `From` from `u32` to `usize`.
 #![tactic(auto)]
 
 mod changes;
@@ -31,7 +32,8 @@ fn try_under(
     Ok(tried::try_accepted(rule, &accepted, guest - 1, worths, row, changes))
 }
 
-// Tries another row of a guest, named from 1 on, under the rule of a number, which is looked at first.
+// Tries another row of a guest, named from 1 on, under the rule of a number, which is looked at first: it may name
+// none.
 pub fn try_row(
     rule: u8,
     market: &Market<'_>,

@@ -1,8 +1,8 @@
 // The truthful rounds of two markets that differ in their bids alone, under one rule: they share the cut and the least
 // charges.
-ghost use Rattle.std.specs.Prelude.{◌≡◌, length};
+ghost use Rattle.std.specs.Prelude.{◌≡◌};
 ghost use Rattle.model.specs.market.Outcome.{outcome};
-ghost use Rattle.allocation.specs.Assignment.{Assigned};
+ghost use Rattle.allocation.specs.Assignment.{GuestLists, Assigned};
 
 use allocation::assignment;
 use model::lent::AcceptedMarket;
@@ -11,7 +11,8 @@ use model::rule::Rule;
 use pricing::{charges, cut};
 
 // The station and the charge of each guest there is, of a market as it is and of another. They go to places that are
-// lent: tables that are returned are copied on the stack.
+// lent, and stay slices (model/lent): tables that are returned are copied on the stack. The least charges are an array
+// of the most guests, cut to those there are: there is no heap.
 pub fn both_rounds(
     rule: Rule,
     market: &AcceptedMarket<'_>,
@@ -22,10 +23,8 @@ pub fn both_rounds(
     other_charges: &mut [u32],
 )
     requires other { (other.now.asks ≡ market.now.asks) × (other.now.amounts ≡ market.now.amounts) }
-    requires room { (length stations.old ≡ length market.now.amounts)
-        × (length charges.old ≡ length market.now.amounts) }
-    requires other_room { (length other_stations.old ≡ length other.now.amounts)
-        × (length other_charges.old ≡ length other.now.amounts) }
+    requires room { GuestLists market.now stations.old charges.old }
+    requires other_room { GuestLists other.now other_stations.old other_charges.old }
     ensures { Assigned (outcome rule market.now) stations.new charges.new
         × Assigned (outcome rule other.now) other_stations.new other_charges.new }
 {

@@ -8,7 +8,8 @@ use model::lent::AcceptedMarket;
 use model::limits::{MAX_BIDS, MAX_GUESTS};
 use model::rule::Rule;
 
-// Guests count from 0 here.
+// Guests count from 0 here. The lists are those of the call, one by one. The tables are arrays of the most guests or
+// bids, cut to those there are: there is no heap.
 pub fn try_accepted(
     rule: Rule,
     market: &AcceptedMarket<'_>,

@@ -9,4 +9,4 @@ returns-in-Truthful c =
 pub returns-in-Efficient : goal.returns-in-Efficient
 unfolding decided HasBars
 returns-in-Efficient c =
-    rw c.in-Efficient.is (c.assign_quiet.ensures, tt)
+    rw c.in-Efficient.is (c.assign_all_efficient.ensures, tt)
