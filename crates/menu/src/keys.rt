@@ -12,8 +12,8 @@ use std::marker::Model;
 // 64 times the greatest bid.
 const HIGHEST: u32 = 64 * MAX_PRICE;
 
-// By the rests a and b, then by the indices, as the definition `rest_before` says it. No branch, which `<` of two pairs
-// would have: whose rest is the lesser cannot be foreseen.
+// By the rests a and b, then by the indices, in the words of the definition `rest_before`: `<` of two pairs says it in
+// fewer, and whoever reads both has to find that they mean the same.
 fn goes_before(a: u32, b: u32, k: usize, j: usize) -> bool
     ensures { result ≡ rest_before a b k j }
 {
