@@ -12,12 +12,11 @@ use std::marker::Model;
 // 64 times the greatest bid.
 const HIGHEST: u32 = 64 * MAX_PRICE;
 
-// By the rests a and b, then by the indices, in the words of the definition `rest_before`: `<` of two pairs says it in
-// fewer, and whoever reads both has to find that they mean the same.
+// By the rests a and b, then by the indices.
 fn goes_before(a: u32, b: u32, k: usize, j: usize) -> bool
     ensures { result ≡ rest_before a b k j }
 {
-    (a < b) | ((a == b) & (k < j))
+    (a, k) < (b, j)
 }
 
 // The rest of each price, divided by the amount.
