@@ -1,11 +1,8 @@
 use Rattle.std.proofs.Common.{arith}
 use Rattle.std.proofs.lemmas.Result.{err_from_is_err_and}
 use Rattle.market_csv.specs.Rows.{RowIs}
-use Rattle.market_csv.proofs.Going.{row_start, row_fault, row_turn, row_end}
+use Rattle.market_csv.proofs.Going.{row_fault, row_turn, row_end}
 use Rattle.market_csv.proofs.lines.row.Goals as goal
-
-pub loop-j-init : goal.loop-j-init
-loop-j-init g c line first ended due = row_start g.T.Number.number_of due _
 
 pub returns-in_err-number : goal.returns-in_err-number
 unfolding RowIs

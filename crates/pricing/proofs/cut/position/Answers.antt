@@ -19,9 +19,3 @@ returns-in-Median c = rw c.in-Median.is (median_is _)
 pub returns-in-TwoThirds : goal.returns-in-TwoThirds
 unfolding position
 returns-in-TwoThirds c = rw c.in-TwoThirds.is (two_thirds_is _)
-
-pub overflow_mul-result : goal.overflow_mul-result
-overflow_mul-result c = omega (arith, c.requires)
-
-pub overflow_add-result-in-TwoThirds : goal.overflow_add-result-in-TwoThirds
-overflow_add-result-in-TwoThirds c = omega (arith, c.requires)

@@ -1,15 +1,10 @@
-use native.Mathlib.Omega.{arith}
-use Rattle.model.proofs.Loops.{long, zeros}
+use Rattle.model.proofs.Loops.{zeros}
 use Rattle.pricing.specs.Sales.{slots}
 use Rattle.pricing.proofs.sales.Sales.{sells}
 use Rattle.pricing.proofs.sales.sell.Goals as goal
 
 pub tally_sales-requires : goal.tally_sales-requires
 tally_sales-requires c = record { sellable = c.requires.sellable; kwh_value = zeros slots }
-
-pub pay_out-requires : goal.pay_out-requires
-pay_out-requires c =
-    (omega (arith, long slots _ c.tally_sales.ensures, c.requires.sold_len_bound.0), c.requires.sold_len_bound.1)
 
 pub returns : goal.returns
 returns c =

@@ -1,17 +1,10 @@
 use mathlib.Core.Path.{◌∙◌}
-use native.Mathlib.Omega.{arith}
 use Rattle.model.specs.sheet.Layout.{bytes_of}
 use Rattle.sheet.proofs.Wrote.{room_for_first}
 use Rattle.sheet.proofs.putting.Bytes.{two_bytes}
 use Rattle.sheet.proofs.putting.Puts.{put_then, put_as, room_then}
 use Rattle.sheet.proofs.writing.Rooms.{sheet_parts_lem, stations_part}
 use Rattle.sheet.proofs.writing.put_market.Goals as goal
-
-pub overflow_cast-guests : goal.overflow_cast-guests
-overflow_cast-guests c = omega (arith, c.market.invariant.shape.guests_most)
-
-pub overflow_cast-stations : goal.overflow_cast-stations
-overflow_cast-stations c = omega (arith, c.market.invariant.shape.stations_most)
 
 pub put-requires : goal.put-requires
 put-requires c =

@@ -1,4 +1,4 @@
-use Rattle.std.proofs.Common.{◌≡◌, length, ◌∙◌, arith}
+use Rattle.std.proofs.Common.{◌∙◌, arith}
 use Rattle.market_csv.specs.Bytes.{Sorted}
 use Rattle.market_csv.specs.Runs.{Found}
 use Rattle.market_csv.proofs.Running.{running_none, running_turn, wrapped}
@@ -28,11 +28,6 @@ loop-at-preserved c =
     let sorted = sorted_as _ (Digit c.in-Digit.digit) c.sort.ensures c.in-Digit.is in
     running_turn c.from.result _ c.loop-at.invariant c.loop-at-test.true sorted.0 (c.from.ensures ∙ sorted.1)
     (wrapped _ _)
-
-pub returns-clause-ran : goal.returns-clause-ran
-returns-clause-ran c =
-    let end : c.loop-at.at ≡ length c.self.inside.text.now = omega arith in
-    rw (← c.self.view_is, ← end) (record { running = c.loop-at.invariant; no_digit = λ h. absurd (omega arith) })
 
 pub returns-clause-found : goal.returns-clause-found
 unfolding Found
