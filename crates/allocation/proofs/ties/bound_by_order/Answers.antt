@@ -8,15 +8,6 @@ use Rattle.allocation.proofs.ties.Ties.{ties_below_order}
 use Rattle.allocation.proofs.ties.bound_by_order.Goals as goal
 use Rattle.allocation.proofs.ties.bound_by_order.Goals.{then-from-t, else-from-t}
 
-pub overflow_add-n : goal.overflow_add-n
-overflow_add-n c =
-    omega (
-      arith,
-      c.loop-n-test.true,
-      c.requires.0.crowded,
-      c.requires.0.few,
-      ties_most c.args.totals.now c.args.t.0 (length c.args.totals.now),
-    )
 
 pub loop-n-preserved : goal.loop-n-preserved
 loop-n-preserved c =

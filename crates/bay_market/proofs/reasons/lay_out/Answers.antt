@@ -7,8 +7,6 @@ use Rattle.explain.proofs.outcomes.Outcomes.{record_in}
 use Rattle.bay_market.proofs.Explained.{record_low, laying_none, laying_turn, laying_end}
 use Rattle.bay_market.proofs.reasons.lay_out.Goals as goal
 
-pub loop-i-init : goal.loop-i-init
-loop-i-init c = laying_none
 
 pub narrow-requires : goal.narrow-requires
 narrow-requires c =
@@ -27,6 +25,3 @@ loop-i-preserved c =
     laying_turn c.loop-i.invariant (omega arith) (omega arith) (omega arith) (omega arith)
     is_record c.station_in.ensures
     (c.narrow.ensures ∙ c.charge_in.ensures) c.loss_in.ensures
-
-pub returns : goal.returns
-returns c = laying_end c.loop-i.invariant (omega arith)

@@ -6,8 +6,6 @@ use Rattle.model.proofs.book.Records.{length_sold, length_paid}
 use Rattle.ledger.proofs.Records.{raised_none, raised_end, shown, shown_turn}
 use Rattle.ledger.proofs.stations.add.Goals as goal
 
-pub loop-j-init : goal.loop-j-init
-loop-j-init c = (raised_none, raised_none)
 
 pub overflow_add-account : goal.overflow_add-account
 unfolding sold_of

@@ -13,20 +13,3 @@ invariant_of-offers c =
       priced = priced_here _ _ w _ s.guest_below e;
       worths_long = s.worths_fit.row_length ∙ sym (prices_here _ _ w _ s.guest_below e);
     }
-
-pub gain_rows-requires : goal.gain_rows-requires
-gain_rows-requires c =
-    let w = c.market.invariant in
-    let s = rw (← c.market.view_is) at c.requires in
-    let e = rw (← c.market.view_is) at c.list_accepted.ensures in (
-      s.rows_fit.rows_length
-          ∙ ap (λ m. length c.args.gains.now * m) (sym (prices_here _ _ w _ s.guest_below e)),
-      s.rows_fit.rows_most,
-    )
-
-pub returns : goal.returns
-returns c =
-    let w = c.market.invariant in
-    let s = rw (← c.market.view_is) at c.requires in
-    let e = rw (← c.market.view_is) at c.list_accepted.ensures in
-    rw (← c.market.view_is) (gains_here _ _ w _ s.guest_below e _ _ _ c.gain_rows.ensures)

@@ -3,8 +3,6 @@ use Rattle.model.proofs.Tests.{only_yes, only_no, is_le, not_le}
 use Rattle.menu.specs.Keys.{lift}
 use Rattle.menu.proofs.keys.lift.Goals as goal
 
-pub overflow_sub-result : goal.overflow_sub-result
-overflow_sub-result c = c.requires.2 c.if-least-le-MAX_PRICE.true
 
 pub returns-then-least-le-MAX_PRICE : goal.returns-then-least-le-MAX_PRICE
 unfolding lift

@@ -12,15 +12,6 @@ returns-in_err-figures c =
     (tried_refused _ _ _ _ (clear_refused _ _ _ _ _ c.clear_under.ensures
     (record { stations_long = l.0; charges_long = l.1; sold_long = l.2; paid_long = l.3 }) _ c.in_err-figures.was))
 
-pub clearing_text-requires : goal.clearing_text-requires
-clearing_text-requires c =
-    let (few, narrow) = c.requires.counts in
-    let (stations, charges, sold, paid) = c.requires.lengths in (
-      omega (arith, few, stations),
-      omega (arith, stations, charges),
-      omega (arith, narrow, sold),
-      omega (arith, sold, paid),
-    )
 
 pub returns : goal.returns
 returns c =

@@ -6,10 +6,6 @@ use Rattle.whatif.specs.Gains.{gain_from}
 use Rattle.model.proofs.Differences.{difference_fits, difference_is}
 use Rattle.whatif.proofs.gains.gain.Goals as goal
 
-pub overflow_sub-result : goal.overflow_sub-result
-overflow_sub-result c =
-    let low : c.args.charge < 2 ^ 48 = omega (arith, c.ranges.charge.fits) in
-    rw c.from.ensures (difference_fits _ _ c.obtained.ensures.1 low)
 
 pub returns : goal.returns
 unfolding gain_from

@@ -7,10 +7,6 @@ invariant_of-row_keys c =
     let p = rw (← c.self.view_is) at c.requires in
     holds _ _ c.self.invariant.priced _ _ _ _ (rw (← c.self.view_is) at c.prepare.ensures) _ _ p.0 p.1
 
-pub fill-requires : goal.fill-requires
-fill-requires c =
-    let p = rw (← c.self.view_is) at c.requires in
-    rowed _ _ c.self.invariant.priced _ _ _ _ (rw (← c.self.view_is) at c.prepare.ensures) _ _ p.0 p.1
 
 pub returns : goal.returns
 returns c =
