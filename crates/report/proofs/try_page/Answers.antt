@@ -1,8 +1,5 @@
-use mathlib.Core.Path.{refl, sym}
-use lib.Seq.{length-take-le}
-use native.Mathlib.Omega.{arith}
+use mathlib.Core.Path.{refl}
 use Rattle.std.proofs.lemmas.Result.{err_from_is_err_and}
-use Rattle.model.proofs.market.Acceptance.{product_fits}
 use Rattle.report.proofs.Sheets.{tables_read, tried_fault, tried_market, same_tables}
 use Rattle.report.proofs.try_page.Goals as goal
 
@@ -10,7 +7,6 @@ pub returns-in_err-guests : goal.returns-in_err-guests
 returns-in_err-guests c =
     let p = err_from_is_err_and c.from_residual.result c.from_residual.ensures.1 in
     rw (p.1, p.2) (tried_fault _ _ _ _ _ _ _ c.in_err-guests.ensures.read refl refl refl refl refl)
-
 
 pub returns : goal.returns
 returns c =

@@ -2,12 +2,10 @@ use mathlib.Core.Logic.{inl, inr}
 use mathlib.Core.Path.{sym, ◌∙◌}
 use native.Mathlib.Nat.{le_antisymm}
 use native.Mathlib.Omega.{arith}
-use lib.ListN.{length}
-use Rattle.allocation.proofs.ties.Ties.{ties_none, ties_more, ties_most, ties_go_on}
+use Rattle.allocation.proofs.ties.Ties.{ties_none, ties_more, ties_go_on}
 use Rattle.allocation.proofs.ties.Ties.{ties_below_order}
 use Rattle.allocation.proofs.ties.bound_by_order.Goals as goal
 use Rattle.allocation.proofs.ties.bound_by_order.Goals.{then-from-t, else-from-t}
-
 
 pub loop-n-preserved : goal.loop-n-preserved
 loop-n-preserved c =

@@ -4,9 +4,8 @@ use Rattle.model.specs.Numbers.{charge_of}
 use Rattle.model.specs.declared.reason.GuestOutcome.{GuestOutcome}
 use Rattle.explain.specs.Outcomes.{record_at}
 use Rattle.explain.proofs.outcomes.Outcomes.{record_in}
-use Rattle.bay_market.proofs.Explained.{record_low, laying_none, laying_turn, laying_end}
+use Rattle.bay_market.proofs.Explained.{record_low, laying_turn}
 use Rattle.bay_market.proofs.reasons.lay_out.Goals as goal
-
 
 pub narrow-requires : goal.narrow-requires
 narrow-requires c =

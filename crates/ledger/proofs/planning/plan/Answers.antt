@@ -1,4 +1,3 @@
-use mathlib.Core.Path.{sym}
 use Rattle.std.proofs.lemmas.Result.{err_from_is_err_and}
 use Rattle.ledger.proofs.Cleared.{unknown_plan}
 use Rattle.ledger.proofs.planning.plan.Goals as goal

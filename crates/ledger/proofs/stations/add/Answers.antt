@@ -3,9 +3,8 @@ use native.Mathlib.Omega.{arith}
 use Rattle.model.specs.book.Book.{account, sold_of, paid_of}
 use Rattle.model.specs.declared.account.StationAccount.{StationAccount}
 use Rattle.model.proofs.book.Records.{length_sold, length_paid}
-use Rattle.ledger.proofs.Records.{raised_none, raised_end, shown, shown_turn}
+use Rattle.ledger.proofs.Records.{raised_end, shown, shown_turn}
 use Rattle.ledger.proofs.stations.add.Goals as goal
-
 
 pub overflow_add-account : goal.overflow_add-account
 unfolding sold_of

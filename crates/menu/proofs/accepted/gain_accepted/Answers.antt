@@ -1,7 +1,5 @@
-use Prim.Native.Nat.{◌*◌}
-use mathlib.Core.Path.{sym, ap, ◌∙◌}
-use lib.ListN.{length}
-use Rattle.menu.proofs.Gained.{priced_here, prices_here, gains_here}
+use mathlib.Core.Path.{sym, ◌∙◌}
+use Rattle.menu.proofs.Gained.{priced_here, prices_here}
 use Rattle.menu.proofs.accepted.gain_accepted.Goals as goal
 
 pub invariant_of-offers : goal.invariant_of-offers

@@ -1,4 +1,3 @@
-use native.Mathlib.Omega.{arith}
 use Rattle.std.proofs.lemmas.Result.{err_from_is_err_and}
 use Rattle.model.proofs.clauses.Clears.{clear_refused, clear_cleared}
 use Rattle.report.proofs.printing.Printing.{tried_refused, tried_cleared}
@@ -11,7 +10,6 @@ returns-in_err-figures c =
     rw (p.1, p.2)
     (tried_refused _ _ _ _ (clear_refused _ _ _ _ _ c.clear_under.ensures
     (record { stations_long = l.0; charges_long = l.1; sold_long = l.2; paid_long = l.3 }) _ c.in_err-figures.was))
-
 
 pub returns : goal.returns
 returns c =

@@ -3,9 +3,8 @@ use mathlib.Core.Path.{ap, ◌∙◌}
 use native.Mathlib.Omega.{arith}
 use lib.IntN.{sub_ℕ}
 use Rattle.whatif.specs.Gains.{gain_from}
-use Rattle.model.proofs.Differences.{difference_fits, difference_is}
+use Rattle.model.proofs.Differences.{difference_is}
 use Rattle.whatif.proofs.gains.gain.Goals as goal
-
 
 pub returns : goal.returns
 unfolding gain_from
