@@ -63,10 +63,12 @@ pub extern "C" fn bay_market_explain(
         width,
     };
     let places = table_length(amounts.len(), stations.len(), charges.len(), reasons.len());
-    match explained::explained(rule, &market, places, codes) {
-        Err(refusal) => u8::from(refusal),
+    // By reference: the arrays are long to move.
+    let answer = explained::explained(rule, &market, places, codes);
+    match &answer {
+        Err(refusal) => u8::from(*refusal),
         Ok(told) => {
-            lay_out(&told, stations, charges, reasons);
+            lay_out(told, stations, charges, reasons);
             0
         }
     }
