@@ -63,12 +63,10 @@ pub extern "C" fn bay_market_explain(
         width,
     };
     let places = table_length(amounts.len(), stations.len(), charges.len(), reasons.len());
-    // By reference: the arrays are long to move.
-    let answer = explained::explained(rule, &market, places, codes);
-    match &answer {
-        Err(refusal) => u8::from(*refusal),
+    match explained::explained(rule, &market, places, codes) {
+        Err(refusal) => u8::from(refusal),
         Ok(told) => {
-            lay_out(told, stations, charges, reasons);
+            lay_out(&told, stations, charges, reasons);
             0
         }
     }
