@@ -49,6 +49,7 @@ pub fn assign_with_bars(
         cut,
         least,
     };
+    // A turn takes the station's index.
     for j in 0..market.asks.len() {
         turns::station(&round, j, totals, &mut choices, criticals, bounds);
     }

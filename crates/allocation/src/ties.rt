@@ -10,6 +10,7 @@ use crate::selection::Critical;
 use model::money::Mills;
 
 // How many at t have a ticket below x. Totals are compared in 32 bits: the processor compares four of them at once.
+// Both lists are read by one index, as in `bound_by_order`, which ends at a place of both.
 pub fn count_ties(totals: &[u32], tickets: &[u32], t: Mills, x: u32) -> u32
     requires { (length totals.now ≤ max_guests) × (length tickets.now ≡ length totals.now)
         × (t.0 ≤ max_total) }

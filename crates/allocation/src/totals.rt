@@ -1,4 +1,5 @@
-// Guests' totals at one station, in a table of 32-bit numbers, and the greatest.
+// Guests' totals at one station, in a table of 32-bit numbers, and the greatest. The table is written by its index:
+// after a `zip` of `iter_mut` nothing is known of what a list holds.
 ghost use Rattle.std.specs.Prelude.{ℕ, ◌*◌, ◌<◌, ◌≤◌, ◌≡◌, length, get_or};
 ghost use Rattle.model.specs.Limits.{max_price, max_amount};
 ghost use Rattle.allocation.specs.Totals.{total_for, total_at, Gathered};

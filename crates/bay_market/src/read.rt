@@ -10,7 +10,8 @@ ghost use Rattle.bay_market.specs.Tells.{Tells};
 use model::answers::Counts;
 use model::refusal::Refusal;
 
-// The answer's number, 0 for a market that was read, whose counts go to their places.
+// The answer's number, 0 for a market that was read, whose counts go to their places. They are within the limits, and
+// fit 16 bits: a `TryFrom` could fail, which this cannot.
 #[tactic(auto, unfolding(model::specs::Numbers::answer_of_reading, model::specs::Verdicts::number_of))]
 pub fn tell_counts(answer: Result<Counts, Refusal>, n: &mut u16, m: &mut u16) -> u8
     requires { IfOk answer (λ c. (c.guests ≤ max_guests) × (c.stations ≤ max_stations)) }

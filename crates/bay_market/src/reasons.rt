@@ -22,7 +22,8 @@ fn table_length(n: usize, stations: usize, charges: usize, reasons: usize) -> us
     if n == 0 { 1 } else { 0 }
 }
 
-// Each guest's record, laid out as a station, a charge and a code.
+// Each guest's record, laid out as a station, a charge and a code. By index: six lists are read or written at it, and
+// after a `zip` of `iter_mut` nothing is known of what a list holds.
 fn lay_out(told: &OutcomeArrays, stations: &mut [u16], charges: &mut [u32], reasons: &mut [u8])
     requires { (told.now.guests ≤ max_guests) × (told.now.guests ≤ length stations.old)
         × (told.now.guests ≤ length charges.old) × (told.now.guests ≤ length reasons.old) }

@@ -82,7 +82,7 @@ pub fn clear_with_bars(
     Figures { cut, margin }
 }
 
-// The same, with that room.
+// The same for a caller that asks for no bars, with room of its own.
 pub(crate) fn clear_accepted(
     mechanism: Mechanism,
     rule: Rule,

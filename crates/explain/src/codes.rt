@@ -1,6 +1,7 @@
 // The code of each guest and station, row after row, and each guest's loss. Codes are bytes with 0 for none: the lent
 // tables hold them so over the C interface. The lists of a market, its bars and its results are of other lengths, and
-// are passed one by one.
+// are passed one by one. They are written by their index: after a `zip` of `iter_mut` nothing is known of what a list
+// holds.
 ghost use Rattle.std.specs.Prelude.{◌+◌, ◌*◌, ◌<◌, ◌≤◌, ◌≡◌, length};
 ghost use Rattle.model.specs.Limits.{max_price, max_amount};
 ghost use Rattle.model.specs.Counting.{◌=?◌, only, greatest, list};
@@ -86,7 +87,7 @@ fn loss(station: u16, highest: u8) -> u8
     if station == 0 { highest } else { 0 }
 }
 
-// All rows, and each guest's loss.
+// All rows, and each guest's loss. A loop like that of `marking/places`: one for both would take a closure that writes.
 pub fn explain_rows(
     market: &AcceptedMarket<'_>,
     cut: UnitPrice,

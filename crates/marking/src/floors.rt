@@ -1,4 +1,5 @@
-// Each station's floor and bar, from the critical totals of the station numbers.
+// Each station's floor and bar, from the critical totals of the station numbers. Lists are written by their index:
+// after a `zip` of `iter_mut` nothing is known of what a list holds.
 ghost use Rattle.std.specs.Prelude.{◌+◌, ◌<◌, ◌≡◌, length, get_or};
 ghost use Rattle.model.specs.Counting.{list};
 ghost use Rattle.marking.specs.Places.{bar_by, bar_at};

@@ -1,5 +1,6 @@
 // The place of each guest and station, row after row. The lists of a market, its bars and its places are of other
-// lengths, and are passed one by one.
+// lengths, and are passed one by one. They are written by their index: after a `zip` of `iter_mut` nothing is known of
+// what a list holds.
 ghost use Rattle.std.specs.Prelude.{◌+◌, ◌*◌, ◌≤◌, ◌≡◌, length};
 ghost use Rattle.model.specs.Limits.{max_price, max_amount};
 ghost use Rattle.model.specs.Counting.{list};

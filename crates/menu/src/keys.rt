@@ -1,4 +1,6 @@
-// Keys by which one maximum finds a row's station, with no product of bid and amount (specs/Keys).
+// Keys by which one maximum finds a row's station, with no product of bid and amount (specs/Keys). Lists are written by
+// their index: after a `zip` of `iter_mut` nothing is known of what a list holds. A row is read by it beside one list
+// and beside two, of which a `zip` would nest.
 ghost use Rattle.std.specs.Prelude.{ℕ, ◌+◌, ◌/◌, ◌%◌, ◌<◌, ◌≤◌, ◌≡◌, length, get_or};
 ghost use Rattle.model.specs.Limits.{max_stations, max_price};
 ghost use Rattle.model.specs.Counting.{◌≤?◌, only, greatest, list};

@@ -92,6 +92,7 @@ fn raise_all(round: &Round<'_>, chosen: &[u32], criticals: &mut [u32])
         Renewed (length t.asks) (passed_over t.amounts t.bids chosen.now (length t.asks)
         round.now.cut.0 (length t.amounts)) criticals.old criticals.new }
 {
+    // A guest's index finds its row.
     for i in 0..chosen.len() {
         raise(round, chosen, i, criticals);
     }

@@ -15,8 +15,8 @@ use std::marker::Model;
 
 // The tables of a round on its way. Stations and guests stand in them by numbers from 1, 0 for none: bytes are fewer to
 // read than options, and the seats are handed on to be charged as they are. They are lists and no rows of records: a
-// loop over one reads nothing else. What holds of them in a round is asked beside them (`HeldAt`, `CalledAt`), since
-// they are lent to be written (model/lent).
+// loop over one reads nothing else. What holds of them in a round is asked beside them (`HeldAt`, `CalledAt`), since it
+// depends on the round's market and cut.
 #[derive(Drop)]
 pub struct Seating<'a> {
     // Each guest's seat, by its station's number.

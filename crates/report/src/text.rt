@@ -1,6 +1,6 @@
 // Bytes, words, numbers and lines, written into a lent buffer as far as it reaches. A buffer and the place reached in
-// it stay two parameters: a struct of both would not tell the buffer's owner what it holds afterwards. Numbers are not
-// written by `Display`: what the buffer cannot hold is counted too.
+// it stay two parameters: of a struct of both each function would have to promise too that the buffer is still the one
+// that was lent (model/lent). Numbers are not written by `Display`: what the buffer cannot hold is counted too.
 ghost use Rattle.std.specs.Prelude.{ℕ, ◌+◌, ◌<◌, ◌^◌, ◌∷◌, ◌++◌, [], length};
 ghost use Rattle.model.specs.text.Decimal.{digits, field};
 ghost use Rattle.model.specs.text.Lines.{line_end};

@@ -36,7 +36,7 @@ pub fn sheet_length(market: &AcceptedMarket<'_>) -> usize
     4 + m * 6 + (market.amounts.len() * row + 4 * count_bids(market.bids) as usize)
 }
 
-// Both lists by their index: a loop over their `zip` was proved too, and took half as long again.
+// Both lists by their index: a loop over their `zip` was proved too, and took three quarters as long again.
 fn put_stations(asks: &[u32], bays: &[u16], output: &mut Output<'_>)
     requires { (length bays.now ≡ length asks.now)
         × (output.old.at + length (joined (length asks.now) (station_of asks.now bays.now))
