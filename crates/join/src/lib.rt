@@ -29,8 +29,8 @@ fn put_together(
     ensures { lent_tables_out joined_amounts joined_tickets joined_asks joined_bays joined_bids
         ≡ in_one first.now second.now }
 {
-    joined_asks.copy_from_slice(first.asks);
-    joined_bays.copy_from_slice(first.bays);
+    copies::put(first.asks, 0, joined_asks);
+    copies::put(first.bays, 0, joined_bays);
     copies::join_lists(first.amounts, second.amounts, joined_amounts);
     copies::join_lists(first.tickets, second.tickets, joined_tickets);
     copies::join_lists(first.bids, second.bids, joined_bids);
