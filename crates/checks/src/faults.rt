@@ -108,8 +108,7 @@ pub fn accept<'a>(market: &Market<'a>) -> Result<AcceptedMarket<'a>, Refusal>
     Ok(accepted(market))
 }
 
-// Of a call that clears it under a known rule, with the lists that it is lent. The test of the lists stands between
-// sizes and values: one function for all such calls would take it as a closure.
+// Of a call that clears it under a known rule, with the lists that it is lent.
 pub fn accept_for_clearing<'a>(
     market: &Market<'a>,
     stations: &[u16],

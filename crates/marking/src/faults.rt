@@ -9,7 +9,8 @@ use checks::faults;
 use model::lent::{AcceptedMarket, Market};
 use model::refusal::Refusal;
 
-// With the lists that are lent or handed in. They are no `Submission`: where they are lent, there is no cut yet.
+// With the lists that are lent or handed in. They are no `Submission`: where they are lent, there is no cut yet. Their
+// test stands between sizes and values, as in `checks`: one function for all such calls would take it as a closure.
 pub fn accept_for_marking<'a>(
     market: &Market<'a>,
     stations: &[u16],

@@ -1,7 +1,6 @@
 // What callers lend to be read, each part a struct of the lists that belong together: parallel lists, as the C
-// interface has them. Lists that are lent to be written stay slices: of a struct of `&mut` each function would have to
-// promise too that its lists are still the ones that were lent, as `Put` of sheet does of its one, or their owner knows
-// nothing of them afterwards.
+// interface has them. Lists that are lent to be written stay slices: a struct of `&mut` would not tell its owner what
+// they hold afterwards.
 ghost use Rattle.model.specs.market.Market.{Tables, tables, regular};
 ghost use Rattle.model.specs.market.Outcome.{results};
 ghost use Rattle.model.specs.market.Marking.{full_results};
