@@ -5,8 +5,8 @@ ghost use Rattle.std.specs.Prelude.{◌+◌, ◌++◌, ◌≤◌, ◌≡◌, len
 ghost use Rattle.std.proofs.Math.Seq.{paste};
 ghost use Rattle.std.specs.Cmp.Lexicographic.{pointwise};
 
-// The first n of a list over the places of a table from `at` on. A loop, and no `copy_from_slice`: where the compiler is
-// not told that the lists are apart, that is a call of `memmove`, which the archive would want of its users.
+// The first n of a list over the places of a table from `at` on. A loop, and no `copy_from_slice`: where the compiler
+// is not told that the lists are apart, that calls `memmove`, which the archive would want of its users.
 pub fn put_first<T: Copy>(from: &[T], n: usize, at: usize, table: &mut [T])
     requires { (n ≤ length from.now) × (at + n ≤ length table.old) }
     ensures { table.new ≡ paste table.old at from.now n }
