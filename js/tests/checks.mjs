@@ -155,7 +155,7 @@ export const checks = {
         const instance = new WebAssembly.Instance(compiled, {}), stack = instance.exports.__stack_pointer;
         const top = stack.value, market = new api.Engine(instance).market(caseE);
         for (let k = 0; k < 40; k++) {
-            stack.value = 4096; // too little: the stack stands first, so that it traps and writes over nothing
+            stack.value = 2048; // too little: the stack stands first, so that it traps and writes over nothing
             same(thrown(() => market.clear()) instanceof WebAssembly.RuntimeError, true, 'no room on the stack');
             same(stack.value, top, 'the stack pointer is set back');
         }
